@@ -10,7 +10,7 @@ use Rattle.std.proofs.Math.Seq.{take-add}
 use Rattle.ncp_numbers.specs.Numbers.{number_of, bits_of}
 use Rattle.ncp_numbers.specs.Bytes.{byte_bits, bits_of_bytes, bytes_for, spare_for, byte_of, bytes_of}
 use Rattle.ncp_bits.specs.Bits.{read_bytes}
-use Rattle.ncp_bits.specs.Packed.{run}
+use Rattle.ncp_bits.specs.Packed.{bit_run}
 use Rattle.ncp_numbers.proofs.Numbers.{bits_of-number_of}
 use Rattle.ncp_bits.proofs.Enough.{read_bytes-ok}
 use Rattle.ncp_numbers.proofs.Bytes.{length-bits_of_bytes, number_of-zeros}
@@ -64,8 +64,8 @@ joined_bits front back byte spare eight is_byte =
 
 -- what was written, up to the last bit of it
 pub run_behind : (ws old : List ℕ) (part : List Bool) (at : ℕ) → at ≤ 8 * length old
-    → take (8 * bytes_for (at + length part)) (bits_of_bytes ws) ≡ (take at (bits_of_bytes old) ++ part) ++ replicate (spare_for (at + length part)) false → run ws 0 (at + length part) ≡ run old 0 at ++ part
-unfolding run
+    → take (8 * bytes_for (at + length part)) (bits_of_bytes ws) ≡ (take at (bits_of_bytes old) ++ part) ++ replicate (spare_for (at + length part)) false → bit_run ws 0 (at + length part) ≡ bit_run old 0 at ++ part
+unfolding bit_run
 run_behind ws old part at inside written =
     let n = at + length part in
     let l : length (bits_of_bytes old) ≡ 8 * length old = length-bits_of_bytes old in
@@ -74,8 +74,8 @@ run_behind ws old part at inside written =
     sym (take-take n (8 * bytes_for n) (bits_of_bytes ws) (omega arith)) ∙ ap (take n) written ∙ take_at (take at (bits_of_bytes old) ++ part) (replicate (spare_for n) false) n long
 
 -- the same of a run that begins anywhere
-pub run_written : (ws old : List ℕ) (part : List Bool) (from len : ℕ) → from + len ≤ 8 * length old → run ws 0 (from + len + length part) ≡ run old 0 (from + len) ++ part → run ws from (len + length part) ≡ run old from len ++ part
-unfolding run
+pub run_written : (ws old : List ℕ) (part : List Bool) (from len : ℕ) → from + len ≤ 8 * length old → bit_run ws 0 (from + len + length part) ≡ bit_run old 0 (from + len) ++ part → bit_run ws from (len + length part) ≡ bit_run old from len ++ part
+unfolding bit_run
 run_written ws old part from len inside written =
     let l : length (bits_of_bytes old) ≡ 8 * length old = length-bits_of_bytes old in
     let front : length (take (from + len) (bits_of_bytes old)) ≡ from + len = length-take-le (from + len) (bits_of_bytes old) (omega arith) in
@@ -88,7 +88,7 @@ run_written ws old part from len inside written =
 
 -- the bits up to a place inside a byte
 pub take_inside : (out : List ℕ) (first kept : ℕ) → first < length out → kept ≤ 8 → take (8 * first + kept) (bits_of_bytes out) ≡ bits_of_bytes (take first out) ++ take kept (byte_bits (get_or out first 0))
-unfolding run
+unfolding bit_run
 take_inside out first kept inside few =
     take-add (8 * first) kept (bits_of_bytes out)
     ∙ ap (λ bits. bits ++ take kept (drop (8 * first) (bits_of_bytes out))) (sym (bits-take out first (omega arith)))

@@ -4,8 +4,8 @@ use Rattle.ncp_numbers.specs.Bytes.{bits_of_bytes}
 use Rattle.ncp_bits.specs.declared.bits.TheConstants.{MAX_BITS}
 
 -- the run of so many bits of bytes from a place on
-unfoldable pub run : List ℕ → ℕ → ℕ → List Bool
-run bytes from len = take len (drop from (bits_of_bytes bytes))
+unfoldable pub bit_run : List ℕ → ℕ → ℕ → List Bool
+bit_run bytes from len = take len (drop from (bits_of_bytes bytes))
 
 -- bytes that begin with so many bits, whatever lies behind them
 pub record HoldsBits (bytes : List ℕ) (len : ℕ) : Type 0 where

@@ -2,7 +2,7 @@
 ghost use Rattle.std.specs.Prelude.{◌≡◌, ◌+◌, ◌*◌, ◌-◌, ◌<◌, ◌≤◌, ◌^◌, ◌++◌, length, take};
 ghost use Rattle.ncp_numbers.specs.Numbers.{number_of};
 ghost use Rattle.ncp_numbers.specs.Bytes.{byte_bits};
-ghost use Rattle.ncp_bits.specs.Packed.{run};
+ghost use Rattle.ncp_bits.specs.Packed.{bit_run};
 
 use crate::part::Part;
 
@@ -22,7 +22,7 @@ fn joined_byte(byte: u8, kept: usize, number: u8, count: usize) -> u8
 /// each byte takes two shifts.
 pub(crate) fn write_behind(out: &mut [u8], at: usize, part: &Part<'_>)
     requires { at + length part.now ≤ 8 * length out.old }
-    ensures { run out.new 0 (at + length part.now) ≡ run out.old 0 at ++ part.now }
+    ensures { bit_run out.new 0 (at + length part.now) ≡ bit_run out.old 0 at ++ part.now }
 {
     let first = at / 8;
     let kept = at % 8;

@@ -47,11 +47,11 @@ pub struct Bits {
 
 impl Model for Bits {
     ghost use Rattle.std.specs.Prelude.{List, Bool};
-    ghost use Rattle.ncp_bits.specs.Packed.{run, HoldsBits};
+    ghost use Rattle.ncp_bits.specs.Packed.{bit_run, HoldsBits};
 
     ghost Value = { List Bool };
 
-    ghost view = { λ bits. run bits.bytes.items 0 bits.len };
+    ghost view = { λ bits. bit_run bits.bytes.items 0 bits.len };
 
     ghost invariant = { λ bits. HoldsBits bits.bytes.items bits.len };
 }

@@ -1,6 +1,6 @@
 //! `PackedStore`.
 ghost use Rattle.std.specs.Prelude.{◌≡◌, ◌+◌, ◌*◌, ◌<◌, ◌≤◌, ◌^◌, ◌++◌, length};
-ghost use Rattle.ncp_bits.specs.Packed.{run};
+ghost use Rattle.ncp_bits.specs.Packed.{bit_run};
 
 use crate::append::write_behind;
 use crate::bits::Bits;
@@ -29,12 +29,12 @@ pub struct PackedStore {
 
 impl Model for PackedStore {
     ghost use Rattle.std.specs.Box.{boxed_slice_items};
-    ghost use Rattle.ncp_bits.specs.Packed.{run, HoldsRun};
+    ghost use Rattle.ncp_bits.specs.Packed.{bit_run, HoldsRun};
     ghost use Rattle.ncp_bits.specs.Store.{Stored};
 
     ghost Value = { Stored };
 
-    ghost view = { λ store. record { held = run (boxed_slice_items store.bytes) store.from store.len; capacity = store.capacity } };
+    ghost view = { λ store. record { held = bit_run (boxed_slice_items store.bytes) store.from store.len; capacity = store.capacity } };
 
     ghost invariant = { λ store. HoldsRun (boxed_slice_items store.bytes) store.from store.len store.capacity };
 }
@@ -44,7 +44,7 @@ fn make_room(bytes: &mut [u8], from: usize, len: usize, more: usize) -> usize
     requires inside { from + len ≤ 8 * length bytes.old }
     requires room { len + more + 8 ≤ 8 * length bytes.old }
     requires counted { 8 * length bytes.old < 2 ^ 64 }
-    ensures held { run bytes.new result len ≡ run bytes.old from len }
+    ensures held { bit_run bytes.new result len ≡ bit_run bytes.old from len }
     ensures room { result + len + more ≤ 8 * length bytes.new }
 {
     if more <= 8 * bytes.len() - (from + len) {
@@ -59,7 +59,7 @@ fn append_run(bytes: &mut [u8], from: usize, len: usize, part: &Part<'_>) -> usi
     requires inside { from + len ≤ 8 * length bytes.old }
     requires room { len + length part.now + 8 ≤ 8 * length bytes.old }
     requires counted { 8 * length bytes.old < 2 ^ 64 }
-    ensures held { run bytes.new result (len + length part.now) ≡ run bytes.old from len ++ part.now }
+    ensures held { bit_run bytes.new result (len + length part.now) ≡ bit_run bytes.old from len ++ part.now }
     ensures room { result + len + length part.now ≤ 8 * length bytes.new }
 {
     let front = make_room(bytes, from, len, part.len());

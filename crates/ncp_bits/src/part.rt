@@ -3,7 +3,7 @@ ghost use Rattle.std.specs.Prelude.{◌≡◌, ◌+◌, ◌*◌, ◌<◌, ◌≤
 ghost use Rattle.ncp_numbers.specs.Numbers.{number_of};
 ghost use Rattle.ncp_numbers.specs.Bytes.{bytes_for, bytes_of};
 ghost use Rattle.ncp_bits.specs.Bits.{read_bytes};
-ghost use Rattle.ncp_bits.specs.Packed.{run};
+ghost use Rattle.ncp_bits.specs.Packed.{bit_run};
 
 use crate::bits::{Bits, BitsFault, MAX_BITS};
 use crate::reading::{bit_in, bytes_in, bytes_taken, number_in};
@@ -22,11 +22,11 @@ pub struct Part<'a> {
 
 impl<'a> Model for Part<'a> {
     ghost use Rattle.std.specs.Prelude.{List, Bool};
-    ghost use Rattle.ncp_bits.specs.Packed.{run, IsPart};
+    ghost use Rattle.ncp_bits.specs.Packed.{bit_run, IsPart};
 
     ghost Value = { List Bool };
 
-    ghost view = { λ part. run part.bytes.now part.skip part.len };
+    ghost view = { λ part. bit_run part.bytes.now part.skip part.len };
 
     ghost invariant = { λ part. IsPart part.bytes.now part.skip part.len };
 }
@@ -50,7 +50,7 @@ impl<'a> Part<'a> {
     pub(crate) fn of_bytes(bytes: &'a [u8], from: usize, len: usize) -> Part<'a>
         requires fits { len ≤ MAX_BITS }
         requires inside { from + len ≤ 8 * length bytes.now }
-        ensures bits { result ≡ run bytes.now from len }
+        ensures bits { result ≡ bit_run bytes.now from len }
         ensures len { length result ≡ len }
     {
         Part {

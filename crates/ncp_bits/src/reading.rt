@@ -4,7 +4,7 @@ ghost use Rattle.std.specs.List.{list_any};
 ghost use Rattle.ncp_numbers.specs.Numbers.{number_of};
 ghost use Rattle.ncp_numbers.specs.Bytes.{byte_bits, bits_of_bytes, bytes_for, bytes_of};
 ghost use Rattle.ncp_bits.specs.Bits.{read_bytes};
-ghost use Rattle.ncp_bits.specs.Packed.{run};
+ghost use Rattle.ncp_bits.specs.Packed.{bit_run};
 ghost use Rattle.ncp_bits.specs.declared.bits.TheConstants.{MAX_BITS};
 
 use crate::bits::{BitsFault, MAX_BITS};
@@ -43,7 +43,7 @@ fn number_across(bytes: &[u8], from: usize, width: usize) -> u64
     requires width { width ≤ 64 }
     requires inside { from + width ≤ 8 * length bytes.now }
     requires counted { from + width < 2 ^ 64 }
-    ensures { result ≡ number_of (run bytes.now from width) }
+    ensures { result ≡ number_of (bit_run bytes.now from width) }
 {
     let mut number = 0;
     let mut done = 0;
@@ -65,7 +65,7 @@ pub(crate) fn number_in(bytes: &[u8], from: usize, width: usize) -> u64
     requires width { width ≤ 64 }
     requires inside { from + width ≤ 8 * length bytes.now }
     requires counted { from + width < 2 ^ 64 }
-    ensures { result ≡ number_of (run bytes.now from width) }
+    ensures { result ≡ number_of (bit_run bytes.now from width) }
 {
     if from % 8 == 0 && width % 8 == 0 {
         // Where the width is a constant the length of these bytes is one too, and no loop is left.
@@ -79,7 +79,7 @@ pub(crate) fn number_in(bytes: &[u8], from: usize, width: usize) -> u64
 pub(crate) fn bytes_in(bytes: &[u8], from: usize, len: usize) -> Option<&[u8]>
     requires inside { from + len ≤ 8 * length bytes.now }
     requires counted { from + len < 2 ^ 64 }
-    ensures bytes { IfSome result (λ found. bytes_of (run bytes.now from len) ≡ found.now) }
+    ensures bytes { IfSome result (λ found. bytes_of (bit_run bytes.now from len) ≡ found.now) }
     ensures len { IfSome result (λ found. 8 * length found.now ≡ len) }
 {
     if from % 8 != 0 || len % 8 != 0 {
@@ -106,7 +106,7 @@ fn is_spare_set(bytes: &[u8], len: usize) -> bool
 // It stands in the loops that read messages, which know already that the bytes are enough.
 #[inline(always)]
 pub(crate) fn bytes_taken(bytes: &[u8], len: usize) -> Result<&[u8], BitsFault>
-    ensures read { IfOk result (λ taken. read_bytes bytes.now len ≡ Ok (run taken.now 0 len)) }
+    ensures read { IfOk result (λ taken. read_bytes bytes.now len ≡ Ok (bit_run taken.now 0 len)) }
     ensures fits { IfOk result (λ taken. len ≤ MAX_BITS) }
     ensures used { IfOk result (λ taken. length taken.now ≡ bytes_for len) }
     ensures err { IfErr result (λ fault. read_bytes bytes.now len ≡ Err fault) }

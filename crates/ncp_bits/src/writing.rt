@@ -2,7 +2,7 @@
 ghost use Rattle.std.specs.Prelude.{◌≡◌, ℕ, ◌+◌, ◌*◌, ◌<◌, ◌≤◌, ◌^◌, ◌++◌, length, take, drop, slice_index};
 ghost use Rattle.ncp_numbers.specs.Numbers.{number_of};
 ghost use Rattle.ncp_numbers.specs.Bytes.{byte_bits, bytes_for, bytes_of};
-ghost use Rattle.ncp_bits.specs.Packed.{run};
+ghost use Rattle.ncp_bits.specs.Packed.{bit_run};
 
 use crate::reading::number_in;
 
@@ -20,7 +20,7 @@ fn fill_shifted(out: &mut [u8], bytes: &[u8], skip: usize)
     requires some { 0 < skip }
     requires inside { skip < 8 }
     requires long { length out.old < length bytes.now }
-    ensures { (k : ℕ) → k < length out.new → slice_index out.new k ≡ number_of (run bytes.now (8 * k + skip) 8) }
+    ensures { (k : ℕ) → k < length out.new → slice_index out.new k ≡ number_of (bit_run bytes.now (8 * k + skip) 8) }
 {
     for place in 0..out.len() {
         out[place] = byte_across(bytes[place], bytes[place + 1], skip);
@@ -31,7 +31,7 @@ fn fill_shifted(out: &mut [u8], bytes: &[u8], skip: usize)
 fn fill(out: &mut [u8], bytes: &[u8], skip: usize)
     requires inside { skip < 8 }
     requires long { 8 * length out.old + skip ≤ 8 * length bytes.now }
-    ensures { (k : ℕ) → k < length out.new → slice_index out.new k ≡ number_of (run bytes.now (8 * k + skip) 8) }
+    ensures { (k : ℕ) → k < length out.new → slice_index out.new k ≡ number_of (bit_run bytes.now (8 * k + skip) 8) }
 {
     if skip > 0 {
         fill_shifted(out, bytes, skip);
@@ -49,7 +49,7 @@ pub(crate) fn write_run(out: &mut [u8], bytes: &[u8], skip: usize, len: usize) -
     requires counted { skip + len < 2 ^ 64 }
     requires room { bytes_for len ≤ length out.old }
     ensures used { result ≡ bytes_for len }
-    ensures bytes { out.new ≡ bytes_of (run bytes.now skip len) ++ drop result out.old }
+    ensures bytes { out.new ≡ bytes_of (bit_run bytes.now skip len) ++ drop result out.old }
 {
     let whole = len / 8;
     let rest = len % 8;

@@ -13,7 +13,7 @@ use Rattle.ncp_model.specs.Act.{Stays, answer}
 use Rattle.ncp_model.specs.Texts.{cut, cut_bits, bytes_to_send, may_send}
 use Rattle.ncp_conn.specs.Entries.{AreEntries}
 use Rattle.ncp_conn.specs.Links.{is_in, IsLowestIfAny}
-use Rattle.ncp_conn.specs.Cutting.{first_of}
+use Rattle.ncp_conn.specs.Cutting.{first_number_that}
 use Rattle.ncp_conn.proofs.Slabs.{vals}
 use Rattle.ncp_conn.proofs.Finding.{is_pair, pair_is, same_is, same_itself, pair_itself}
 use Rattle.ncp_conn.proofs.Counts.{one, count_cons}
@@ -37,24 +37,24 @@ cut_takes e n size is same =
     let least : n ≡ min (length e.stored / size) (min (e.bits / size) (MAX_TEXT / size)) = is ∙ ap (λ (s : ℕ). min (length e.stored / s) (min (e.bits / s) (MAX_TEXT / s))) (sym same) in
     (whole n (length e.stored) size (omega (arith, least)), whole n e.bits size (omega (arith, least)), whole n MAX_TEXT size (omega (arith, least)))
 
-pub first_end : (test : ℕ → Bool) (n from : ℕ) → n ≡ 0 → first_of test n from ≡ None
-unfolding first_of
+pub first_end : (test : ℕ → Bool) (n from : ℕ) → n ≡ 0 → first_number_that test n from ≡ None
+unfolding first_number_that
 first_end test n from h = rw h refl
 
-pub first_yes : (test : ℕ → Bool) (n m from : ℕ) → n ≡ suc m → test from ≡ true → first_of test n from ≡ Some from
-unfolding first_of
-first_yes test n m from h t = rw h (ap (λ (b : Bool). cond b (Some from) (first_of test m (suc from))) t)
+pub first_yes : (test : ℕ → Bool) (n m from : ℕ) → n ≡ suc m → test from ≡ true → first_number_that test n from ≡ Some from
+unfolding first_number_that
+first_yes test n m from h t = rw h (ap (λ (b : Bool). cond b (Some from) (first_number_that test m (suc from))) t)
 
-pub first_no : (test : ℕ → Bool) (n m from : ℕ) → n ≡ suc m → test from ≡ false → first_of test n from ≡ first_of test m (suc from)
-unfolding first_of
-first_no test n m from h t = rw h (ap (λ (b : Bool). cond b (Some from) (first_of test m (suc from))) t)
+pub first_no : (test : ℕ → Bool) (n m from : ℕ) → n ≡ suc m → test from ≡ false → first_number_that test n from ≡ first_number_that test m (suc from)
+unfolding first_number_that
+first_no test n m from h t = rw h (ap (λ (b : Bool). cond b (Some from) (first_number_that test m (suc from))) t)
 
 -- where no number from one on passes, and where one is the first that does
-pub first_none : (test : ℕ → Bool) (n from : ℕ) → ((k : ℕ) → from ≤ k → test k ≡ false) → first_of test n from ≡ None
+pub first_none : (test : ℕ → Bool) (n from : ℕ) → ((k : ℕ) → from ≤ k → test k ≡ false) → first_number_that test n from ≡ None
 first_none test zero from h = first_end test zero from refl
 first_none test (suc n) from h = first_no test (suc n) n from refl (h from (omega arith)) ∙ first_none test n (suc from) (λ k l. h k (omega arith))
 
-pub first_some : (test : ℕ → Bool) (n from on : ℕ) → from ≤ on → on < from + n → test on ≡ true → ((k : ℕ) → from ≤ k → k < on → test k ≡ false) → first_of test n from ≡ Some on
+pub first_some : (test : ℕ → Bool) (n from on : ℕ) → from ≤ on → on < from + n → test on ≡ true → ((k : ℕ) → from ≤ k → k < on → test k ≡ false) → first_number_that test n from ≡ Some on
 first_some test zero from on l b t h = absurd (omega arith)
 first_some test (suc n) from on l b t h = elim (cases_eq from on) [
   | inl e ↦ first_yes test (suc n) n from refl (ap test e ∙ t) ∙ ap Some e
@@ -62,7 +62,7 @@ first_some test (suc n) from on l b t h = elim (cases_eq from on) [
 ]
 
 -- the lowest link of a set that has those that pass
-pub first_found : (test : ℕ → Bool) (links last from : ℕ) (o : Option ℕ) → ((on : ℕ) → is_in links on ≡ test on) → IsLowestIfAny links from o → IfSome o (λ on. on ≤ last) → o ≡ first_of test (last + 1 - from) from
+pub first_found : (test : ℕ → Bool) (links last from : ℕ) (o : Option ℕ) → ((on : ℕ) → is_in links on ≡ test on) → IsLowestIfAny links from o → IfSome o (λ on. on ≤ last) → o ≡ first_number_that test (last + 1 - from) from
 first_found test links last from None same none l = sym (first_none test (last + 1 - from) from (λ k b. sym (same k) ∙ none k b))
 first_found test links last from (Some on) same is l =
     let least = is.least in
@@ -73,12 +73,12 @@ abbrev pub PassedBy : (ℕ → Bool) → ℕ → ℕ → Option ℕ → Type 0
 PassedBy test last from None = (on : ℕ) → from ≤ on → on ≤ last → test on ≡ false
 PassedBy test last from (Some c) = (from ≤ c) × (c ≤ last) × ((on : ℕ) → from ≤ on → on < c → test on ≡ false)
 
-pub passed_by_first : (test : ℕ → Bool) (last from : ℕ) (o : Option ℕ) → o ≡ first_of test (last + 1 - from) from → PassedBy test last from o
+pub passed_by_first : (test : ℕ → Bool) (last from : ℕ) (o : Option ℕ) → o ≡ first_number_that test (last + 1 - from) from → PassedBy test last from o
 passed_by_first test last from o is = subst (PassedBy test last from) (sym is) (walk (last + 1 - from) from refl)
   where
-    at_once : (n from : ℕ) → n ≡ last + 1 - from → (b : Bool) → test from ≡ b → (m : ℕ) → n ≡ suc m → PassedBy test last (suc from) (first_of test m (suc from)) → PassedBy test last from (first_of test n from)
+    at_once : (n from : ℕ) → n ≡ last + 1 - from → (b : Bool) → test from ≡ b → (m : ℕ) → n ≡ suc m → PassedBy test last (suc from) (first_number_that test m (suc from)) → PassedBy test last from (first_number_that test n from)
     at_once n from e true t m k rest = subst (PassedBy test last from) (sym (first_yes test n m from k t)) (omega arith, omega arith, λ on a b. absurd (omega arith))
-    at_once n from e false t m k rest = subst (PassedBy test last from) (sym (first_no test n m from k t)) (go (first_of test m (suc from)) rest)
+    at_once n from e false t m k rest = subst (PassedBy test last from) (sym (first_no test n m from k t)) (go (first_number_that test m (suc from)) rest)
       where
         here : (on : ℕ) → from ≤ on → (suc from ≤ on → test on ≡ false) → test on ≡ false
         here on a r = elim (cases_eq from on) [ inl s ↦ ap test (sym s) ∙ t | inr d ↦ r (omega (arith, d)) ]
@@ -87,7 +87,7 @@ passed_by_first test last from o is = subst (PassedBy test last from) (sym is) (
         go None r = λ on a b. here on a (λ c. r on c b)
         go (Some c) r = let over = r.0 in (omega arith, r.1, λ on a b. here on a (λ d. r.2 on d b))
 
-    walk : (n from : ℕ) → n ≡ last + 1 - from → PassedBy test last from (first_of test n from)
+    walk : (n from : ℕ) → n ≡ last + 1 - from → PassedBy test last from (first_number_that test n from)
     walk zero from e = subst (PassedBy test last from) (sym (first_end test zero from refl)) (λ on a b. absurd (omega arith))
     walk (suc n) from e = at_once (suc n) from e (test from) refl n refl (walk n (suc from) (omega arith))
 

@@ -9,14 +9,14 @@ use Rattle.slab.specs.Slab.{Slab, get, values, ContainsKey, Updates}
 use Rattle.ncp_model.specs.declared.pair.Pair.{Pair}
 use Rattle.ncp_model.specs.End.{End}
 use Rattle.ncp_model.specs.Ends.{first_by}
-use Rattle.ncp_conn.specs.Indexes.{key_at, passes, IsIndex, LeadsTo}
+use Rattle.ncp_conn.specs.Indexes.{key_at, entry_passes, IsIndex, LeadsTo}
 use Rattle.ncp_conn.proofs.Slabs.{vals, vals_at}
 use Rattle.ncp_conn.proofs.Counts.{one, count_cons, first_at}
 
 abbrev Slots : Type 0
 Slots = List (Option (Pair × End))
 
-none_passes : (t : Pair × End → Bool) (a : Slots) → ((key : ℕ) → passes t (get_or a key None) ≡ false) → count_by t (vals a) ≡ 0
+none_passes : (t : Pair × End → Bool) (a : Slots) → ((key : ℕ) → entry_passes t (get_or a key None) ≡ false) → count_by t (vals a) ≡ 0
 none_passes t [] h = refl
 none_passes t (None ∷ a) h = none_passes t a (λ k. h (suc k))
 none_passes t (Some x ∷ a) h =
@@ -25,7 +25,7 @@ none_passes t (Some x ∷ a) h =
     let r : count_by t (vals a) ≡ 0 = none_passes t a (λ k. h (suc k)) in
     omega (arith, c, o, r)
 
-passes_none : (t : Pair × End → Bool) (a : Slots) → count_by t (vals a) ≡ 0 → (key : ℕ) → passes t (get_or a key None) ≡ false
+passes_none : (t : Pair × End → Bool) (a : Slots) → count_by t (vals a) ≡ 0 → (key : ℕ) → entry_passes t (get_or a key None) ≡ false
 passes_none t [] h key = refl
 passes_none t (None ∷ a) h zero = refl
 passes_none t (None ∷ a) h (suc key) = passes_none t a h key
@@ -45,7 +45,7 @@ not_both : {A : Type 0} → (b : Bool) → b ≡ true → b ≡ false → A
 not_both b h g = let t : true ≡ false = sym h ∙ g in absurd (cc)
 
 -- what is under a key, where that passes
-under : (t : Pair × End → Bool) (o : Option (Pair × End)) → passes t o ≡ true → (p : Pair × End) × (o ≡ Some p) × (t p ≡ true)
+under : (t : Pair × End → Bool) (o : Option (Pair × End)) → entry_passes t o ≡ true → (p : Pair × End) × (o ≡ Some p) × (t p ≡ true)
 under t None h = absurd (cc)
 under t (Some p) h = (p, refl, h)
 
@@ -58,20 +58,20 @@ module _ (test : ℕ → Pair × End → Bool) (keys : List (Option ℕ)) (s : S
   led_has on key h = rw (led on key h).1 refl
 
   pub led_test : (on key : ℕ) (r : Pair × End) → key_at keys on ≡ Some key → get s key ≡ Some r → test on r ≡ true
-  led_test on key r h at = sym (ap (passes (test on)) at) ∙ (index on key).0 h
+  led_test on key r h at = sym (ap (entry_passes (test on)) at) ∙ (index on key).0 h
 
   pub led_first : (on key : ℕ) (r : Pair × End) → key_at keys on ≡ Some key → get s key ≡ Some r → count_by (test on) (values s) ≤ 1 → first_by (test on) (values s) ≡ Some r
   led_first on key r h at most = first_at (test on) (values s) _ r (vals_at s.slots key r at) (led_test on key r h at) most
 
   pub led_nowhere : (on : ℕ) → key_at keys on ≡ None → count_by (test on) (values s) ≡ 0
-  led_nowhere on h = none_passes (test on) s.slots (λ key. go key (passes (test on) (get s key)) refl)
+  led_nowhere on h = none_passes (test on) s.slots (λ key. go key (entry_passes (test on) (get s key)) refl)
     where
-      go : (key : ℕ) (b : Bool) → passes (test on) (get s key) ≡ b → passes (test on) (get s key) ≡ false
+      go : (key : ℕ) (b : Bool) → entry_passes (test on) (get s key) ≡ b → entry_passes (test on) (get s key) ≡ false
       go key false e = e
       go key true e = let g : key_at keys on ≡ Some key = (index on key).1 e in absurd (cc)
 
   -- two entries with one link are one
-  same_key : (on a b : ℕ) → passes (test on) (get s a) ≡ true → passes (test on) (get s b) ≡ true → a ≡ b
+  same_key : (on a b : ℕ) → entry_passes (test on) (get s a) ≡ true → entry_passes (test on) (get s b) ≡ true → a ≡ b
   same_key on a b h g =
       let x : key_at keys on ≡ Some a = (index on a).1 h in
       let y : key_at keys on ≡ Some b = (index on b).1 g in
@@ -79,76 +79,76 @@ module _ (test : ℕ → Pair × End → Bool) (keys : List (Option ℕ)) (s : S
       cc
 
   -- a change under one key after which the same links have it
-  pub index_kept : (new : Slab (Pair × End)) (key : ℕ) (slot : Option (Pair × End)) → Updates s new key slot → ((on : ℕ) → passes (test on) slot ≡ passes (test on) (get s key)) → IsIndex test keys new
+  pub index_kept : (new : Slab (Pair × End)) (key : ℕ) (slot : Option (Pair × End)) → Updates s new key slot → ((on : ℕ) → entry_passes (test on) slot ≡ entry_passes (test on) (get s key)) → IsIndex test keys new
   index_kept new key slot u h on k =
-      let same : passes (test on) (get new k) ≡ passes (test on) (get s k) = at (cases_eq k key) in
+      let same : entry_passes (test on) (get new k) ≡ entry_passes (test on) (get s k) = at (cases_eq k key) in
       (λ g. same ∙ (index on k).0 g, λ g. (index on k).1 (sym same ∙ g))
     where
-      at : (k ≡ key) ⊎ (k ≢ key) → passes (test on) (get new k) ≡ passes (test on) (get s k)
-      at (inl e) = subst (λ (n : ℕ). passes (test on) (get new n) ≡ passes (test on) (get s n)) (sym e) (ap (passes (test on)) u.changed ∙ h on)
-      at (inr d) = ap (passes (test on)) (u.others k d)
+      at : (k ≡ key) ⊎ (k ≢ key) → entry_passes (test on) (get new k) ≡ entry_passes (test on) (get s k)
+      at (inl e) = subst (λ (n : ℕ). entry_passes (test on) (get new n) ≡ entry_passes (test on) (get s n)) (sym e) (ap (entry_passes (test on)) u.changed ∙ h on)
+      at (inr d) = ap (entry_passes (test on)) (u.others k d)
 
   -- the entry under a key is gone, and no link leads there
   pub index_left : (new : Slab (Pair × End)) (key : ℕ) (p : Pair × End) (later : List (Option ℕ)) → get s key ≡ Some p → Updates s new key None → LeadsTo test p None keys later → IsIndex test later new
   index_left new key p later there u l on k = go (test on p) refl
     where
-      passed : (b : Bool) → test on p ≡ b → passes (test on) (get s key) ≡ b
-      passed b e = ap (passes (test on)) there ∙ e
+      passed : (b : Bool) → test on p ≡ b → entry_passes (test on) (get s key) ≡ b
+      passed b e = ap (entry_passes (test on)) there ∙ e
 
       leads : (b : Bool) → test on p ≡ b → key_at later on ≡ cond b None (key_at keys on)
       leads b e = l on ∙ ap (λ (x : Bool). cond x None (key_at keys on)) e
 
-      go : (b : Bool) → test on p ≡ b → (key_at later on ≡ Some k → passes (test on) (get new k) ≡ true) × (passes (test on) (get new k) ≡ true → key_at later on ≡ Some k)
+      go : (b : Bool) → test on p ≡ b → (key_at later on ≡ Some k → entry_passes (test on) (get new k) ≡ true) × (entry_passes (test on) (get new k) ≡ true → key_at later on ≡ Some k)
       go true e = (λ h. let g : None ≡ Some k = sym (leads true e) ∙ h in absurd (cc), λ h. absurd (at h (cases_eq k key)))
         where
-          at : passes (test on) (get new k) ≡ true → (k ≡ key) ⊎ (k ≢ key) → ⊥
-          at h (inl d) = let g : passes (test on) (get new k) ≡ false = ap (λ (n : ℕ). passes (test on) (get new n)) d ∙ ap (passes (test on)) u.changed in not_both (passes (test on) (get new k)) h g
-          at h (inr d) = d (same_key on k key (sym (ap (passes (test on)) (u.others k d)) ∙ h) (passed true e))
+          at : entry_passes (test on) (get new k) ≡ true → (k ≡ key) ⊎ (k ≢ key) → ⊥
+          at h (inl d) = let g : entry_passes (test on) (get new k) ≡ false = ap (λ (n : ℕ). entry_passes (test on) (get new n)) d ∙ ap (entry_passes (test on)) u.changed in not_both (entry_passes (test on) (get new k)) h g
+          at h (inr d) = d (same_key on k key (sym (ap (entry_passes (test on)) (u.others k d)) ∙ h) (passed true e))
       go false e = at (cases_eq k key)
         where
-          at : (k ≡ key) ⊎ (k ≢ key) → (key_at later on ≡ Some k → passes (test on) (get new k) ≡ true) × (passes (test on) (get new k) ≡ true → key_at later on ≡ Some k)
+          at : (k ≡ key) ⊎ (k ≢ key) → (key_at later on ≡ Some k → entry_passes (test on) (get new k) ≡ true) × (entry_passes (test on) (get new k) ≡ true → key_at later on ≡ Some k)
           at (inl d) = (
-            λ h. not_both (passes (test on) (get s key)) (ap (λ (n : ℕ). passes (test on) (get s n)) (sym d) ∙ (index on k).0 (sym (leads false e) ∙ h)) (passed false e),
-            λ h. not_both (passes (test on) (get new k)) h (ap (λ (n : ℕ). passes (test on) (get new n)) d ∙ ap (passes (test on)) u.changed),
+            λ h. not_both (entry_passes (test on) (get s key)) (ap (λ (n : ℕ). entry_passes (test on) (get s n)) (sym d) ∙ (index on k).0 (sym (leads false e) ∙ h)) (passed false e),
+            λ h. not_both (entry_passes (test on) (get new k)) h (ap (λ (n : ℕ). entry_passes (test on) (get new n)) d ∙ ap (entry_passes (test on)) u.changed),
           )
           at (inr d) = (
-            λ h. ap (passes (test on)) (u.others k d) ∙ (index on k).0 (sym (leads false e) ∙ h),
-            λ h. leads false e ∙ (index on k).1 (sym (ap (passes (test on)) (u.others k d)) ∙ h),
+            λ h. ap (entry_passes (test on)) (u.others k d) ∙ (index on k).0 (sym (leads false e) ∙ h),
+            λ h. leads false e ∙ (index on k).1 (sym (ap (entry_passes (test on)) (u.others k d)) ∙ h),
           )
 
   -- an entry is under a key that has the links of the one before, and others only that none had
-  pub index_led : (new : Slab (Pair × End)) (key : ℕ) (f : Pair × End) (later : List (Option ℕ)) → Updates s new key (Some f) → LeadsTo test f (Some key) keys later → ((on : ℕ) → passes (test on) (get s key) ≡ true → test on f ≡ true) → ((on : ℕ) → test on f ≡ true → (passes (test on) (get s key) ≡ true) ⊎ (count_by (test on) (values s) ≡ 0)) → IsIndex test later new
+  pub index_led : (new : Slab (Pair × End)) (key : ℕ) (f : Pair × End) (later : List (Option ℕ)) → Updates s new key (Some f) → LeadsTo test f (Some key) keys later → ((on : ℕ) → entry_passes (test on) (get s key) ≡ true → test on f ≡ true) → ((on : ℕ) → test on f ≡ true → (entry_passes (test on) (get s key) ≡ true) ⊎ (count_by (test on) (values s) ≡ 0)) → IsIndex test later new
   index_led new key f later u l old free on k = go (test on f) refl
     where
       leads : (b : Bool) → test on f ≡ b → key_at later on ≡ cond b (Some key) (key_at keys on)
       leads b e = l on ∙ ap (λ (x : Bool). cond x (Some key) (key_at keys on)) e
 
-      here : (b : Bool) → test on f ≡ b → k ≡ key → passes (test on) (get new k) ≡ b
-      here b e d = ap (λ (n : ℕ). passes (test on) (get new n)) d ∙ ap (passes (test on)) u.changed ∙ e
+      here : (b : Bool) → test on f ≡ b → k ≡ key → entry_passes (test on) (get new k) ≡ b
+      here b e d = ap (λ (n : ℕ). entry_passes (test on) (get new n)) d ∙ ap (entry_passes (test on)) u.changed ∙ e
 
-      go : (b : Bool) → test on f ≡ b → (key_at later on ≡ Some k → passes (test on) (get new k) ≡ true) × (passes (test on) (get new k) ≡ true → key_at later on ≡ Some k)
+      go : (b : Bool) → test on f ≡ b → (key_at later on ≡ Some k → entry_passes (test on) (get new k) ≡ true) × (entry_passes (test on) (get new k) ≡ true → key_at later on ≡ Some k)
       go true e = (
         λ h. let g : Some key ≡ Some k = sym (leads true e) ∙ h in let d : k ≡ key = cc in here true e d,
         λ h. at h (cases_eq k key),
       )
         where
-          only : passes (test on) (get s k) ≡ true → k ≢ key → (passes (test on) (get s key) ≡ true) ⊎ (count_by (test on) (values s) ≡ 0) → key_at later on ≡ Some k
+          only : entry_passes (test on) (get s k) ≡ true → k ≢ key → (entry_passes (test on) (get s key) ≡ true) ⊎ (count_by (test on) (values s) ≡ 0) → key_at later on ≡ Some k
           only h d (inl g) = absurd (d (same_key on k key h g))
-          only h d (inr z) = not_both (passes (test on) (get s k)) h (passes_none (test on) s.slots z k)
+          only h d (inr z) = not_both (entry_passes (test on) (get s k)) h (passes_none (test on) s.slots z k)
 
-          at : passes (test on) (get new k) ≡ true → (k ≡ key) ⊎ (k ≢ key) → key_at later on ≡ Some k
+          at : entry_passes (test on) (get new k) ≡ true → (k ≡ key) ⊎ (k ≢ key) → key_at later on ≡ Some k
           at h (inl d) = leads true e ∙ ap Some (sym d)
-          at h (inr d) = only (sym (ap (passes (test on)) (u.others k d)) ∙ h) d (free on e)
+          at h (inr d) = only (sym (ap (entry_passes (test on)) (u.others k d)) ∙ h) d (free on e)
       go false e = at (cases_eq k key)
         where
-          at : (k ≡ key) ⊎ (k ≢ key) → (key_at later on ≡ Some k → passes (test on) (get new k) ≡ true) × (passes (test on) (get new k) ≡ true → key_at later on ≡ Some k)
+          at : (k ≡ key) ⊎ (k ≢ key) → (key_at later on ≡ Some k → entry_passes (test on) (get new k) ≡ true) × (entry_passes (test on) (get new k) ≡ true → key_at later on ≡ Some k)
           at (inl d) = (
-            λ h. not_both (test on f) (old on (ap (λ (n : ℕ). passes (test on) (get s n)) (sym d) ∙ (index on k).0 (sym (leads false e) ∙ h))) e,
-            λ h. not_both (passes (test on) (get new k)) h (here false e d),
+            λ h. not_both (test on f) (old on (ap (λ (n : ℕ). entry_passes (test on) (get s n)) (sym d) ∙ (index on k).0 (sym (leads false e) ∙ h))) e,
+            λ h. not_both (entry_passes (test on) (get new k)) h (here false e d),
           )
           at (inr d) = (
-            λ h. ap (passes (test on)) (u.others k d) ∙ (index on k).0 (sym (leads false e) ∙ h),
-            λ h. leads false e ∙ (index on k).1 (sym (ap (passes (test on)) (u.others k d)) ∙ h),
+            λ h. ap (entry_passes (test on)) (u.others k d) ∙ (index on k).0 (sym (leads false e) ∙ h),
+            λ h. leads false e ∙ (index on k).1 (sym (ap (entry_passes (test on)) (u.others k d)) ∙ h),
           )
 
 -- an index with no key
@@ -166,5 +166,5 @@ nowhere many on = go (nat_lt on many) refl
 pub no_entries : (test : ℕ → Pair × End → Bool) (keys : List (Option ℕ)) (s : Slab (Pair × End)) → ((on : ℕ) → key_at keys on ≡ None) → s.slots ≡ [] → IsIndex test keys s
 no_entries test keys s none empty on key = (
   λ h. let n : key_at keys on ≡ None = none on in absurd (cc),
-  λ h. let n : passes (test on) (get s key) ≡ false = ap (λ (xs : Slots). passes (test on) (get_or xs key None)) empty in not_both (passes (test on) (get s key)) h n,
+  λ h. let n : entry_passes (test on) (get s key) ≡ false = ap (λ (xs : Slots). entry_passes (test on) (get_or xs key None)) empty in not_both (entry_passes (test on) (get s key)) h n,
 )

@@ -7,7 +7,7 @@ use Rattle.ncp_model.specs.End.{End, is_over}
 use Rattle.ncp_model.specs.Pairs.{sends, receives}
 use Rattle.ncp_model.specs.Ends.{Ends, count, any, has_asked, is_by_peer, hears_link, uses_link}
 use Rattle.ncp_conn.specs.Asking.{Enters}
-use Rattle.ncp_conn.specs.Restoring.{can_be, has_place, has_room_for, is_alone_on, may_stand}
+use Rattle.ncp_conn.specs.Restoring.{can_be, has_place_for, has_room_for, is_alone_on, may_stand}
 use Rattle.ncp_conn.proofs.Requests.{its_link, when, unless}
 
 is_none_of : (o : Option End) → is_none o ≡ true → o ≡ None
@@ -41,7 +41,7 @@ neither false b false d h = (λ f. absurd (cc), λ f. absurd (cc))
 less : (n : ℕ) → nat_lt n 64 ≡ true → n < 64
 less n h = grind (arith, nat_tests)
 
-module _ (m : Ends) (pair : Pair) (e : End) (can : can_be pair e ≡ true) (place : has_place pair e m ≡ true) where
+module _ (m : Ends) (pair : Pair) (e : End) (can : can_be pair e ≡ true) (place : has_place_for pair e m ≡ true) where
   parts : (is_none (get m pair) ≡ true) × (has_room_for e m ≡ true) × (is_alone_on pair e m ≡ true)
   parts = all_three (is_none (get m pair)) (has_room_for e m) (is_alone_on pair e m) place
 
@@ -74,8 +74,8 @@ second_false false b h = refl
 
 -- the same of an entry that is the pair with the end
 module _ (m : Ends) (p : Pair × End) (pair : Pair) (e : End) (is : p ≡ (pair, e)) where
-  pub may : can_be p.0 p.1 ≡ true → has_place p.0 p.1 m ≡ true → may_stand pair e m ≡ true
-  may can place = subst (λ (q : Pair × End). may_stand q.0 q.1 m ≡ true) is (both_true (can_be p.0 p.1) (has_place p.0 p.1 m) can place)
+  pub may : can_be p.0 p.1 ≡ true → has_place_for p.0 p.1 m ≡ true → may_stand pair e m ≡ true
+  may can place = subst (λ (q : Pair × End). may_stand q.0 q.1 m ≡ true) is (both_true (can_be p.0 p.1) (has_place_for p.0 p.1 m) can place)
 
-  pub may_not : has_place p.0 p.1 m ≡ false → may_stand pair e m ≡ false
-  may_not none = subst (λ (q : Pair × End). may_stand q.0 q.1 m ≡ false) is (second_false (can_be p.0 p.1) (has_place p.0 p.1 m) none)
+  pub may_not : has_place_for p.0 p.1 m ≡ false → may_stand pair e m ≡ false
+  may_not none = subst (λ (q : Pair × End). may_stand q.0 q.1 m ≡ false) is (second_false (can_be p.0 p.1) (has_place_for p.0 p.1 m) none)

@@ -7,37 +7,37 @@ use Rattle.ncp_model.specs.declared.pair.Pair.{Pair}
 use Rattle.ncp_model.specs.Pairs.{sends}
 use Rattle.ncp_model.specs.End.{End, is_over}
 use Rattle.ncp_model.specs.Ends.{hears_link}
-use Rattle.ncp_conn.specs.Indexes.{key_at, passes, IsIndex}
+use Rattle.ncp_conn.specs.Indexes.{key_at, entry_passes, IsIndex}
 use Rattle.ncp_conn.specs.Links.{is_in}
-use Rattle.ncp_conn.specs.Sending.{sends_text, sends_at, AreSending, Notes}
+use Rattle.ncp_conn.specs.Sending.{may_send_text, sends_at, AreSending, Notes}
 
 -- no text of an end that is over goes out
-pub over_sends_not : (p : Pair × End) → is_over p.1 ≡ true → sends_text p ≡ false
+pub over_sends_not : (p : Pair × End) → is_over p.1 ≡ true → may_send_text p ≡ false
 over_sends_not p h = grind arith
 
 module _ (keys later : List (Option ℕ)) (s new : Slab (Pair × End)) (key : ℕ) (slot : Option (Pair × End)) (index : IsIndex hears_link keys s) (u : Updates s new key slot) where
   -- a link that the entry under the key had not heard, and that leads where it led
-  elsewhere : (on : ℕ) → passes (hears_link on) (get s key) ≡ false → key_at later on ≡ key_at keys on → sends_at (key_at later on) new ≡ sends_at (key_at keys on) s
+  elsewhere : (on : ℕ) → entry_passes (hears_link on) (get s key) ≡ false → key_at later on ≡ key_at keys on → sends_at (key_at later on) new ≡ sends_at (key_at keys on) s
   elsewhere on not_heard same = ap (λ (o : Option ℕ). sends_at o new) same ∙ go (key_at keys on) refl
     where
       go : (o : Option ℕ) → key_at keys on ≡ o → sends_at o new ≡ sends_at o s
       go None e = refl
       go (Some k) e =
-          ap (passes sends_text) (u.others k (λ d.
-          let heard : passes (hears_link on) (get s k) ≡ true = (index on k).0 e in
-          let here : passes (hears_link on) (get s key) ≡ true = ap (λ (n : ℕ). passes (hears_link on) (get s n)) (sym d) ∙ heard in
+          ap (entry_passes may_send_text) (u.others k (λ d.
+          let heard : entry_passes (hears_link on) (get s k) ≡ true = (index on k).0 e in
+          let here : entry_passes (hears_link on) (get s key) ≡ true = ap (λ (n : ℕ). entry_passes (hears_link on) (get s n)) (sym d) ∙ heard in
           let both : true ≡ false = sym here ∙ not_heard in
           absurd (cc)))
 
   pub sending_changed : (links after : ℕ) (f : Pair × End) → AreSending links keys s → Notes f links after
-      → ((on : ℕ) → hears_link on f ≡ false → passes (hears_link on) (get s key) ≡ false)
+      → ((on : ℕ) → hears_link on f ≡ false → entry_passes (hears_link on) (get s key) ≡ false)
       → ((on : ℕ) → hears_link on f ≡ false → key_at later on ≡ key_at keys on)
-      → ((on : ℕ) → hears_link on f ≡ true → sends_at (key_at later on) new ≡ sends_text f)
+      → ((on : ℕ) → hears_link on f ≡ true → sends_at (key_at later on) new ≡ may_send_text f)
       → AreSending after later new
   sending_changed links after f are notes unheard same here on = go (hears_link on f) refl
     where
-      noted : (b : Bool) → hears_link on f ≡ b → is_in after on ≡ cond b (sends_text f) (is_in links on)
-      noted b h = notes on ∙ ap (λ (x : Bool). cond x (sends_text f) (is_in links on)) h
+      noted : (b : Bool) → hears_link on f ≡ b → is_in after on ≡ cond b (may_send_text f) (is_in links on)
+      noted b h = notes on ∙ ap (λ (x : Bool). cond x (may_send_text f) (is_in links on)) h
 
       go : (b : Bool) → hears_link on f ≡ b → is_in after on ≡ sends_at (key_at later on) new
       go true h = noted true h ∙ sym (here on h)
@@ -70,4 +70,4 @@ module _ (p : Pair × End) (link : ℕ) (its : link ≡ p.1.link) where
       go false e = ap (λ (b : Bool). (sends p.0 && p.1.heard) && b) e ∙ neither (sends p.0 && p.1.heard)
 
   pub unnoted : (links : ℕ) → hears_link link p ≡ false → Notes p links links
-  unnoted links none on = sym (ap (λ (b : Bool). cond b (sends_text p) (is_in links on)) (hears_none none on))
+  unnoted links none on = sym (ap (λ (b : Bool). cond b (may_send_text p) (is_in links on)) (hears_none none on))

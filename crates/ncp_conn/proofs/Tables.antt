@@ -16,9 +16,9 @@ use Rattle.ncp_model.specs.Act.{Act, Stays, Becomes, answer}
 use Rattle.ncp_model.specs.Ends.{Ends, count, any, has_asked, is_by_peer, hears_link, uses_link, first_by, sender_on, receiver_on, pair_of, cut_at, map_after, map_after_at, no_ends}
 use Rattle.ncp_model.specs.Commands.{hear_cls, hear_cls_at}
 use Rattle.ncp_conn.specs.Asking.{Enters as NewAmong}
-use Rattle.ncp_conn.specs.Indexes.{key_at, passes, IsIndex, LeadsTo}
+use Rattle.ncp_conn.specs.Indexes.{key_at, entry_passes, IsIndex, LeadsTo}
 use Rattle.ncp_conn.specs.Links.{is_in}
-use Rattle.ncp_conn.specs.Sending.{sends_text, sends_at, AreSending, Notes}
+use Rattle.ncp_conn.specs.Sending.{may_send_text, sends_at, AreSending, Notes}
 use Rattle.ncp_conn.specs.Cutting.{may_cut}
 use Rattle.ncp_conn.specs.Entries.{AreEntries, IsTable, IsKept, Found, Puts, Led, Settled}
 use Rattle.ncp_conn.specs.Changes.{after, marks}
@@ -239,7 +239,7 @@ module _ {S : Type 0} (e : Entries S) (m : Ends) (v : from_entries (values e.sla
       go None k = t.sending on ∙ ap (λ (x : Option ℕ). sends_at x e.slab) k ∙ ap cuts (sym (no_sender on k))
       go (Some key) k =
           let p = led hears_link e.senders e.slab t.senders on key k in
-          t.sending on ∙ ap (λ (x : Option ℕ). sends_at x e.slab) k ∙ ap (passes sends_text) p.1 ∙ sym (cut_tells p.0) ∙ ap cuts (sym (sender_is on key p.0 k p.1))
+          t.sending on ∙ ap (λ (x : Option ℕ). sends_at x e.slab) k ∙ ap (entry_passes may_send_text) p.1 ∙ sym (cut_tells p.0) ∙ ap cuts (sym (sender_is on key p.0 k p.1))
 
   -- whether a link is free
   any_in : (test : ℕ → Pair × End → Bool) (keys : List (Option ℕ)) → IsIndex test keys e.slab → (on : ℕ) (o : Option ℕ) → key_at keys on ≡ o → any (test on) m ≡ is_some o
@@ -312,10 +312,10 @@ module _ {S : Type 0} (e new : Entries S) (key : ℕ) (r f : Pair × End) (at : 
   index_settled test pick index kept same left false h =
       subst (λ (x : Entries S). IsIndex test (pick x) x.slab) (sym (settled.stays h))
       (subst (λ (keys : List (Option ℕ)). IsIndex test keys (with_value e.slab key f)) (sym kept)
-      (index_kept test (pick e) e.slab index (with_value e.slab key f) key (Some f) written (λ on. same on ∙ sym (ap (passes (test on)) at))))
+      (index_kept test (pick e) e.slab index (with_value e.slab key f) key (Some f) written (λ on. same on ∙ sym (ap (entry_passes (test on)) at))))
   index_settled test pick index kept same left true h =
       index_left test (pick e) (with_value e.slab key f)
-      (index_kept test (pick e) e.slab index (with_value e.slab key f) key (Some f) written (λ on. same on ∙ sym (ap (passes (test on)) at)))
+      (index_kept test (pick e) e.slab index (with_value e.slab key f) key (Some f) written (λ on. same on ∙ sym (ap (entry_passes (test on)) at)))
       new.slab key f (pick new) (slot_set e.slab.slots key r f at) (settled.leaves h).updates (left h)
 
   -- whether a text may go out is known of each link again
@@ -323,15 +323,15 @@ module _ {S : Type 0} (e new : Entries S) (key : ℕ) (r f : Pair × End) (at : 
   sending_settled index are same false h =
       subst (λ (x : Entries S). AreSending new.sending x.senders x.slab) (sym (settled.stays h))
       (sending_changed e.senders e.senders e.slab (with_value e.slab key f) key (Some f) index written e.sending new.sending f are settled.sending
-      (λ on n. ap (passes (hears_link on)) at ∙ sym (same on) ∙ n)
+      (λ on n. ap (entry_passes (hears_link on)) at ∙ sym (same on) ∙ n)
       (λ on n. refl)
-      (λ on heard. ap (λ (o : Option ℕ). sends_at o (with_value e.slab key f)) ((index on key).1 (ap (passes (hears_link on)) at ∙ sym (same on) ∙ heard)) ∙ ap (passes sends_text) written.changed))
+      (λ on heard. ap (λ (o : Option ℕ). sends_at o (with_value e.slab key f)) ((index on key).1 (ap (entry_passes (hears_link on)) at ∙ sym (same on) ∙ heard)) ∙ ap (entry_passes may_send_text) written.changed))
   sending_settled index are same true h =
       let left = settled.leaves h in
       let gone : Updates e.slab new.slab key None = record { changed = left.updates.changed; others = λ other d. left.updates.others other d ∙ written.others other d } in
       let leads : (b : Bool) (on : ℕ) → hears_link on f ≡ b → key_at new.senders on ≡ cond b None (key_at e.senders on) = λ b on heard. left.senders on ∙ ap (λ (x : Bool). cond x None (key_at e.senders on)) heard in
       sending_changed e.senders new.senders e.slab new.slab key None index gone e.sending new.sending f are settled.sending
-      (λ on n. ap (passes (hears_link on)) at ∙ sym (same on) ∙ n)
+      (λ on n. ap (entry_passes (hears_link on)) at ∙ sym (same on) ∙ n)
       (λ on n. leads false on n)
       (λ on heard. ap (λ (o : Option ℕ). sends_at o new.slab) (leads true on heard) ∙ sym (over_sends_not f h))
 
@@ -385,20 +385,20 @@ module _ {S : Type 0} (e new : Entries S) (key : ℕ) (r f : Pair × End) (at : 
   index_now : (test : ℕ → Pair × End → Bool) (keys later : List (Option ℕ)) → IsIndex test keys e.slab → LeadsTo test f (Some key) keys later → ((on : ℕ) → test on r ≡ true → test on f ≡ true) → ((on : ℕ) → Passes (test on) (values e.slab) r f) → IsIndex test later new.slab
   index_now test keys later index leads old passing =
       index_led test keys e.slab index new.slab key f later changes leads
-      (λ on h. old on (sym (ap (passes (test on)) at) ∙ h))
+      (λ on h. old on (sym (ap (entry_passes (test on)) at) ∙ h))
       (λ on h. which on (passing on h))
     where
-      which : (on : ℕ) → (test on r ≡ true) ⊎ (count_by (test on) (values e.slab) ≡ 0) → (passes (test on) (get e.slab key) ≡ true) ⊎ (count_by (test on) (values e.slab) ≡ 0)
-      which on (inl h) = inl (ap (passes (test on)) at ∙ h)
+      which : (on : ℕ) → (test on r ≡ true) ⊎ (count_by (test on) (values e.slab) ≡ 0) → (entry_passes (test on) (get e.slab key) ≡ true) ⊎ (count_by (test on) (values e.slab) ≡ 0)
+      which on (inl h) = inl (ap (entry_passes (test on)) at ∙ h)
       which on (inr z) = inr z
 
   sending_led : ((on : ℕ) → hears_link on r ≡ true → hears_link on f ≡ true) → AreSending new.sending new.senders new.slab
   sending_led heard =
       let leads : (b : Bool) (on : ℕ) → hears_link on f ≡ b → key_at new.senders on ≡ cond b (Some key) (key_at e.senders on) = λ b on h. led_now.senders on ∙ ap (λ (x : Bool). cond x (Some key) (key_at e.senders on)) h in
       sending_changed e.senders new.senders e.slab new.slab key (Some f) t.senders changes e.sending new.sending f t.sending led_now.sending
-      (λ on n. ap (passes (hears_link on)) at ∙ unheard (hears_link on r) (hears_link on f) (heard on) n)
+      (λ on n. ap (entry_passes (hears_link on)) at ∙ unheard (hears_link on r) (hears_link on f) (heard on) n)
       (λ on n. leads false on n)
-      (λ on h. ap (λ (o : Option ℕ). sends_at o new.slab) (leads true on h) ∙ ap (passes sends_text) changes.changed)
+      (λ on h. ap (λ (o : Option ℕ). sends_at o new.slab) (leads true on h) ∙ ap (entry_passes may_send_text) changes.changed)
 
   pub kept_asked : f.0 ≡ r.0 → count_by has_asked (values e.slab) + one f.1.asked ≤ 64 + one r.1.asked → count_by is_by_peer (values e.slab) + one (not f.1.asked) ≤ 64 + one (not r.1.asked) → ((on : ℕ) → Passes (hears_link on) (values e.slab) r f) → ((on : ℕ) → Passes (uses_link on) (values e.slab) r f) → ((on : ℕ) → hears_link on r ≡ true → hears_link on f ≡ true) → ((on : ℕ) → uses_link on r ≡ true → uses_link on f ≡ true) → IsKept new
   kept_asked same own by_peer hears uses heard used =
@@ -480,7 +480,7 @@ module _ {S : Type 0} (e new : Entries S) (key : ℕ) (f : Pair × End) (vacant 
   index_entered : (test : ℕ → Pair × End → Bool) (keys later : List (Option ℕ)) → IsIndex test keys e.slab → LeadsTo test f (Some key) keys later → ((on : ℕ) → test on f ≡ true → count_by (test on) (values e.slab) ≡ 0) → IsIndex test later new.slab
   index_entered test keys later index leads free =
       index_led test keys e.slab index new.slab key f later p.updates leads
-      (λ on h. let g : passes (test on) (get e.slab key) ≡ false = ap (passes (test on)) vacant in let b : true ≡ false = sym h ∙ g in absurd (cc))
+      (λ on h. let g : entry_passes (test on) (get e.slab key) ≡ false = ap (entry_passes (test on)) vacant in let b : true ≡ false = sym h ∙ g in absurd (cc))
       (λ on h. inr (free on h))
 
   pub entered_are : AreEntries (values e.slab) → Enters (values e.slab) f → AreEntries (values new.slab)
@@ -494,9 +494,9 @@ module _ {S : Type 0} (e new : Entries S) (key : ℕ) (f : Pair × End) (vacant 
   sending_entered t notes =
       let leads : (b : Bool) (on : ℕ) → hears_link on f ≡ b → key_at new.senders on ≡ cond b (Some key) (key_at e.senders on) = λ b on h. p.senders on ∙ ap (λ (x : Bool). cond x (Some key) (key_at e.senders on)) h in
       sending_changed e.senders new.senders e.slab new.slab key (Some f) t.senders p.updates e.sending new.sending f t.sending notes
-      (λ on n. ap (passes (hears_link on)) vacant)
+      (λ on n. ap (entry_passes (hears_link on)) vacant)
       (λ on n. leads false on n)
-      (λ on h. ap (λ (o : Option ℕ). sends_at o new.slab) (leads true on h) ∙ ap (passes sends_text) p.updates.changed)
+      (λ on h. ap (λ (o : Option ℕ). sends_at o new.slab) (leads true on h) ∙ ap (entry_passes may_send_text) p.updates.changed)
 
   pub kept_entered : IsKept e → Notes f e.sending new.sending → Enters (values e.slab) f → IsKept new
   kept_entered t notes n =

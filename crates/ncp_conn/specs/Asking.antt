@@ -25,6 +25,6 @@ pub record Enters (m : Ends) (p : Pair × End) : Type 0 where
 
 -- what a call that takes memory may do: the act at its pair, or nothing where there is no memory
 -- for what it would do
-abbrev pub DoneOrNoMemory : {A : Type 0} → Pair → Act (Result A CallFault) → Result A CallFault → Ends → Ends → Type 0
-DoneOrNoMemory pair act result before now =
+abbrev pub ActsOrNoMemory : {A : Type 0} → Pair → Act (Result A CallFault) → Result A CallFault → Ends → Ends → Type 0
+ActsOrNoMemory pair act result before now =
     ((result ≡ answer act) × (now ≡ map_after before pair act)) ⊎ ((result ≡ Err OutOfMemory) × IsOk (answer act) × (now ≡ before))

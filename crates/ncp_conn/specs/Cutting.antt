@@ -19,10 +19,10 @@ text_of None = []
 text_of (Some text) = text.1
 
 -- the first of so many numbers that passes, if one does
-unfoldable pub first_of : (ℕ → Bool) → ℕ → ℕ → Option ℕ
-first_of test zero from = None
-first_of test (suc many) from = if test from then Some from else first_of test many (suc from)
+unfoldable pub first_number_that : (ℕ → Bool) → ℕ → ℕ → Option ℕ
+first_number_that test zero from = None
+first_number_that test (suc many) from = if test from then Some from else first_number_that test many (suc from)
 
 -- the lowest link from one on on which a text may be cut
 abbrev pub next_cut : ℕ → Ends → Option ℕ
-next_cut from m = first_of (may_cut m) (LAST_LINK + 1 - from) from
+next_cut from m = first_number_that (may_cut m) (LAST_LINK + 1 - from) from

@@ -9,13 +9,13 @@ abbrev pub key_at : List (Option ℕ) → ℕ → Option ℕ
 key_at keys on = slice_index_or keys on None
 
 -- whether what is under a key passes a test: nothing does not
-abbrev pub passes : (Pair × End → Bool) → Option (Pair × End) → Bool
-passes test None = false
-passes test (Some p) = test p
+abbrev pub entry_passes : (Pair × End → Bool) → Option (Pair × End) → Bool
+entry_passes test None = false
+entry_passes test (Some p) = test p
 
 -- a link leads to a key exactly where the entry under that key passes the test for the link
 abbrev pub IsIndex : (ℕ → Pair × End → Bool) → List (Option ℕ) → Slab (Pair × End) → Type 0
-IsIndex test keys s = (on key : ℕ) → (key_at keys on ≡ Some key) ↔ (passes (test on) (get s key) ≡ true)
+IsIndex test keys s = (on key : ℕ) → (key_at keys on ≡ Some key) ↔ (entry_passes (test on) (get s key) ≡ true)
 
 -- the links of an entry lead to a key now, or nowhere, and the others as before
 abbrev pub LeadsTo : (ℕ → Pair × End → Bool) → Pair × End → Option ℕ → List (Option ℕ) → List (Option ℕ) → Type 0

@@ -45,11 +45,11 @@ abbrev pub is_alone_on : Pair → End → Ends → Bool
 is_alone_on pair e m = not (hears_link e.link (pair, e) && any (hears_link e.link) m) && not (uses_link e.link (pair, e) && any (uses_link e.link) m)
 
 -- there is a place for it among the ends: its pair has none
-abbrev pub has_place : Pair → End → Ends → Bool
-has_place pair e m = is_none (get m pair) && has_room_for e m && is_alone_on pair e m
+abbrev pub has_place_for : Pair → End → Ends → Bool
+has_place_for pair e m = is_none (get m pair) && has_room_for e m && is_alone_on pair e m
 
 abbrev pub may_stand : Pair → End → Ends → Bool
-may_stand pair e m = can_be pair e && has_place pair e m
+may_stand pair e m = can_be pair e && has_place_for pair e m
 
 -- what a record tells of an end is that end again
 pub it_is_told : (pair : Pair) (e : End) → end_told (record_of pair e) e.stored e.room ≡ e

@@ -5,17 +5,17 @@ use Rattle.ncp_model.specs.declared.pair.Pair.{Pair}
 use Rattle.ncp_model.specs.End.{End}
 use Rattle.ncp_model.specs.Texts.{may_send}
 use Rattle.ncp_model.specs.Ends.{hears_link}
-use Rattle.ncp_conn.specs.Indexes.{key_at, passes}
+use Rattle.ncp_conn.specs.Indexes.{key_at, entry_passes}
 use Rattle.ncp_conn.specs.Links.{is_in}
 
 -- whether an entry may send a text
-abbrev pub sends_text : Pair × End → Bool
-sends_text p = may_send p.0 p.1
+abbrev pub may_send_text : Pair × End → Bool
+may_send_text p = may_send p.0 p.1
 
 -- whether one may where a link leads: not where it leads nowhere
 abbrev pub sends_at : Option ℕ → Slab (Pair × End) → Bool
 sends_at None s = false
-sends_at (Some key) s = passes sends_text (get s key)
+sends_at (Some key) s = entry_passes may_send_text (get s key)
 
 -- a link is in the set exactly where a text may go out on it
 abbrev pub AreSending : ℕ → List (Option ℕ) → Slab (Pair × End) → Type 0
@@ -23,4 +23,4 @@ AreSending links senders s = (on : ℕ) → is_in links on ≡ sends_at (key_at 
 
 -- the link that an entry heard is in the set now exactly where it may send; of the others nothing changes
 abbrev pub Notes : Pair × End → ℕ → ℕ → Type 0
-Notes p old new = (on : ℕ) → is_in new on ≡ (if hears_link on p then sends_text p else is_in old on)
+Notes p old new = (on : ℕ) → is_in new on ≡ (if hears_link on p then may_send_text p else is_in old on)

@@ -10,7 +10,7 @@ use Rattle.std.proofs.lemmas.Nat.{mod_below}
 use Rattle.std.specs.Int.{byte_at as digit}
 use Rattle.std.proofs.lemmas.Option.{none-some, same_Some, cond_some, option_and_then_some, slice_get-get_or, slice_get_within}
 use Rattle.ncp_terms.specs.Spelling.{spelling, spellings, IsByte, IsCommand, padded, error_of}
-use Rattle.ncp_control.specs.Texts.{Reads, NoneBegins, fault_of, items_of, commands_of, fault_among, EndsAtFault}
+use Rattle.ncp_control.specs.Texts.{Reads, NoneBegins, fault_of, items_of, commands_among, fault_among, EndsAtFault}
 use Rattle.ncp_control.specs.Reading.{sizes, size_of, byte_at, command_with, command_at, commands_within, commands_in, rest_in, fault_in, items_in}
 use Rattle.ncp_terms.specs.declared.command.Command.{Command}
 use Rattle.ncp_terms.specs.declared.command.Command.TheVariants.{Nop, Rts, Str, Cls, All as Allocate, Gvb, Ret, Inr, Ins, Eco, Erp, Err, Rst, Rrp}
@@ -301,7 +301,7 @@ items_fault bytes fault e is =
     ∙ ap (λ rest. items_of [] (fault_of rest)) (rest_none bytes e)
     ∙ ap (items_of []) is
 
-commands_of-items_of : (commands : List Command) (fault : Option CommandFault) → commands_of (items_of commands fault) ≡ commands
+commands_of-items_of : (commands : List Command) (fault : Option CommandFault) → commands_among (items_of commands fault) ≡ commands
 commands_of-items_of [] None = refl
 commands_of-items_of [] (Some fault) = refl
 commands_of-items_of (command ∷ commands) fault = ap (λ xs. command ∷ xs) (commands_of-items_of commands fault)
@@ -320,7 +320,7 @@ pub last_met : (bytes : List ℕ) → EndsAtFault (items_in bytes)
 unfolding items_in
 last_met bytes = EndsAtFault-items_of (commands_in bytes) (fault_in bytes)
 
-pub commands_met : (bytes : List ℕ) → commands_of (items_in bytes) ≡ commands_in bytes
+pub commands_met : (bytes : List ℕ) → commands_among (items_in bytes) ≡ commands_in bytes
 unfolding items_in
 commands_met bytes = commands_of-items_of (commands_in bytes) (fault_in bytes)
 

@@ -28,10 +28,10 @@ abbrev pub items_of : List Command → Option CommandFault → List (Result Comm
 items_of commands fault = map Ok commands ++ map Fault (option_to_list fault)
 
 -- the commands among items, and the fault behind them
-abbrev pub commands_of : List (Result Command CommandFault) → List Command
-commands_of [] = []
-commands_of (Ok command ∷ items) = command ∷ commands_of items
-commands_of (Fault fault ∷ items) = commands_of items
+abbrev pub commands_among : List (Result Command CommandFault) → List Command
+commands_among [] = []
+commands_among (Ok command ∷ items) = command ∷ commands_among items
+commands_among (Fault fault ∷ items) = commands_among items
 
 abbrev pub fault_among : List (Result Command CommandFault) → Option CommandFault
 fault_among [] = None

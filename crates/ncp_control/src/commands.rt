@@ -2,7 +2,7 @@
 ghost use Rattle.std.specs.Prelude.{◌≡◌, ◌*◌, ◌≤◌, ◌%◌, length};
 ghost use Rattle.std.specs.Iterator.{YieldsFirst, item_count};
 ghost use Rattle.ncp_numbers.specs.Bytes.{bytes_of};
-ghost use Rattle.ncp_control.specs.Texts.{Reads, items_of, commands_of, fault_among, EndsAtFault};
+ghost use Rattle.ncp_control.specs.Texts.{Reads, items_of, commands_among, fault_among, EndsAtFault};
 ghost use Rattle.ncp_control.specs.Reading.{commands_in, rest_in, fault_in};
 
 use crate::front::read_front;
@@ -38,7 +38,7 @@ impl<'a> Commands<'a> {
         requires { length text % 8 ≡ 0 }
         // The commands in order, and behind them the fault, if there is one.
         ensures items { let bytes = bytes_of text.entry in result ≡ items_of (commands_in bytes) (fault_in bytes) }
-        ensures commands { commands_of result ≡ commands_in (bytes_of text.entry) }
+        ensures commands { commands_among result ≡ commands_in (bytes_of text.entry) }
         ensures fault { fault_among result ≡ fault_in (bytes_of text.entry) }
         ensures last { EndsAtFault result }
         // The commands are the longest list whose joined spellings begin the text.

@@ -8,7 +8,7 @@ use Rattle.ncp_host.specs.Calls as calls
 use Rattle.ncp_embed.specs.declared.handle.held.Held.{Held}
 use Rattle.ncp_embed.specs.Codes.{code_of}
 use Rattle.ncp_embed.specs.Handles.{boxed_in}
-use Rattle.ncp_embed.specs.Exports.{held, code_in, host_in, DoneOrNoMemory}
+use Rattle.ncp_embed.specs.Exports.{held, code_in, host_changed_in, AnswersOrNoMemory}
 
 module _ (taken : Option (Box Held Global)) (it : Box Held Global) (at : Held) (before : Option Held) (some : taken ≡ Some it) (was : boxed_in taken ≡ before) (same : at ≡ it.value) where
   pub found : Some at ≡ before
@@ -16,8 +16,8 @@ module _ (taken : Option (Box Held Global)) (it : Box Held Global) (at : Held) (
 
   -- a call that takes memory
   pub done : (reply : Host → Result (Unit {0}) CallFault) (after : Host → Host) (result : Result (Unit {0}) CallFault) (host : Host) (now : Option Held) (code : ℕ) → code ≡ code_of result → now ≡ Some (held host)
-      → calls.DoneOrNoMemory (reply at.host) (after at.host) result at.host host → DoneOrNoMemory (code_in reply before) (host_in after before) code before now
+      → calls.DoneOrNoMemory (reply at.host) (after at.host) result at.host host → AnswersOrNoMemory (code_in reply before) (host_changed_in after before) code before now
   done reply after result host now code coded put told = elim told [
-    | inl w ↦ inl (coded ∙ ap code_of w.0 ∙ ap (code_in reply) found, put ∙ ap (λ (h : Host). Some (held h)) w.1 ∙ ap (host_in after) found)
+    | inl w ↦ inl (coded ∙ ap code_of w.0 ∙ ap (code_in reply) found, put ∙ ap (λ (h : Host). Some (held h)) w.1 ∙ ap (host_changed_in after) found)
     | inr w ↦ inr (coded ∙ ap code_of w.0, sym (ap (code_in reply) found) ∙ ap code_of w.1, put ∙ ap (λ (h : Host). Some (held h)) w.2 ∙ found)
   ]

@@ -6,7 +6,7 @@ use Rattle.ncp_control.specs.Texts.{items_of}
 use Rattle.ncp_control.specs.Reading.{commands_within, commands_in, fault_in}
 use Rattle.ncp_numbers.specs.Bytes.{bytes_of}
 use Rattle.ncp_leader.specs.Message.{Message}
-use Rattle.ncp_embed.specs.Commands.{is_control, text_of, command_of, no_tally, tally_from}
+use Rattle.ncp_embed.specs.Commands.{is_control_message, control_bytes, command_of, no_tally, command_tally_from}
 
 at_place : (commands : List Command) (fault : Option CommandFault) (place : ℕ) → command_of (slice_get (items_of commands fault) place) ≡ slice_get commands place
 at_place [] None place = refl
@@ -20,15 +20,15 @@ pub nothing : (place : ℕ) → None ≡ slice_get (commands_in []) place
 unfolding commands_within
 nothing place = refl
 
-pub other : (m : Message) (place : ℕ) → is_control m ≡ false → None ≡ slice_get (commands_in (text_of (Ok m))) place
+pub other : (m : Message) (place : ℕ) → is_control_message m ≡ false → None ≡ slice_get (commands_in (control_bytes (Ok m))) place
 other m place e = nothing place ∙ ap (λ (control : Bool). slice_get (commands_in (if control then bytes_of m.text else [])) place) (sym e)
 
 pub in_text : (bytes : List ℕ) (place : ℕ) → command_of (slice_get (items_of (commands_in bytes) (fault_in bytes)) place) ≡ slice_get (commands_in bytes) place
 in_text bytes place = at_place (commands_in bytes) (fault_in bytes) place
 
-pub no_tally_of_nothing : no_tally ≡ tally_from no_tally (commands_in [])
+pub no_tally_of_nothing : no_tally ≡ command_tally_from no_tally (commands_in [])
 unfolding commands_within
 no_tally_of_nothing = refl
 
-pub no_tally_of_other : (m : Message) → is_control m ≡ false → no_tally ≡ tally_from no_tally (commands_in (text_of (Ok m)))
-no_tally_of_other m e = no_tally_of_nothing ∙ ap (λ (control : Bool). tally_from no_tally (commands_in (if control then bytes_of m.text else []))) (sym e)
+pub no_tally_of_other : (m : Message) → is_control_message m ≡ false → no_tally ≡ command_tally_from no_tally (commands_in (control_bytes (Ok m)))
+no_tally_of_other m e = no_tally_of_nothing ∙ ap (λ (control : Bool). command_tally_from no_tally (commands_in (if control then bytes_of m.text else []))) (sym e)

@@ -49,8 +49,8 @@ no_changes = record {
 }
 
 -- the peer asks, and nothing was asked here
-abbrev pub asks : Connection → Connection → Bool
-asks seen now = now.heard && not (seen.heard || now.asked)
+abbrev pub peer_asks : Connection → Connection → Bool
+peer_asks seen now = now.heard && not (seen.heard || now.asked)
 
 -- a receiver holds more
 abbrev pub is_more_held : Connection → Connection → Bool
@@ -67,7 +67,7 @@ became seen now = now && not seen
 -- of one that is there; the text that was out is delivered where the sender is busy no more
 abbrev pub changes_of : Connection → Connection → Changes
 changes_of seen now = record no_changes {
-  asks = asks seen now;
+  asks = peer_asks seen now;
   opened = became seen.opened now.opened;
   text = is_more_held seen now;
   allowed = is_more_allowed seen now;
@@ -106,10 +106,10 @@ seen_of None = no_connection
 seen_of (Some now) = now
 
 -- the reading of a connection, or that there is none
-abbrev pub reading_of : Result Record CallFault → Result (Option Connection) CallFault
-reading_of (Ok r) = Ok (Some (connection_of r))
-reading_of (Err NoEntry) = Ok None
-reading_of (Err fault) = Err fault
+abbrev pub connection_read : Result Record CallFault → Result (Option Connection) CallFault
+connection_read (Ok r) = Ok (Some (connection_of r))
+connection_read (Err NoEntry) = Ok None
+connection_read (Err fault) = Err fault
 
 abbrev pub reading_told : ℕ → Pair → Host → Result (Option Connection) CallFault
-reading_told number pair h = reading_of (record_told number pair h)
+reading_told number pair h = connection_read (record_told number pair h)

@@ -11,16 +11,16 @@ use Rattle.ncp_control.specs.Reading.{commands_in}
 use Rattle.ncp_host.specs.Counting.{one_more}
 use Rattle.ncp_embed.specs.declared.commands.Tally.{Tally}
 
-abbrev pub is_control : Message → Bool
-is_control m = m.leader.kind == 0 && m.leader.link == 0 && m.size == 8
+abbrev pub is_control_message : Message → Bool
+is_control_message m = m.leader.kind == 0 && m.leader.link == 0 && m.size == 8
 
 -- the text of a control message, as bytes; of any other bits nothing
-abbrev pub text_of : Result Message MessageFault → List ℕ
-text_of (Ok m) = if is_control m then bytes_of m.text else []
-text_of (Err fault) = []
+abbrev pub control_bytes : Result Message MessageFault → List ℕ
+control_bytes (Ok m) = if is_control_message m then bytes_of m.text else []
+control_bytes (Err fault) = []
 
 abbrev pub control_text : List Bool → List ℕ
-control_text bits = text_of (message_in bits)
+control_text bits = control_bytes (message_in bits)
 
 -- the command at a place, counted from 0
 abbrev pub command_of_message : List Bool → ℕ → Option Command
@@ -37,15 +37,15 @@ command_of (Some (Err fault)) = None
 abbrev pub no_tally : Tally
 no_tally = record { errors = 0; resets = 0 }
 
-abbrev pub tallied : Command → Tally → Tally
-tallied (command.Err code bytes) t = record t { errors = one_more t.errors }
-tallied command.Rst t = record t { resets = one_more t.resets }
-tallied other t = t
+abbrev pub command_tallied : Command → Tally → Tally
+command_tallied (command.Err code bytes) t = record t { errors = one_more t.errors }
+command_tallied command.Rst t = record t { resets = one_more t.resets }
+command_tallied other t = t
 
-abbrev pub tally_from : Tally → List Command → Tally
-tally_from t [] = t
-tally_from t (c ∷ cs) = tally_from (tallied c t) cs
+abbrev pub command_tally_from : Tally → List Command → Tally
+command_tally_from t [] = t
+command_tally_from t (c ∷ cs) = command_tally_from (command_tallied c t) cs
 
 -- those of a control message; of any other bits none
-abbrev pub tally_of : List Bool → Tally
-tally_of bits = tally_from no_tally (commands_in (control_text bits))
+abbrev pub command_tally_of : List Bool → Tally
+command_tally_of bits = command_tally_from no_tally (commands_in (control_text bits))

@@ -55,44 +55,41 @@ abbrev pub IsLoadCode : ℕ → Type 0
 IsLoadCode code =
     (code ≡ DONE) ⊎ (code ≡ load_code load.NotAHost) ⊎ (code ≡ load_code load.OtherVersion) ⊎ (code ≡ load_code load.OutOfMemory)
 
-abbrev pub pair_of : ℕ → ℕ → Pair
-pair_of here there = record { local = here; remote = there }
-
 -- A call on the host: its code, and the host after it.
 
 abbrev pub code_in : {A : Type 0} → (Host → Result A CallFault) → Option Held → ℕ
 code_in reply None = NO_HOST
 code_in reply (Some at) = code_of (reply at.host)
 
-abbrev pub host_in : (Host → Host) → Option Held → Option Held
-host_in after None = None
-host_in after (Some at) = Some (held (after at.host))
+abbrev pub host_changed_in : (Host → Host) → Option Held → Option Held
+host_changed_in after None = None
+host_changed_in after (Some at) = Some (held (after at.host))
 
 -- It does all that it is to do, or nothing where there is no memory for it, which is answered where no other
 -- refusal comes.
-abbrev pub DoneOrNoMemory : ℕ → Option Held → ℕ → Option Held → Option Held → Type 0
-DoneOrNoMemory code after result before now =
+abbrev pub AnswersOrNoMemory : ℕ → Option Held → ℕ → Option Held → Option Held → Type 0
+AnswersOrNoMemory code after result before now =
     ((result ≡ code) × (now ≡ after)) ⊎ ((result ≡ 17) × (code ≡ DONE) × (now ≡ before))
 
 -- What is told is written where there is something to tell, and else what stood there stays.
 
-abbrev pub told_of : {A B : Type 0} → (A → B) → Result A CallFault → B → B
-told_of form (Ok answer) out = form answer
-told_of form (Err fault) out = out
+abbrev pub formed : {A B : Type 0} → (A → B) → Result A CallFault → B → B
+formed form (Ok answer) out = form answer
+formed form (Err fault) out = out
 
-abbrev pub told_in : {A B : Type 0} → (A → B) → (Host → Result A CallFault) → Option Held → B → B
-told_in form reply None out = out
-told_in form reply (Some at) out = told_of form (reply at.host) out
+abbrev pub formed_in : {A B : Type 0} → (A → B) → (Host → Result A CallFault) → Option Held → B → B
+formed_in form reply None out = out
+formed_in form reply (Some at) out = formed form (reply at.host) out
 
 -- Whether what is told passes a test: not where nothing is told.
 
-abbrev pub holds_of : {A : Type 0} → (A → Bool) → Result A CallFault → Bool
-holds_of test (Ok answer) = test answer
-holds_of test (Err fault) = false
+abbrev pub holds_if_ok : {A : Type 0} → (A → Bool) → Result A CallFault → Bool
+holds_if_ok test (Ok answer) = test answer
+holds_if_ok test (Err fault) = false
 
 abbrev pub holds_in : {A : Type 0} → (A → Bool) → (Host → Result A CallFault) → Option Held → Bool
 holds_in test reply None = false
-holds_in test reply (Some at) = holds_of test (reply at.host)
+holds_in test reply (Some at) = holds_if_ok test (reply at.host)
 
 -- Of what may be nothing.
 
@@ -140,9 +137,9 @@ abbrev pub code_of_bits : Result (List Bool) BitsFault → (List Bool → ℕ) �
 code_of_bits (Err fault) code = bits_code fault
 code_of_bits (Ok bits) code = code bits
 
-abbrev pub after_bits : {A : Type 0} → Result (List Bool) BitsFault → (List Bool → A) → A → A
-after_bits (Err fault) after before = before
-after_bits (Ok bits) after before = after bits
+abbrev pub after_bits_read : {A : Type 0} → Result (List Bool) BitsFault → (List Bool → A) → A → A
+after_bits_read (Err fault) after before = before
+after_bits_read (Ok bits) after before = after bits
 
 abbrev pub receive_code : List Bool → Option Held → ℕ
 receive_code bits None = NO_HOST
@@ -191,17 +188,17 @@ abbrev pub found_of : {A B : Type 0} → (A → B) → Result (Option A) CallFau
 found_of form (Ok answer) out = form_if_any form answer out
 found_of form (Err fault) out = out
 
-abbrev pub found_in : {A B : Type 0} → (A → B) → (Host → Result (Option A) CallFault) → Option Held → B → B
-found_in form reply None out = out
-found_in form reply (Some at) out = found_of form (reply at.host) out
+abbrev pub found_formed_in : {A B : Type 0} → (A → B) → (Host → Result (Option A) CallFault) → Option Held → B → B
+found_formed_in form reply None out = out
+found_formed_in form reply (Some at) out = found_of form (reply at.host) out
 
 -- the error that came at a place behind the oldest that is kept, if there is one
-abbrev pub error_of : ℕ → Result (List Error) CallFault → Result (Option Error) CallFault
-error_of place (Ok errors) = Ok (slice_get errors place)
-error_of place (Err fault) = Err fault
+abbrev pub error_at_place : ℕ → Result (List Error) CallFault → Result (Option Error) CallFault
+error_at_place place (Ok errors) = Ok (slice_get errors place)
+error_at_place place (Err fault) = Err fault
 
 abbrev pub error_told : ℕ → ℕ → Host → Result (Option Error) CallFault
-error_told peer place h = error_of place (errors_told peer h)
+error_told peer place h = error_at_place place (errors_told peer h)
 
 -- whatever the bits are, they change what the host has for the peer that their leader names, or one count of
 -- messages that are of no peer, and nothing else

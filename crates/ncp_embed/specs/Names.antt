@@ -35,35 +35,35 @@ name_of_bits TooLong = codes "TooLong"
 name_of_bits ShortBytes = codes "ShortBytes"
 name_of_bits SpareNotZero = codes "SpareNotZero"
 
-abbrev pub number_of : Answer → ℕ
-number_of Done = DONE
-number_of (Call fault) = fault_code fault
-number_of (New fault) = host_code fault
-number_of NoHost = NO_HOST
-number_of NoPointer = NO_POINTER
-number_of ShortBuffer = SHORT_BUFFER
-number_of Nothing = NOTHING
-number_of NoSubnet = NO_SUBNET
-number_of (Bits fault) = bits_code fault
-number_of (Subnet fault) = subnet_code fault
-number_of (Load fault) = load_code fault
+abbrev pub number_of_answer : Answer → ℕ
+number_of_answer Done = DONE
+number_of_answer (Call fault) = fault_code fault
+number_of_answer (New fault) = host_code fault
+number_of_answer NoHost = NO_HOST
+number_of_answer NoPointer = NO_POINTER
+number_of_answer ShortBuffer = SHORT_BUFFER
+number_of_answer Nothing = NOTHING
+number_of_answer NoSubnet = NO_SUBNET
+number_of_answer (Bits fault) = bits_code fault
+number_of_answer (Subnet fault) = subnet_code fault
+number_of_answer (Load fault) = load_code fault
 
-abbrev pub name_of : Answer → List ℕ
-name_of Done = codes "Done"
-name_of (Call fault) = call_names.name_of fault
-name_of (New fault) = name_of_new fault
-name_of NoHost = codes "NoHost"
-name_of NoPointer = codes "NoPointer"
-name_of ShortBuffer = codes "ShortBuffer"
-name_of Nothing = codes "Nothing"
-name_of NoSubnet = codes "NoSubnet"
-name_of (Bits fault) = name_of_bits fault
-name_of (Subnet fault) = name_of_subnet fault
-name_of (Load fault) = name_of_load fault
+abbrev pub name_of_answer : Answer → List ℕ
+name_of_answer Done = codes "Done"
+name_of_answer (Call fault) = call_names.name_of_call_fault fault
+name_of_answer (New fault) = name_of_new fault
+name_of_answer NoHost = codes "NoHost"
+name_of_answer NoPointer = codes "NoPointer"
+name_of_answer ShortBuffer = codes "ShortBuffer"
+name_of_answer Nothing = codes "Nothing"
+name_of_answer NoSubnet = codes "NoSubnet"
+name_of_answer (Bits fault) = name_of_bits fault
+name_of_answer (Subnet fault) = name_of_subnet fault
+name_of_answer (Load fault) = name_of_load fault
 
 -- all that is answered
-abbrev pub answers : List Answer
-answers =
+abbrev pub all_answers : List Answer
+all_answers =
     Done ∷ Call call.UnknownPeer ∷ Call call.NotUp ∷ Call call.BadSex ∷ Call call.BadSize ∷ Call call.BadRoom ∷ Call call.NoEntry ∷ Call call.AlreadyAsked ∷ Call call.Closing
     ∷ Call call.NotOpen ∷ Call call.WrongEnd ∷ Call call.NotWhole ∷ Call call.Busy ∷ Call call.NoRoom ∷ Call call.TooMuch ∷ Call call.TableFull ∷ Call call.QueueFull
     ∷ Call call.OutOfMemory ∷ NoHost ∷ NoPointer ∷ ShortBuffer ∷ Nothing ∷ NoSubnet ∷ Bits TooLong ∷ Bits ShortBytes ∷ Bits SpareNotZero
@@ -74,18 +74,18 @@ answers =
 -- the one of a number
 abbrev pub answer_among : List Answer → ℕ → Option Answer
 answer_among [] code = None
-answer_among (answer ∷ behind) code = if number_of answer == code then Some answer else answer_among behind code
+answer_among (answer ∷ behind) code = if number_of_answer answer == code then Some answer else answer_among behind code
 
 -- its name over the front of a buffer, if it has room for the name
 
 abbrev pub name_code : Option Answer → List ℕ → ℕ
 name_code None out = NOTHING
-name_code (Some answer) out = with_room (length (name_of answer)) out SHORT_BUFFER DONE
+name_code (Some answer) out = with_room (length (name_of_answer answer)) out SHORT_BUFFER DONE
 
 abbrev pub name_over : Option Answer → List ℕ → List ℕ
 name_over None out = out
-name_over (Some answer) out = with_room (length (name_of answer)) out out (over (name_of answer) (length (name_of answer)) out)
+name_over (Some answer) out = with_room (length (name_of_answer answer)) out out (over (name_of_answer answer) (length (name_of_answer answer)) out)
 
 abbrev pub size_of_name : Option Answer → List ℕ → ℕ → ℕ
 size_of_name None out bytes = bytes
-size_of_name (Some answer) out bytes = with_room (length (name_of answer)) out bytes (length (name_of answer))
+size_of_name (Some answer) out bytes = with_room (length (name_of_answer answer)) out bytes (length (name_of_answer answer))

@@ -14,15 +14,15 @@ use Rattle.ncp_embed.specs.declared.codes.TheConstants.{DONE, NO_SUBNET, NOTHING
 use Rattle.ncp_embed.specs.Codes.{bits_code, subnet_code}
 use Rattle.ncp_embed.specs.Exports.{any_of, code_if_any}
 
-abbrev pub carried : Subnet → Carried
-carried s = record { subnet = s }
+abbrev pub subnet_carried : Subnet → Carried
+subnet_carried s = record { subnet = s }
 
 -- A message of a host is accepted, or refused for the first reason that holds.
 
 abbrev pub AcceptsIn : List Bool → ℕ → Subnet → Option Carried → ℕ → Type 0
 AcceptsIn came from s now code =
-    ((code ≡ DONE) × NoneHolds (Refuses s from came) refusals × (now ≡ Some (carried (with_transit s from (host_in came) (link_in came) (transit.Accepted came)))))
-    ⊎ ((fault : SubnetFault) × (code ≡ subnet_code fault) × IsFirst (Refuses s from came) refusals fault × (now ≡ Some (carried s)))
+    ((code ≡ DONE) × NoneHolds (Refuses s from came) refusals × (now ≡ Some (subnet_carried (with_transit s from (host_in came) (link_in came) (transit.Accepted came)))))
+    ⊎ ((fault : SubnetFault) × (code ≡ subnet_code fault) × IsFirst (Refuses s from came) refusals fault × (now ≡ Some (subnet_carried s)))
 
 abbrev pub Accepts : Result (List Bool) BitsFault → ℕ → Option Carried → Option Carried → ℕ → Type 0
 Accepts (Err fault) from before now code = (code ≡ bits_code fault) × (now ≡ before)
@@ -37,11 +37,11 @@ coming_in from to link s = arriving from (transit_at s from to link)
 abbrev pub after_coming : ℕ → ℕ → ℕ → Subnet → Subnet
 after_coming from to link s = option_map_or (λ _. with_transit s from to link transit.Delivered) (coming_in from to link s) s
 
-abbrev pub answer_in : ℕ → ℕ → ℕ → Subnet → Option (List Bool)
-answer_in from to link s = answer_about to link (transit_at s from to link)
+abbrev pub answer_in_transit : ℕ → ℕ → ℕ → Subnet → Option (List Bool)
+answer_in_transit from to link s = answer_about to link (transit_at s from to link)
 
-abbrev pub after_answer : ℕ → ℕ → ℕ → Subnet → Subnet
-after_answer from to link s = option_map_or (λ _. with_transit s from to link transit.Free) (answer_in from to link s) s
+abbrev pub subnet_after_answer : ℕ → ℕ → ℕ → Subnet → Subnet
+subnet_after_answer from to link s = option_map_or (λ _. with_transit s from to link transit.Free) (answer_in_transit from to link s) s
 
 abbrev pub is_under_way : ℕ → ℕ → ℕ → Subnet → Bool
 is_under_way from to link s = is_accepted (transit_at s from to link)
@@ -67,7 +67,7 @@ holds_code_in test (Some at) = code_if (test at.subnet)
 
 abbrev pub changed_in : (Subnet → Subnet) → Option Carried → Option Carried
 changed_in after None = None
-changed_in after (Some at) = Some (carried (after at.subnet))
+changed_in after (Some at) = Some (subnet_carried (after at.subnet))
 
 abbrev pub found_over : {A B : Type 0} → (A → B → B) → (Subnet → Option A) → Option Carried → B → B
 found_over write reply None out = out

@@ -23,7 +23,7 @@ use Rattle.ncp_embed.specs.declared.told.Counted.{Counted}
 use Rattle.ncp_embed.specs.declared.told.Discarded.{Discarded}
 use Rattle.ncp_embed.specs.declared.told.Noted.{Noted}
 use Rattle.ncp_embed.specs.declared.told.Phase.{Phase}
-use Rattle.ncp_embed.specs.Commands.{tally_of}
+use Rattle.ncp_embed.specs.Commands.{command_tally_of}
 
 -- in the order in which they are judged
 abbrev pub number_of_message_fault : MessageFault → ℕ
@@ -58,9 +58,9 @@ abbrev pub with_tally : Tally → Arrived → Arrived
 with_tally t arrived = record arrived { errors = t.errors; resets = t.resets }
 
 -- the type that a leader names (BBN 1822, section 3), which of an answer says what became of the message
-abbrev pub kind_of : Result Leader Short → ℕ
-kind_of (Ok leader) = leader.kind
-kind_of (Err short) = 0
+abbrev pub kind_of_leader : Result Leader Short → ℕ
+kind_of_leader (Ok leader) = leader.kind
+kind_of_leader (Err short) = 0
 
 -- in the order in which it is judged; a text with the connection to which its link leads, a control message with its tally
 abbrev pub arrived_of : Option Pair → Result Leader Short → List Bool → Received → Arrived
@@ -68,11 +68,11 @@ arrived_of pair leader bits received.Short = arrival leader 1 0
 arrived_of pair leader bits (received.Other kind) = arrival leader 2 kind
 arrived_of pair leader bits received.Unknown = arrival leader 3 0
 arrived_of pair leader bits received.Stray = arrival leader 4 0
-arrived_of pair leader bits received.Answered = arrival leader 5 (kind_of leader)
+arrived_of pair leader bits received.Answered = arrival leader 5 (kind_of_leader leader)
 arrived_of pair leader bits (received.Fault fault) = arrival leader 6 (number_of_message_fault fault)
 arrived_of pair leader bits received.WrongLink = arrival leader 7 0
 arrived_of pair leader bits received.WrongSize = arrival leader 8 0
-arrived_of pair leader bits (received.Control commands) = with_tally (tally_of bits) (arrival leader 9 commands)
+arrived_of pair leader bits (received.Control commands) = with_tally (command_tally_of bits) (arrival leader 9 commands)
 arrived_of pair leader bits (received.Text took) = led_to pair (arrival leader 10 (number_of_took took))
 arrived_of pair leader bits received.NotUp = arrival leader 11 0
 
@@ -80,11 +80,11 @@ abbrev pub phase_of : Flags → Phase
 phase_of f = record { down = f.down; want = f.want; owe = f.owe; wait = f.wait }
 
 -- no flag is set (NIC 8246, reset: both sides are up once RST and RRP were exchanged)
-abbrev pub is_up : Flags → Bool
-is_up f = not (f.down || f.want || f.owe || f.wait)
+abbrev pub are_flags_up : Flags → Bool
+are_flags_up f = not (f.down || f.want || f.owe || f.wait)
 
-abbrev pub counted_of : Counts → Counted
-counted_of n = record { stray = n.stray; faults = n.faults; wrong_link = n.wrong_link; wrong_size = n.wrong_size; not_up = n.not_up; late = n.late; over = n.over }
+abbrev pub counted_told : Counts → Counted
+counted_told n = record { stray = n.stray; faults = n.faults; wrong_link = n.wrong_link; wrong_size = n.wrong_size; not_up = n.not_up; late = n.late; over = n.over }
 
 abbrev pub discarded_of : Ignored → Discarded
 discarded_of n = record { short_bits = n.short; other = n.other; unknown = n.unknown }
@@ -92,16 +92,16 @@ discarded_of n = record { short_bits = n.short; other = n.other; unknown = n.unk
 abbrev pub noted_of : Error → Noted
 noted_of e = record { code = e.code; bytes = e.bytes }
 
-abbrev pub is_sender : End → Bool
-is_sender Send = true
-is_sender Receive = false
+abbrev pub is_send_end : End → Bool
+is_send_end Send = true
+is_send_end Receive = false
 
-abbrev pub end_of : Bool → End
-end_of sends = if sends then Send else Receive
+abbrev pub end_that_sends : Bool → End
+end_that_sends sends = if sends then Send else Receive
 
 -- both requests are there, and it is not on its way out (NIC 8246, establishment)
-abbrev pub is_open : Record → Bool
-is_open r = r.asked && r.heard && not (r.leaving || r.left)
+abbrev pub is_record_open : Record → Bool
+is_record_open r = r.asked && r.heard && not (r.leaving || r.left)
 
 abbrev pub connection_of : Record → Connection
 connection_of r = record {
@@ -111,7 +111,7 @@ connection_of r = record {
   messages = r.messages;
   link = r.link;
   size = r.size;
-  sends = is_sender r.end;
+  sends = is_send_end r.end;
   asked = r.asked;
   heard = r.heard;
   opened = r.opened;

@@ -3,8 +3,9 @@
 ghost use Rattle.std.specs.Prelude.{◌≡◌, ◌≢◌};
 ghost use Rattle.ncp_model.specs.Peers.{Close, Allocate, Call_back, Interrupt};
 ghost use Rattle.ncp_host.specs.Restarting.{restart_reply, after_restart};
-ghost use Rattle.ncp_host.specs.Calls.{call_reply, after_call, reset_reply, after_reset, echo_reply, after_echo, wake_reply, after_wake};
-ghost use Rattle.ncp_embed.specs.Exports.{pair_of, code_in, host_in};
+ghost use Rattle.ncp_host.specs.Calls.{call_reply, after_call_to, reset_reply, after_reset, echo_reply, after_echo, wake_reply, after_wake};
+ghost use Rattle.ncp_host.specs.Calls.{sockets};
+ghost use Rattle.ncp_embed.specs.Exports.{code_in, host_changed_in};
 
 use crate::codes::{DONE, NO_HOST, code_of};
 use crate::handle::{Handle, put, take};
@@ -15,7 +16,7 @@ use std::alloc::Global;
 #[unsafe(no_mangle)]
 pub extern "C" fn ncp_embed_reset(alloc: Global, handle: &mut Handle, peer: u8) -> u32
     ensures code { result ≡ code_in (reset_reply peer) handle.old.host }
-    ensures host { handle.new.host ≡ host_in (after_reset peer) handle.old.host }
+    ensures host { handle.new.host ≡ host_changed_in (after_reset peer) handle.old.host }
     ensures err { result ≢ DONE → handle.new.host ≡ handle.old.host }
 {
     let Some(mut held) = take(alloc, handle) else {
@@ -37,8 +38,8 @@ pub extern "C" fn ncp_embed_allocate(
     messages: u16,
     bits: u32,
 ) -> u32
-    ensures code { result ≡ code_in (call_reply peer (pair_of local remote) (Allocate messages bits)) handle.old.host }
-    ensures host { handle.new.host ≡ host_in (after_call peer (pair_of local remote) (Allocate messages bits)) handle.old.host }
+    ensures code { result ≡ code_in (call_reply peer (sockets local remote) (Allocate messages bits)) handle.old.host }
+    ensures host { handle.new.host ≡ host_changed_in (after_call_to peer (sockets local remote) (Allocate messages bits)) handle.old.host }
     ensures err { result ≢ DONE → handle.new.host ≡ handle.old.host }
 {
     let Some(mut held) = take(alloc, handle) else {
@@ -62,8 +63,8 @@ pub extern "C" fn ncp_embed_call_back(
     fm: u8,
     fb: u8,
 ) -> u32
-    ensures code { result ≡ code_in (call_reply peer (pair_of local remote) (Call_back fm fb)) handle.old.host }
-    ensures host { handle.new.host ≡ host_in (after_call peer (pair_of local remote) (Call_back fm fb)) handle.old.host }
+    ensures code { result ≡ code_in (call_reply peer (sockets local remote) (Call_back fm fb)) handle.old.host }
+    ensures host { handle.new.host ≡ host_changed_in (after_call_to peer (sockets local remote) (Call_back fm fb)) handle.old.host }
     ensures err { result ≢ DONE → handle.new.host ≡ handle.old.host }
 {
     let Some(mut held) = take(alloc, handle) else {
@@ -83,8 +84,8 @@ pub extern "C" fn ncp_embed_interrupt(
     local: u32,
     remote: u32,
 ) -> u32
-    ensures code { result ≡ code_in (call_reply peer (pair_of local remote) Interrupt) handle.old.host }
-    ensures host { handle.new.host ≡ host_in (after_call peer (pair_of local remote) Interrupt) handle.old.host }
+    ensures code { result ≡ code_in (call_reply peer (sockets local remote) Interrupt) handle.old.host }
+    ensures host { handle.new.host ≡ host_changed_in (after_call_to peer (sockets local remote) Interrupt) handle.old.host }
     ensures err { result ≢ DONE → handle.new.host ≡ handle.old.host }
 {
     let Some(mut held) = take(alloc, handle) else {
@@ -104,8 +105,8 @@ pub extern "C" fn ncp_embed_close(
     local: u32,
     remote: u32,
 ) -> u32
-    ensures code { result ≡ code_in (call_reply peer (pair_of local remote) Close) handle.old.host }
-    ensures host { handle.new.host ≡ host_in (after_call peer (pair_of local remote) Close) handle.old.host }
+    ensures code { result ≡ code_in (call_reply peer (sockets local remote) Close) handle.old.host }
+    ensures host { handle.new.host ≡ host_changed_in (after_call_to peer (sockets local remote) Close) handle.old.host }
     ensures err { result ≢ DONE → handle.new.host ≡ handle.old.host }
 {
     let Some(mut held) = take(alloc, handle) else {
@@ -120,7 +121,7 @@ pub extern "C" fn ncp_embed_close(
 #[unsafe(no_mangle)]
 pub extern "C" fn ncp_embed_echo(alloc: Global, handle: &mut Handle, peer: u8, byte: u8) -> u32
     ensures code { result ≡ code_in (echo_reply peer byte) handle.old.host }
-    ensures host { handle.new.host ≡ host_in (after_echo peer byte) handle.old.host }
+    ensures host { handle.new.host ≡ host_changed_in (after_echo peer byte) handle.old.host }
     ensures err { result ≢ DONE → handle.new.host ≡ handle.old.host }
 {
     let Some(mut held) = take(alloc, handle) else {
@@ -135,7 +136,7 @@ pub extern "C" fn ncp_embed_echo(alloc: Global, handle: &mut Handle, peer: u8, b
 #[unsafe(no_mangle)]
 pub extern "C" fn ncp_embed_wake(alloc: Global, handle: &mut Handle, peer: u8) -> u32
     ensures code { result ≡ code_in (wake_reply peer) handle.old.host }
-    ensures host { handle.new.host ≡ host_in (after_wake peer) handle.old.host }
+    ensures host { handle.new.host ≡ host_changed_in (after_wake peer) handle.old.host }
     ensures err { result ≢ DONE → handle.new.host ≡ handle.old.host }
 {
     let Some(mut held) = take(alloc, handle) else {
@@ -150,7 +151,7 @@ pub extern "C" fn ncp_embed_wake(alloc: Global, handle: &mut Handle, peer: u8) -
 #[unsafe(no_mangle)]
 pub extern "C" fn ncp_embed_restart(alloc: Global, handle: &mut Handle, peer: u8) -> u32
     ensures code { result ≡ code_in (restart_reply peer) handle.old.host }
-    ensures host { handle.new.host ≡ host_in (after_restart peer) handle.old.host }
+    ensures host { handle.new.host ≡ host_changed_in (after_restart peer) handle.old.host }
     ensures err { result ≢ DONE → handle.new.host ≡ handle.old.host }
 {
     let Some(mut held) = take(alloc, handle) else {

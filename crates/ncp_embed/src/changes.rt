@@ -1,7 +1,8 @@
 //! What changed of a connection since it was looked at.
 ghost use Rattle.std.specs.Prelude.{◌≡◌};
-ghost use Rattle.ncp_embed.specs.Exports.{pair_of, code_in, told_in};
-ghost use Rattle.ncp_embed.specs.Changes.{no_connection, no_changes, is_closed_here, asks, is_more_held, is_more_allowed, became, changes_of, ending_of, is_another, changes_anew, changes_since, changes_between, seen_of, reading_of, reading_told};
+ghost use Rattle.ncp_host.specs.Calls.{sockets};
+ghost use Rattle.ncp_embed.specs.Exports.{code_in, formed_in};
+ghost use Rattle.ncp_embed.specs.Changes.{no_connection, no_changes, is_closed_here, peer_asks, is_more_held, is_more_allowed, became, changes_of, ending_of, is_another, changes_anew, changes_since, changes_between, seen_of, connection_read, reading_told};
 
 use crate::codes::{DONE, NO_HOST, fault_code};
 use crate::connection::{Connection, connection_of};
@@ -77,7 +78,7 @@ fn no_changes() -> Changes
 
 // Whether the peer asks, and nothing was asked here.
 fn asks(seen: Connection, now: Connection) -> bool
-    ensures { result ≡ asks seen now }
+    ensures { result ≡ peer_asks seen now }
 {
     now.heard && !(seen.heard || now.asked)
 }
@@ -195,7 +196,7 @@ fn seen_of(now: Option<Connection>) -> Connection
 }
 
 fn reading_of(answer: Result<Record, CallFault>) -> Result<Option<Connection>, CallFault>
-    ensures { result ≡ reading_of answer }
+    ensures { result ≡ connection_read answer }
 {
     match answer {
         Ok(known) => Ok(Some(connection_of(known))),
@@ -219,9 +220,9 @@ pub extern "C" fn ncp_embed_changes(
     out: &mut Changes,
 ) -> u32
     ensures host { handle.new.host ≡ handle.old.host }
-    ensures code { result ≡ code_in (reading_told peer (pair_of local remote)) handle.old.host }
-    ensures changes { out.new ≡ told_in (changes_between seen.old) (reading_told peer (pair_of local remote)) handle.old.host out.old }
-    ensures seen { seen.new ≡ told_in seen_of (reading_told peer (pair_of local remote)) handle.old.host seen.old }
+    ensures code { result ≡ code_in (reading_told peer (sockets local remote)) handle.old.host }
+    ensures changes { out.new ≡ formed_in (changes_between seen.old) (reading_told peer (sockets local remote)) handle.old.host out.old }
+    ensures seen { seen.new ≡ formed_in seen_of (reading_told peer (sockets local remote)) handle.old.host seen.old }
 {
     let Some(held) = take(alloc, handle) else {
         return NO_HOST;

@@ -2,11 +2,11 @@
 ghost use Rattle.std.specs.Prelude.{◌≡◌, ◌%◌, ◌∷◌, [], length, slice_get, Some};
 ghost use Rattle.ncp_numbers.specs.Bytes.{bytes_of};
 ghost use Rattle.ncp_bits.specs.Bits.{read_bytes};
-ghost use Rattle.ncp_control.specs.Texts.{items_of, commands_of};
+ghost use Rattle.ncp_control.specs.Texts.{items_of, commands_among};
 ghost use Rattle.ncp_control.specs.Reading.{commands_in, fault_in};
 ghost use Rattle.ncp_terms.specs.declared.command.TheConstants.{LONGEST_COMMAND};
-ghost use Rattle.ncp_embed.specs.Commands.{is_control, command_of, command_of_message, no_tally, tally_from, tally_of};
-ghost use Rattle.ncp_embed.specs.Exports.{after_bits, any_of, code_if_any, code_of_bits, command_over, size_of_command, with_room};
+ghost use Rattle.ncp_embed.specs.Commands.{is_control_message, command_of, command_of_message, no_tally, command_tally_from, command_tally_of};
+ghost use Rattle.ncp_embed.specs.Exports.{after_bits_read, any_of, code_if_any, code_of_bits, command_over, size_of_command, with_room};
 
 use crate::codes::{DONE, NOTHING, SHORT_BUFFER, bits_code};
 use crate::writing::write_command;
@@ -21,7 +21,7 @@ const CONTROL_SIZE: u8 = 8;
 const CONTROL_LINK: u8 = 0;
 
 fn is_control(message: &Regular<'_>) -> bool
-    ensures { result ≡ is_control message.now }
+    ensures { result ≡ is_control_message message.now }
 {
     let leader = message.leader();
     leader.kind == REGULAR && leader.link == CONTROL_LINK && message.size() == CONTROL_SIZE
@@ -81,7 +81,7 @@ fn no_tally() -> Tally
 }
 
 fn tallied(item: Result<Command, CommandFault>, tally: Tally) -> Tally
-    ensures { result ≡ tally_from tally (commands_of (item ∷ [])) }
+    ensures { result ≡ command_tally_from tally (commands_among (item ∷ [])) }
 {
     match item {
         Ok(Command::Err { .. }) => Tally {
@@ -99,7 +99,7 @@ fn tallied(item: Result<Command, CommandFault>, tally: Tally) -> Tally
 // Of a control text.
 fn tally_at(text: Part<'_>) -> Tally
     requires { length text % 8 ≡ 0 }
-    ensures { result ≡ tally_from no_tally (commands_in (bytes_of text.entry)) }
+    ensures { result ≡ command_tally_from no_tally (commands_in (bytes_of text.entry)) }
 {
     let mut tally = no_tally();
     for item in Commands::new(text) {
@@ -110,7 +110,7 @@ fn tally_at(text: Part<'_>) -> Tally
 
 // Of a control message; none of any other.
 pub(crate) fn tally_in(came: &Bits) -> Tally
-    ensures { result ≡ tally_of came.now }
+    ensures { result ≡ command_tally_of came.now }
 {
     let Ok(message) = read_regular(came) else {
         return no_tally();
@@ -135,8 +135,8 @@ pub extern "C" fn ncp_embed_command(
     size: &mut usize,
 ) -> u32
     ensures code { result ≡ code_of_bits (read_bytes bytes.now bits) (λ came. with_room LONGEST_COMMAND out.old SHORT_BUFFER (code_if_any (command_of_message came place))) }
-    ensures command { out.new ≡ after_bits (read_bytes bytes.now bits) (λ came. with_room LONGEST_COMMAND out.old out.old (any_of command_over (command_of_message came place) out.old)) out.old }
-    ensures size { size.new ≡ after_bits (read_bytes bytes.now bits) (λ came. with_room LONGEST_COMMAND out.old size.old (any_of size_of_command (command_of_message came place) size.old)) size.old }
+    ensures command { out.new ≡ after_bits_read (read_bytes bytes.now bits) (λ came. with_room LONGEST_COMMAND out.old out.old (any_of command_over (command_of_message came place) out.old)) out.old }
+    ensures size { size.new ≡ after_bits_read (read_bytes bytes.now bits) (λ came. with_room LONGEST_COMMAND out.old size.old (any_of size_of_command (command_of_message came place) size.old)) size.old }
 {
     let came = match Bits::from_bytes(bytes, bits) {
         Ok(came) => came,

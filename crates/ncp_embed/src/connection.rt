@@ -1,6 +1,6 @@
 //! What C is told of a connection.
 ghost use Rattle.std.specs.Prelude.{◌≡◌};
-ghost use Rattle.ncp_embed.specs.Told.{connection_of, is_sender};
+ghost use Rattle.ncp_embed.specs.Told.{connection_of, is_send_end};
 
 use ncp_host::{End, Record};
 
@@ -26,7 +26,7 @@ pub struct Connection {
 }
 
 fn is_sender(end: End) -> bool
-    ensures { result ≡ is_sender end }
+    ensures { result ≡ is_send_end end }
 {
     match end {
         End::Send => true,

@@ -19,10 +19,10 @@ ghost use Rattle.ncp_embed.specs.declared.connection.Connection.{Connection};
 ghost use Rattle.ncp_embed.specs.declared.told.Arrived.{Arrived};
 ghost use Rattle.ncp_embed.specs.Changes.{no_connection, no_changes, changes_between, seen_of};
 ghost use Rattle.ncp_terms.specs.declared.command.Command.TheVariants.{Nop, Err as Error, Rst};
-ghost use Rattle.ncp_embed.specs.Commands.{tally_of, tally_from, no_tally};
+ghost use Rattle.ncp_embed.specs.Commands.{command_tally_of, command_tally_from, no_tally};
 ghost use Rattle.ncp_embed.specs.Codes.{code_of, host_code, load_code, subnet_code, bits_code};
-ghost use Rattle.ncp_embed.specs.Names.{number_of, answers, answer_among};
-ghost use Rattle.ncp_embed.specs.Told.{is_up, is_open, arrived_of, arrival, led_to, with_tally, phase_of, counted_of, discarded_of, noted_of, connection_of};
+ghost use Rattle.ncp_embed.specs.Names.{number_of_answer, all_answers, answer_among};
+ghost use Rattle.ncp_embed.specs.Told.{are_flags_up, is_record_open, arrived_of, arrival, led_to, with_tally, phase_of, counted_told, discarded_of, noted_of, connection_of};
 
 use crate::codes::{
     BITS, DONE, LONGEST_MESSAGE, NO_HOST, NO_POINTER, NO_SUBNET, NOTHING, SHORT_BUFFER,
@@ -48,7 +48,7 @@ pub fn codes_are_these()
 
 /// No two answers have one number: the one that is found by the number of an answer is that answer.
 pub fn each_answer_has_a_number_of_its_own()
-    ensures { map (λ answer. answer_among answers (number_of answer)) answers ≡ map Some answers }
+    ensures { map (λ answer. answer_among all_answers (number_of_answer answer)) all_answers ≡ map Some all_answers }
 {}
 
 /// What became of bits, and what is told of it with what their leader names.
@@ -64,7 +64,7 @@ pub fn arrivals_are_told_so()
     ensures more_faults { (p : Option Pair) (l : Result Leader Short) (b : List Bool) → (arrived_of p l b (Received.Fault MessageFault.M2NotZero) ≡ arrival l 6 4) × (arrived_of p l b (Received.Fault MessageFault.TextMissing) ≡ arrival l 6 5) }
     ensures wrong_link { (p : Option Pair) (l : Result Leader Short) (b : List Bool) → arrived_of p l b Received.WrongLink ≡ arrival l 7 0 }
     ensures wrong_size { (p : Option Pair) (l : Result Leader Short) (b : List Bool) → arrived_of p l b Received.WrongSize ≡ arrival l 8 0 }
-    ensures control { (p : Option Pair) (l : Result Leader Short) (b : List Bool) → arrived_of p l b (Received.Control 3) ≡ with_tally (tally_of b) (arrival l 9 3) }
+    ensures control { (p : Option Pair) (l : Result Leader Short) (b : List Bool) → arrived_of p l b (Received.Control 3) ≡ with_tally (command_tally_of b) (arrival l 9 3) }
     ensures admitted { (p : Option Pair) (l : Result Leader Short) (b : List Bool) → arrived_of p l b (Received.Text Took.Admitted) ≡ led_to p (arrival l 10 1) }
     ensures led { (a : Arrived) → (led_to None a ≡ a) × (led_to (Some (record { local = 2; remote = 3 })) a ≡ record a { local = 2; remote = 3 }) }
     ensures late { (p : Option Pair) (l : Result Leader Short) (b : List Bool) → arrived_of p l b (Received.Text Took.Late) ≡ led_to p (arrival l 10 2) }
@@ -82,13 +82,13 @@ pub fn types_are_told_so()
 
 /// How many ERRs and RSTs are among three commands.
 pub fn tallies_are_these()
-    ensures counted { (bytes : List ℕ) → tally_from no_tally (Rst ∷ Error 1 bytes ∷ Nop ∷ Error 2 bytes ∷ []) ≡ record { errors = 2; resets = 1 } }
-    ensures none { tally_from no_tally [] ≡ record { errors = 0; resets = 0 } }
+    ensures counted { (bytes : List ℕ) → command_tally_from no_tally (Rst ∷ Error 1 bytes ∷ Nop ∷ Error 2 bytes ∷ []) ≡ record { errors = 2; resets = 1 } }
+    ensures none { command_tally_from no_tally [] ≡ record { errors = 0; resets = 0 } }
 {}
 
 /// What is counted, with all counts different, and an ERR.
 pub fn counts_are_told_so()
-    ensures counted { counted_of (record { stray = 1; faults = 2; wrong_link = 3; wrong_size = 4; not_up = 5; late = 6; over = 7 }) ≡ record { stray = 1; faults = 2; wrong_link = 3; wrong_size = 4; not_up = 5; late = 6; over = 7 } }
+    ensures counted { counted_told (record { stray = 1; faults = 2; wrong_link = 3; wrong_size = 4; not_up = 5; late = 6; over = 7 }) ≡ record { stray = 1; faults = 2; wrong_link = 3; wrong_size = 4; not_up = 5; late = 6; over = 7 } }
     ensures discarded { discarded_of (record { short = 1; other = 2; unknown = 3 }) ≡ record { short_bits = 1; other = 2; unknown = 3 } }
     ensures noted { noted_of (record { code = 5; bytes = replicate 10 6 }) ≡ record { code = 5; bytes = replicate 10 6 } }
 {}
@@ -103,10 +103,10 @@ pub fn flags_are_told_so()
 
 /// A host is up where no flag is set, and a connection is open until this side begins to close it.
 pub fn up_and_open_mean_this()
-    ensures up { is_up (record { down = false; want = false; owe = false; wait = false }) ≡ true }
-    ensures not_up { (is_up (record { down = true; want = false; owe = false; wait = false }) ≡ false) × (is_up (record { down = false; want = true; owe = false; wait = false }) ≡ false) × (is_up (record { down = false; want = false; owe = true; wait = false }) ≡ false) × (is_up (record { down = false; want = false; owe = false; wait = true }) ≡ false) }
-    ensures asked { (r : Record) → is_open r ≡ true → (r.asked ≡ true) × (r.heard ≡ true) }
-    ensures stays { (r : Record) → is_open r ≡ true → (r.leaving ≡ false) × (r.left ≡ false) }
+    ensures up { are_flags_up (record { down = false; want = false; owe = false; wait = false }) ≡ true }
+    ensures not_up { (are_flags_up (record { down = true; want = false; owe = false; wait = false }) ≡ false) × (are_flags_up (record { down = false; want = true; owe = false; wait = false }) ≡ false) × (are_flags_up (record { down = false; want = false; owe = true; wait = false }) ≡ false) × (are_flags_up (record { down = false; want = false; owe = false; wait = true }) ≡ false) }
+    ensures asked { (r : Record) → is_record_open r ≡ true → (r.asked ≡ true) × (r.heard ≡ true) }
+    ensures stays { (r : Record) → is_record_open r ≡ true → (r.leaving ≡ false) × (r.left ≡ false) }
 {}
 
 /// A connection: its numbers, its end, and each flag as itself.

@@ -1,6 +1,6 @@
 //! The names of what the functions answer.
 ghost use Rattle.std.specs.Prelude.{◌≡◌, length};
-ghost use Rattle.ncp_embed.specs.Names.{number_of, name_of, name_of_new, name_of_load, name_of_subnet, name_of_bits, answer_among, answers, name_code, name_over, size_of_name};
+ghost use Rattle.ncp_embed.specs.Names.{number_of_answer, name_of_answer, name_of_new, name_of_load, name_of_subnet, name_of_bits, answer_among, all_answers, name_code, name_over, size_of_name};
 
 use crate::codes::{
     DONE, NO_HOST, NO_POINTER, NO_SUBNET, NOTHING, SHORT_BUFFER, bits_code, host_code, load_code,
@@ -106,7 +106,7 @@ fn name_of_bits(fault: BitsFault) -> &'static str
 
 impl Answer {
     fn number(self) -> u32
-        ensures { result ≡ number_of self }
+        ensures { result ≡ number_of_answer self }
     {
         match self {
             Answer::Done => DONE,
@@ -124,7 +124,7 @@ impl Answer {
     }
 
     fn name(self) -> &'static str
-        ensures { result.now ≡ name_of self }
+        ensures { result.now ≡ name_of_answer self }
     {
         match self {
             Answer::Done => "Done",
@@ -178,9 +178,9 @@ fn write_name(answer: Option<Answer>, out: &mut [u8], bytes: &mut usize) -> u32
 /// The name of what a function answered. `NOTHING` where none answers that number.
 #[unsafe(no_mangle)]
 pub extern "C" fn ncp_embed_name(code: u32, out: &mut [u8], bytes: &mut usize) -> u32
-    ensures code { result ≡ name_code (answer_among answers code) out.old }
-    ensures name { out.new ≡ name_over (answer_among answers code) out.old }
-    ensures bytes { bytes.new ≡ size_of_name (answer_among answers code) out.old bytes.old }
+    ensures code { result ≡ name_code (answer_among all_answers code) out.old }
+    ensures name { out.new ≡ name_over (answer_among all_answers code) out.old }
+    ensures bytes { bytes.new ≡ size_of_name (answer_among all_answers code) out.old bytes.old }
 {
     write_name(answer_among(&ANSWERS, code), out, bytes)
 }

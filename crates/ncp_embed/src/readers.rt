@@ -4,8 +4,9 @@ ghost use Rattle.std.specs.Prelude.{◌≡◌, Ok};
 ghost use Rattle.ncp_terms.specs.declared.command.TheConstants.{LONGEST_COMMAND};
 ghost use Rattle.ncp_host.specs.Host.{state_of};
 ghost use Rattle.ncp_host.specs.Calls.{record_told, flags_told, echoed_told, counts_told, waiting_at, kept_for};
-ghost use Rattle.ncp_embed.specs.Told.{connection_of, phase_of, is_open, is_up, counted_of, discarded_of, noted_of};
-ghost use Rattle.ncp_embed.specs.Exports.{pair_of, code_in, told_in, any_code_in, any_in, with_room, message_over, size_of_message, command_over, size_of_command, ignored_told, found_code_in, found_in, error_told, holds_in};
+ghost use Rattle.ncp_embed.specs.Told.{connection_of, phase_of, is_record_open, are_flags_up, counted_told, discarded_of, noted_of};
+ghost use Rattle.ncp_host.specs.Calls.{sockets};
+ghost use Rattle.ncp_embed.specs.Exports.{code_in, formed_in, any_code_in, any_in, with_room, message_over, size_of_message, command_over, size_of_command, ignored_told, found_code_in, found_formed_in, error_told, holds_in};
 
 use crate::codes::{DONE, LONGEST_MESSAGE, NO_HOST, NOTHING, SHORT_BUFFER, fault_code};
 use crate::connection::{Connection, connection_of};
@@ -28,8 +29,8 @@ pub extern "C" fn ncp_embed_state(
     out: &mut Connection,
 ) -> u32
     ensures host { handle.new.host ≡ handle.old.host }
-    ensures code { result ≡ code_in (record_told peer (pair_of local remote)) handle.old.host }
-    ensures told { out.new ≡ told_in connection_of (record_told peer (pair_of local remote)) handle.old.host out.old }
+    ensures code { result ≡ code_in (record_told peer (sockets local remote)) handle.old.host }
+    ensures told { out.new ≡ formed_in connection_of (record_told peer (sockets local remote)) handle.old.host out.old }
 {
     let Some(held) = take(alloc, handle) else {
         return NO_HOST;
@@ -55,7 +56,7 @@ pub extern "C" fn ncp_embed_phase(
 ) -> u32
     ensures host { handle.new.host ≡ handle.old.host }
     ensures code { result ≡ code_in (flags_told peer) handle.old.host }
-    ensures told { out.new ≡ told_in phase_of (flags_told peer) handle.old.host out.old }
+    ensures told { out.new ≡ formed_in phase_of (flags_told peer) handle.old.host out.old }
 {
     let Some(held) = take(alloc, handle) else {
         return NO_HOST;
@@ -82,7 +83,7 @@ pub extern "C" fn ncp_embed_is_open(
     remote: u32,
 ) -> bool
     ensures host { handle.new.host ≡ handle.old.host }
-    ensures open { result ≡ holds_in is_open (record_told peer (pair_of local remote)) handle.old.host }
+    ensures open { result ≡ holds_in is_record_open (record_told peer (sockets local remote)) handle.old.host }
 {
     let Some(held) = take(alloc, handle) else {
         return false;
@@ -99,7 +100,7 @@ pub extern "C" fn ncp_embed_is_open(
 #[unsafe(no_mangle)]
 pub extern "C" fn ncp_embed_is_up(alloc: Global, handle: &mut Handle, peer: u8) -> bool
     ensures host { handle.new.host ≡ handle.old.host }
-    ensures up { result ≡ holds_in is_up (flags_told peer) handle.old.host }
+    ensures up { result ≡ holds_in are_flags_up (flags_told peer) handle.old.host }
 {
     let Some(held) = take(alloc, handle) else {
         return false;
@@ -122,7 +123,7 @@ pub extern "C" fn ncp_embed_counts(
 ) -> u32
     ensures host { handle.new.host ≡ handle.old.host }
     ensures code { result ≡ code_in (counts_told peer) handle.old.host }
-    ensures told { out.new ≡ told_in counted_of (counts_told peer) handle.old.host out.old }
+    ensures told { out.new ≡ formed_in counted_told (counts_told peer) handle.old.host out.old }
 {
     let Some(held) = take(alloc, handle) else {
         return NO_HOST;
@@ -143,7 +144,7 @@ pub extern "C" fn ncp_embed_counts(
 pub extern "C" fn ncp_embed_ignored(alloc: Global, handle: &mut Handle, out: &mut Discarded) -> u32
     ensures host { handle.new.host ≡ handle.old.host }
     ensures code { result ≡ code_in ignored_told handle.old.host }
-    ensures told { out.new ≡ told_in discarded_of ignored_told handle.old.host out.old }
+    ensures told { out.new ≡ formed_in discarded_of ignored_told handle.old.host out.old }
 {
     let Some(held) = take(alloc, handle) else {
         return NO_HOST;
@@ -234,7 +235,7 @@ pub extern "C" fn ncp_embed_echoed(
 ) -> u32
     ensures host { handle.new.host ≡ handle.old.host }
     ensures code { result ≡ found_code_in (echoed_told peer) handle.old.host }
-    ensures told { byte.new ≡ found_in (λ b. b) (echoed_told peer) handle.old.host byte.old }
+    ensures told { byte.new ≡ found_formed_in (λ b. b) (echoed_told peer) handle.old.host byte.old }
 {
     let Some(held) = take(alloc, handle) else {
         return NO_HOST;
@@ -263,7 +264,7 @@ pub extern "C" fn ncp_embed_error(
 ) -> u32
     ensures host { handle.new.host ≡ handle.old.host }
     ensures code { result ≡ found_code_in (error_told peer place) handle.old.host }
-    ensures told { out.new ≡ found_in noted_of (error_told peer place) handle.old.host out.old }
+    ensures told { out.new ≡ found_formed_in noted_of (error_told peer place) handle.old.host out.old }
 {
     let Some(held) = take(alloc, handle) else {
         return NO_HOST;

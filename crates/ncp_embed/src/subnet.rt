@@ -7,7 +7,7 @@ ghost use Rattle.ncp_subnet.specs.Subnet.{new_subnet};
 ghost use Rattle.ncp_host.specs.declared.fault.HostFault.TheVariants.{OutOfMemory};
 ghost use Rattle.ncp_embed.specs.Codes.{host_code};
 ghost use Rattle.ncp_embed.specs.Exports.{with_room, message_over, size_of_message};
-ghost use Rattle.ncp_embed.specs.SubnetExports.{carried, Accepts, coming_in, after_coming, answer_in, after_answer, is_under_way, after_loss, after_death, changed_in, holds_code_in, code_in_net, found_over};
+ghost use Rattle.ncp_embed.specs.SubnetExports.{subnet_carried, Accepts, coming_in, after_coming, answer_in_transit, subnet_after_answer, is_under_way, after_loss, after_death, changed_in, holds_code_in, code_in_net, found_over};
 
 use crate::codes::{
     DONE, LONGEST_MESSAGE, NO_SUBNET, NOTHING, SHORT_BUFFER, bits_code, host_code, subnet_code,
@@ -22,7 +22,7 @@ use std::alloc::Global;
 /// `Subnet::among`, in the place of the subnet that the net had.
 #[unsafe(no_mangle)]
 pub extern "C" fn ncp_embed_subnet_new(alloc: Global, net: &mut Net, hosts: &[u8]) -> u32
-    ensures made { result ≡ DONE → net.new.subnet ≡ Some (carried (new_subnet hosts.now)) }
+    ensures made { result ≡ DONE → net.new.subnet ≡ Some (subnet_carried (new_subnet hosts.now)) }
     ensures kept { result ≢ DONE → net.new.subnet ≡ net.old.subnet }
     ensures either { (result ≡ DONE) ⊎ (result ≡ host_code OutOfMemory) }
 {
@@ -167,10 +167,10 @@ pub extern "C" fn ncp_embed_subnet_answer(
     out: &mut [u8],
     bits: &mut usize,
 ) -> u32
-    ensures code { result ≡ with_room LONGEST_MESSAGE out.old SHORT_BUFFER (code_in_net (answer_in from to link) net.old.subnet) }
-    ensures subnet { net.new.subnet ≡ with_room LONGEST_MESSAGE out.old net.old.subnet (changed_in (after_answer from to link) net.old.subnet) }
-    ensures message { out.new ≡ with_room LONGEST_MESSAGE out.old out.old (found_over message_over (answer_in from to link) net.old.subnet out.old) }
-    ensures bits { bits.new ≡ with_room LONGEST_MESSAGE out.old bits.old (found_over size_of_message (answer_in from to link) net.old.subnet bits.old) }
+    ensures code { result ≡ with_room LONGEST_MESSAGE out.old SHORT_BUFFER (code_in_net (answer_in_transit from to link) net.old.subnet) }
+    ensures subnet { net.new.subnet ≡ with_room LONGEST_MESSAGE out.old net.old.subnet (changed_in (subnet_after_answer from to link) net.old.subnet) }
+    ensures message { out.new ≡ with_room LONGEST_MESSAGE out.old out.old (found_over message_over (answer_in_transit from to link) net.old.subnet out.old) }
+    ensures bits { bits.new ≡ with_room LONGEST_MESSAGE out.old bits.old (found_over size_of_message (answer_in_transit from to link) net.old.subnet bits.old) }
     ensures err { result ≢ DONE → net.new.subnet ≡ net.old.subnet }
 {
     if out.len() < LONGEST_MESSAGE {

@@ -1,6 +1,6 @@
 //! What C is told, as structs of numbers.
 ghost use Rattle.std.specs.Prelude.{◌≡◌};
-ghost use Rattle.ncp_embed.specs.Told.{arrived_of, arrival, led_to, with_tally, kind_of, number_of_took, number_of_message_fault, phase_of, counted_of, discarded_of, noted_of};
+ghost use Rattle.ncp_embed.specs.Told.{arrived_of, arrival, led_to, with_tally, kind_of_leader, number_of_took, number_of_message_fault, phase_of, counted_told, discarded_of, noted_of};
 
 use crate::commands::{Tally, tally_in};
 use ncp_bits::Bits;
@@ -156,7 +156,7 @@ fn with_tally(tally: Tally, arrived: Arrived) -> Arrived
 
 // The type that a leader names.
 fn kind_of(leader: Result<Leader, Short>) -> u32
-    ensures { result ≡ kind_of leader }
+    ensures { result ≡ kind_of_leader leader }
 {
     match leader {
         Ok(leader) => u32::from(leader.kind),
@@ -199,7 +199,7 @@ pub(crate) fn phase_of(flags: Flags) -> Phase
 }
 
 pub(crate) fn counted_of(counts: Counts) -> Counted
-    ensures { result ≡ counted_of counts }
+    ensures { result ≡ counted_told counts }
 {
     Counted {
         stray: counts.stray,

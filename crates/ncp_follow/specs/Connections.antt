@@ -8,9 +8,9 @@ use Rattle.ncp_follow.specs.declared.connection.End.TheVariants.{Open}
 use Rattle.ncp_follow.specs.Amounts.{nothing, with_more}
 use Rattle.ncp_follow.specs.Lives.{new_life}
 
-abbrev pub number_in : Option ℕ → ℕ
-number_in None = 0
-number_in (Some number) = number
+abbrev pub number_or_zero : Option ℕ → ℕ
+number_or_zero None = 0
+number_or_zero (Some number) = number
 
 -- one with this number, opened by this record
 abbrev pub opened_as : ℕ → ℕ → Life → Connection
@@ -20,8 +20,8 @@ opened_as number opened life = record {
   peer = life.peer;
   local = life.local;
   remote = life.remote;
-  link = number_in life.link;
-  size = number_in life.size;
+  link = number_or_zero life.link;
+  size = number_or_zero life.size;
   opened = opened;
   ended = None;
   end = Open;
@@ -36,8 +36,8 @@ opened_as number opened life = record {
 abbrev pub text_with : List Bool → List Bool → List Bool
 text_with text more = text ++ take (MAX_BITS - length text) more
 
-abbrev pub with_text : Connection → List Bool → Connection
-with_text connection text = record connection { said = with_more connection.said 1 (length text); text = text_with connection.text text }
+abbrev pub connection_with_text : Connection → List Bool → Connection
+connection_with_text connection text = record connection { said = with_more connection.said 1 (length text); text = text_with connection.text text }
 
 -- as if nothing was said on it so far
 abbrev pub without_text : Connection → Connection
@@ -53,8 +53,8 @@ with_granted connection messages bits = record connection { granted = with_more 
 abbrev pub with_returned : Connection → ℕ → ℕ → Connection
 with_returned connection messages bits = record connection { returned = with_more connection.returned messages bits }
 
-abbrev pub with_end : Connection → End → Option ℕ → Connection
-with_end connection end ended = record connection { end = end; ended = ended }
+abbrev pub connection_with_end : Connection → End → Option ℕ → Connection
+connection_with_end connection end ended = record connection { end = end; ended = ended }
 
 -- ---- in a row, in the order in which they were opened
 
@@ -62,17 +62,17 @@ abbrev pub told_at : List Connection → ℕ → Connection
 told_at told place = get_or told place (opened_as 0 0 (new_life 0 0 0 0))
 
 -- with another connection at a place, if one is there
-abbrev pub put_told : List Connection → ℕ → Connection → List Connection
-put_told told place connection = if nat_lt place (length told) then slice_set told place connection else told
+abbrev pub with_told_at : List Connection → ℕ → Connection → List Connection
+with_told_at told place connection = if nat_lt place (length told) then slice_set told place connection else told
 
-abbrev pub end_told : List Connection → Option ℕ → End → Option ℕ → List Connection
-end_told told None end ended = told
-end_told told (Some place) end ended = put_told told place (with_end (told_at told place) end ended)
+abbrev pub with_end_told : List Connection → Option ℕ → End → Option ℕ → List Connection
+with_end_told told None end ended = told
+with_end_told told (Some place) end ended = with_told_at told place (connection_with_end (told_at told place) end ended)
 
 -- ---- by their numbers, which are counted from 1 on
 
-abbrev pub place_of : ℕ → Option ℕ
-place_of number = if number == 0 then None else Some (number - 1)
+abbrev pub place_numbered : ℕ → Option ℕ
+place_numbered number = if number == 0 then None else Some (number - 1)
 
 -- the one at a place, if there is one
 abbrev pub numbered : List Connection → Option ℕ → Option Connection
@@ -80,11 +80,11 @@ numbered told None = None
 numbered told (Some place) = slice_get told place
 
 -- the text of it: where there is none, no bit
-abbrev pub text_in : Option Connection → List Bool
-text_in None = []
-text_in (Some connection) = connection.text
+abbrev pub connection_text : Option Connection → List Bool
+connection_text None = []
+connection_text (Some connection) = connection.text
 
 -- with the one at a place as if nothing was said on it so far
 abbrev pub silent_at : List Connection → Option ℕ → List Connection
 silent_at told None = told
-silent_at told (Some place) = put_told told place (without_text (told_at told place))
+silent_at told (Some place) = with_told_at told place (without_text (told_at told place))

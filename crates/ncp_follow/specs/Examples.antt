@@ -6,57 +6,57 @@ use Rattle.ncp_terms.specs.declared.fault.CommandFault.{CommandFault}
 use Rattle.ncp_follow.specs.declared.session.Session.{Session}
 use Rattle.ncp_follow.specs.declared.tables.Tables.{Tables}
 use Rattle.ncp_follow.specs.declared.turn.Turn.{Turn}
-use Rattle.ncp_follow.specs.Sessions.{new_session, after_reset, after_reply}
+use Rattle.ncp_follow.specs.Sessions.{new_session, session_after_reset, session_after_reply}
 use Rattle.ncp_follow.specs.Followed.{tables_after_all, text_tables}
 
 -- a message of host 1, and one of host 2, with the number of its record
-abbrev pub goes_out : ℕ → Turn
-goes_out number = record { number = number; at = 1; peer = 2; sent = true }
+abbrev pub turn_out : ℕ → Turn
+turn_out number = record { number = number; at = 1; peer = 2; sent = true }
 
-abbrev pub comes : ℕ → Turn
-comes number = record { number = number; at = 1; peer = 2; sent = false }
+abbrev pub turn_in : ℕ → Turn
+turn_in number = record { number = number; at = 1; peer = 2; sent = false }
 
 -- host 2 reset host 1, which answered
 abbrev pub in_touch : Session
-in_touch = after_reply (after_reset (new_session false 1 2) false) true
+in_touch = session_after_reply (session_after_reset (new_session false 1 2) false) true
 
-abbrev pub sends : ℕ → List Command → Tables → Tables
-sends number commands tables = tables_after_all (goes_out number) (map Ok commands) in_touch tables
+abbrev pub tables_send : ℕ → List Command → Tables → Tables
+tables_send number commands tables = tables_after_all (turn_out number) (map Ok commands) in_touch tables
 
-abbrev pub hears : ℕ → List Command → Tables → Tables
-hears number commands tables = tables_after_all (comes number) (map Ok commands) in_touch tables
+abbrev pub tables_hear : ℕ → List Command → Tables → Tables
+tables_hear number commands tables = tables_after_all (turn_in number) (map Ok commands) in_touch tables
 
 -- a text of so many bits that are set, in bytes of a size, goes out, or comes
 abbrev pub says : ℕ → ℕ → ℕ → ℕ → Tables → Tables
-says number link size bits tables = text_tables (goes_out number) link size (replicate bits true) in_touch tables
+says number link size bits tables = text_tables (turn_out number) link size (replicate bits true) in_touch tables
 
-abbrev pub is_told : ℕ → ℕ → ℕ → ℕ → Tables → Tables
-is_told number link size bits tables = text_tables (comes number) link size (replicate bits true) in_touch tables
+abbrev pub tables_after_text : ℕ → ℕ → ℕ → ℕ → Tables → Tables
+tables_after_text number link size bits tables = text_tables (turn_in number) link size (replicate bits true) in_touch tables
 
 abbrev pub no_tables : Tables
 no_tables = record { lives = []; told = [] }
 
 -- socket 3 of host 1 sends to socket 2 of host 2
 abbrev pub as_sender : Tables
-as_sender = hears 6 (Rts 2 3 2 ∷ []) (sends 4 (Str 3 2 8 ∷ []) no_tables)
+as_sender = tables_hear 6 (Rts 2 3 2 ∷ []) (tables_send 4 (Str 3 2 8 ∷ []) no_tables)
 
 -- more is said than was allocated, in bytes of another size, and some is returned
 abbrev pub overdrawn : Tables
 overdrawn =
-    sends 16 (Ret 2 2 8 ∷ []) (hears 15 (Gvb 2 64 1 ∷ []) (hears 14 (Allocate 2 5 1000 ∷ [])
-    (says 12 2 8 16 (says 10 2 7 56 (hears 9 (Allocate 2 2 16 ∷ []) as_sender)))))
+    tables_send 16 (Ret 2 2 8 ∷ []) (tables_hear 15 (Gvb 2 64 1 ∷ []) (tables_hear 14 (Allocate 2 5 1000 ∷ [])
+    (says 12 2 8 16 (says 10 2 7 56 (tables_hear 9 (Allocate 2 2 16 ∷ []) as_sender)))))
 
 -- a text is said, for which and for one more there is allocation
 abbrev pub spoken : Tables
-spoken = says 8 2 8 8 (hears 7 (Allocate 2 2 16 ∷ []) as_sender)
+spoken = says 8 2 8 8 (tables_hear 7 (Allocate 2 2 16 ∷ []) as_sender)
 
 -- the sender leaves after a text, and socket 4 of host 1 receives from socket 5 of host 2
 abbrev pub left : Tables
 left =
-    hears 22 (Ret 2 65535 17 ∷ []) (sends 18 (Allocate 2 1 8 ∷ []) (sends 16 (Allocate 2 65535 8 ∷ []) (hears 15 (Str 5 4 8 ∷ []) (sends 13 (Rts 4 5 2 ∷ [])
-    (sends 11 (Ins 2 ∷ []) (sends 9 (Cls 3 2 ∷ []) spoken))))))
+    tables_hear 22 (Ret 2 65535 17 ∷ []) (tables_send 18 (Allocate 2 1 8 ∷ []) (tables_send 16 (Allocate 2 65535 8 ∷ []) (tables_hear 15 (Str 5 4 8 ∷ []) (tables_send 13 (Rts 4 5 2 ∷ [])
+    (tables_send 11 (Ins 2 ∷ []) (tables_send 9 (Cls 3 2 ∷ []) spoken))))))
 
 -- host 1 receives, and leaves before a text comes
 abbrev pub crossed : Tables
 crossed =
-    hears 22 (Cls 3 2 ∷ []) (is_told 21 2 8 16 (sends 20 (Cls 2 3 ∷ []) (sends 12 (Allocate 2 2 16 ∷ []) (hears 11 (Str 3 2 8 ∷ []) (sends 10 (Rts 2 3 2 ∷ []) no_tables)))))
+    tables_hear 22 (Cls 3 2 ∷ []) (tables_after_text 21 2 8 16 (tables_send 20 (Cls 2 3 ∷ []) (tables_send 12 (Allocate 2 2 16 ∷ []) (tables_hear 11 (Str 3 2 8 ∷ []) (tables_send 10 (Rts 2 3 2 ∷ []) no_tables)))))

@@ -21,9 +21,9 @@ use Rattle.ncp_follow.specs.declared.session.Session.{Session}
 use Rattle.ncp_follow.specs.declared.tables.Tables.{Tables}
 use Rattle.ncp_follow.specs.declared.turn.Turn.{Turn}
 use Rattle.ncp_follow.specs.declared.follower.Follower.{Follower}
-use Rattle.ncp_follow.specs.Sessions.{is_heard, after_reset, after_reply, with_stray, session_of, with_session}
-use Rattle.ncp_follow.specs.Connections.{place_of, silent_at}
-use Rattle.ncp_follow.specs.Slots.{place_on, is_repeat, with_out, with_answer}
+use Rattle.ncp_follow.specs.Sessions.{is_heard, session_after_reset, session_after_reply, with_stray, session_of, with_session}
+use Rattle.ncp_follow.specs.Connections.{place_numbered, silent_at}
+use Rattle.ncp_follow.specs.Slots.{place_on, is_repeat, outs_with_message, outs_with_answer}
 use Rattle.ncp_follow.specs.Tables.{after_asking, after_close, after_grant, after_return, after_text, belongs, after_clearing}
 
 -- ---- items of a control text
@@ -76,8 +76,8 @@ tables_after turn (Ok (Err code bytes)) session tables = heard_after turn (Err c
 -- and to the session
 abbrev pub session_after : Turn → Result Command CommandFault → Session → Session
 session_after turn (Fault fault) session = session
-session_after turn (Ok Rst) session = after_reset session turn.sent
-session_after turn (Ok Rrp) session = after_reply session turn.sent
+session_after turn (Ok Rst) session = session_after_reset session turn.sent
+session_after turn (Ok Rrp) session = session_after_reply session turn.sent
 session_after turn (Ok Nop) session = session
 session_after turn (Ok (Rts receive send link)) session = session
 session_after turn (Ok (Str send receive size)) session = session
@@ -106,20 +106,20 @@ items_said text = items_of (commands_in (bytes_of text)) (fault_in (bytes_of tex
 
 -- ---- texts
 
-abbrev pub is_told : Turn → ℕ → Session → Tables → Bool
-is_told turn link session tables = is_heard session turn.sent && belongs turn link tables
+abbrev pub is_text_told : Turn → ℕ → Session → Tables → Bool
+is_text_told turn link session tables = is_heard session turn.sent && belongs turn link tables
 
 abbrev pub text_tables : Turn → ℕ → ℕ → List Bool → Session → Tables → Tables
 text_tables turn link size text session tables = if is_heard session turn.sent then after_text turn link size text tables else tables
 
 abbrev pub text_session : Turn → ℕ → List Bool → Session → Tables → Session
-text_session turn link text session tables = if is_told turn link session tables then session else with_stray session turn.sent (length text)
+text_session turn link text session tables = if is_text_told turn link session tables then session else with_stray session turn.sent (length text)
 
 -- ---- messages
 
 -- link 0 with bytes of eight bits carries control, the links of connections carry texts
-abbrev pub reading_of : Message → Reading
-reading_of message =
+abbrev pub followed_reading : Message → Reading
+followed_reading message =
     if message.leader.link == 0 then if message.size == 8 then read.Control else read.Nothing
     else if nat_le 2 message.leader.link && nat_le message.leader.link 71 then read.Text
     else read.Nothing
@@ -134,52 +134,52 @@ read_tables read.Nothing turn message session tables = tables
 read_tables read.Text turn message session tables = text_tables turn message.leader.link message.size message.text session tables
 read_tables read.Control turn message session tables = tables_after_all turn (items_said message.text) session tables
 
-abbrev pub after_regular : Turn → Message → Follower → Follower
-after_regular turn message follower =
+abbrev pub follower_after_regular : Turn → Message → Follower → Follower
+follower_after_regular turn message follower =
     let session = session_of follower.part follower.sessions turn.at turn.peer in
     record follower {
-      sessions = with_session follower.sessions (read_session (reading_of message) turn message session follower.tables);
-      tables = read_tables (reading_of message) turn message session follower.tables;
+      sessions = with_session follower.sessions (read_session (followed_reading message) turn message session follower.tables);
+      tables = read_tables (followed_reading message) turn message session follower.tables;
     }
 
-abbrev pub after_said : Turn → Result Message MessageFault → Follower → Follower
-after_said turn (Ok message) follower = after_regular turn message follower
-after_said turn (Fault fault) follower = follower
+abbrev pub follower_after_said : Turn → Result Message MessageFault → Follower → Follower
+follower_after_said turn (Ok message) follower = follower_after_regular turn message follower
+follower_after_said turn (Fault fault) follower = follower
 
 -- ---- records
 
 -- a message that goes out again says nothing new
-abbrev pub after_out : ℕ → ℕ → ℕ → ℕ → List Bool → Follower → Follower
-after_out number at peer link bits follower =
-    let after = record follower { outs = with_out follower.outs at peer link bits } in
+abbrev pub follower_after_out : ℕ → ℕ → ℕ → ℕ → List Bool → Follower → Follower
+follower_after_out number at peer link bits follower =
+    let after = record follower { outs = outs_with_message follower.outs at peer link bits } in
     if is_repeat follower.outs (place_on at peer link follower.outs) bits then after
-    else after_said (record { number = number; at = at; peer = peer; sent = true }) (message_in bits) after
+    else follower_after_said (record { number = number; at = at; peer = peer; sent = true }) (message_in bits) after
 
-abbrev pub after_in : ℕ → ℕ → ℕ → List Bool → Follower → Follower
-after_in number at peer bits follower = after_said (record { number = number; at = at; peer = peer; sent = false }) (message_in bits) follower
+abbrev pub follower_after_in : ℕ → ℕ → ℕ → List Bool → Follower → Follower
+follower_after_in number at peer bits follower = follower_after_said (record { number = number; at = at; peer = peer; sent = false }) (message_in bits) follower
 
 -- Ready For Next Message says that a message came, Destination Dead and Incomplete Transmission that it did not
 abbrev pub is_answer : ℕ → Bool
 is_answer kind = kind == 5 || kind == 7 || kind == 9
 
-abbrev pub after_answer : ℕ → ℕ → ℕ → ℕ → Follower → Follower
-after_answer at peer link kind follower = record follower { outs = with_answer follower.outs at peer link (kind == 5) }
+abbrev pub follower_after_answer : ℕ → ℕ → ℕ → ℕ → Follower → Follower
+follower_after_answer at peer link kind follower = record follower { outs = outs_with_answer follower.outs at peer link (kind == 5) }
 
 abbrev pub after_leader : ℕ → Bool → ℕ → Leader → List Bool → Follower → Follower
 after_leader number sent at leader bits follower =
     if leader.host == at then follower
     else if leader.kind == 0 then
-    if sent then after_out number at leader.host leader.link bits follower else after_in number at leader.host bits follower
-    else if not sent && is_answer leader.kind then after_answer at leader.host leader.link leader.kind follower
+    if sent then follower_after_out number at leader.host leader.link bits follower else follower_after_in number at leader.host bits follower
+    else if not sent && is_answer leader.kind then follower_after_answer at leader.host leader.link leader.kind follower
     else follower
 
-abbrev pub after_read : ℕ → Bool → ℕ → Result Leader Short → List Bool → Follower → Follower
-after_read number sent at (Ok leader) bits follower = after_leader number sent at leader bits follower
-after_read number sent at (Fault short) bits follower = follower
+abbrev pub follower_after_read : ℕ → Bool → ℕ → Result Leader Short → List Bool → Follower → Follower
+follower_after_read number sent at (Ok leader) bits follower = after_leader number sent at leader bits follower
+follower_after_read number sent at (Fault short) bits follower = follower
 
 -- a record with this number: a message that went out of a host, or came to it
-abbrev pub after_record : ℕ → Bool → ℕ → List Bool → Follower → Follower
-after_record number sent at bits follower = after_read number sent at (leader_in bits) bits follower
+abbrev pub follower_after_record : ℕ → Bool → ℕ → List Bool → Follower → Follower
+follower_after_record number sent at bits follower = follower_after_read number sent at (leader_in bits) bits follower
 
 -- nothing was seen; a part of a capture may begin in the middle
 abbrev pub new_follower : Bool → Follower
@@ -187,4 +187,4 @@ new_follower part = record { part = part; sessions = []; outs = []; tables = rec
 
 -- the connection with a number is as if nothing was said on it so far
 abbrev pub silent : ℕ → Follower → Follower
-silent number follower = record follower { tables = record follower.tables { told = silent_at follower.tables.told (place_of number) } }
+silent number follower = record follower { tables = record follower.tables { told = silent_at follower.tables.told (place_numbered number) } }

@@ -27,8 +27,8 @@ abbrev pub is_pair : ℕ → ℕ → ℕ → ℕ → Life → Bool
 is_pair at peer local remote life = life.at == at && life.peer == peer && life.local == local && life.remote == remote
 
 -- a socket is a sender's
-abbrev pub sends : ℕ → Bool
-sends socket = socket % 2 == 1
+abbrev pub is_sending_socket : ℕ → Bool
+is_sending_socket socket = socket % 2 == 1
 
 -- a number that was given
 abbrev pub is_given : Option ℕ → ℕ → Bool
@@ -37,7 +37,7 @@ is_given (Some given) number = given == number
 
 -- it has this link, and the host is its sender, or its receiver
 abbrev pub is_used : ℕ → ℕ → Bool → ℕ → Life → Bool
-is_used at peer sender link life = life.at == at && life.peer == peer && beq (sends life.local) sender && is_given life.link link
+is_used at peer sender link life = life.at == at && life.peer == peer && beq (is_sending_socket life.local) sender && is_given life.link link
 
 abbrev pub has_left : Life → Bool → Bool
 has_left life sent = if sent then life.host_left else life.peer_left
@@ -45,26 +45,26 @@ has_left life sent = if sent then life.host_left else life.peer_left
 abbrev pub with_left : Life → Bool → Life
 with_left life sent = if sent then record life { host_left = true } else record life { peer_left = true }
 
-abbrev pub has_asked : Life → Request → Bool
-has_asked life (Link link) = is_some life.link
-has_asked life (Size size) = is_some life.size
+abbrev pub has_requested : Life → Request → Bool
+has_requested life (Link link) = is_some life.link
+has_requested life (Size size) = is_some life.size
 
 abbrev pub with_request : Life → Request → Life
 with_request life (Link link) = record life { link = Some link }
 with_request life (Size size) = record life { size = Some size }
 
 -- none left
-abbrev pub is_live : Life → Bool
-is_live life = not life.host_left && not life.peer_left
+abbrev pub nobody_left : Life → Bool
+nobody_left life = not life.host_left && not life.peer_left
 
 -- both asked, and none left
 abbrev pub is_whole : Life → Bool
-is_whole life = is_some life.link && is_some life.size && is_live life
+is_whole life = is_some life.link && is_some life.size && nobody_left life
 
 -- a text of so many bits in bytes of this size is one of it: none left, the size is the sender's, and so much was
 -- allocated and neither used nor returned
-abbrev pub takes : Life → ℕ → ℕ → Bool
-takes life size bits = is_live life && is_given life.size size && covers life.left bits
+abbrev pub takes_bits : Life → ℕ → ℕ → Bool
+takes_bits life size bits = nobody_left life && is_given life.size size && covers life.left bits
 
 abbrev pub life_at : List Life → ℕ → Life
 life_at lives place = get_or lives place (new_life 0 0 0 0)

@@ -18,13 +18,13 @@ abbrev pub is_heard : Session → Bool → Bool
 is_heard session sent = (if sent then session.host_began else session.peer_began) && not session.host_waits && not session.peer_waits
 
 -- a side that sends an RST waits for a reply
-abbrev pub after_reset : Session → Bool → Session
-after_reset session sent =
+abbrev pub session_after_reset : Session → Bool → Session
+session_after_reset session sent =
     if sent then record session { host_began = true; host_waits = true } else record session { peer_began = true; peer_waits = true }
 
 -- an RRP is what the other waits for
-abbrev pub after_reply : Session → Bool → Session
-after_reply session sent =
+abbrev pub session_after_reply : Session → Bool → Session
+session_after_reply session sent =
     if sent then record session { host_began = true; peer_waits = false } else record session { peer_began = true; host_waits = false }
 
 -- a text of so many bits belongs to no connection

@@ -11,20 +11,20 @@ abbrev pub same_bits : List Bool → List Bool → Bool
 same_bits = pointwise beq
 
 -- a message that goes out
-abbrev pub gone_out : ℕ → ℕ → ℕ → List Bool → Out
-gone_out at peer link bits = record { at = at; peer = peer; link = link; again = false; message = bits }
+abbrev pub out_message : ℕ → ℕ → ℕ → List Bool → Out
+out_message at peer link bits = record { at = at; peer = peer; link = link; again = false; message = bits }
 
-abbrev pub is_on : ℕ → ℕ → ℕ → Out → Bool
-is_on at peer link out = out.at == at && out.peer == peer && out.link == link
+abbrev pub is_out_on : ℕ → ℕ → ℕ → Out → Bool
+is_out_on at peer link out = out.at == at && out.peer == peer && out.link == link
 
 abbrev pub no_message : Out
-no_message = gone_out 0 0 0 []
+no_message = out_message 0 0 0 []
 
 abbrev pub out_at : List Out → ℕ → Out
 out_at outs place = get_or outs place no_message
 
 abbrev pub place_on : ℕ → ℕ → ℕ → List Out → Option ℕ
-place_on at peer link outs = position (is_on at peer link) outs
+place_on at peer link outs = position (is_out_on at peer link) outs
 
 -- a message is the one that goes out again
 abbrev pub is_repeat : List Out → Option ℕ → List Bool → Bool
@@ -36,16 +36,16 @@ abbrev pub put_out : List Out → Option ℕ → Out → List Out
 put_out outs (Some place) out = slice_set outs place out
 put_out outs None out = if nat_lt (length outs) MAX_OUT then outs ++ out ∷ [] else outs
 
-abbrev pub with_out : List Out → ℕ → ℕ → ℕ → List Bool → List Out
-with_out outs at peer link bits = put_out outs (place_on at peer link outs) (gone_out at peer link bits)
+abbrev pub outs_with_message : List Out → ℕ → ℕ → ℕ → List Bool → List Out
+outs_with_message outs at peer link bits = put_out outs (place_on at peer link outs) (out_message at peer link bits)
 
 -- after an answer, that the message came, or that it did not
-abbrev pub answered : List Out → Bool → Option ℕ → List Out
-answered outs came None = outs
-answered outs came (Some place) =
+abbrev pub outs_answered : List Out → Bool → Option ℕ → List Out
+outs_answered outs came None = outs
+outs_answered outs came (Some place) =
     if (out_at outs place).again then outs
     else if came then remove outs place
     else slice_set outs place (record (out_at outs place) { again = true })
 
-abbrev pub with_answer : List Out → ℕ → ℕ → ℕ → Bool → List Out
-with_answer outs at peer link came = answered outs came (place_on at peer link outs)
+abbrev pub outs_with_answer : List Out → ℕ → ℕ → ℕ → Bool → List Out
+outs_with_answer outs at peer link came = outs_answered outs came (place_on at peer link outs)

@@ -14,13 +14,13 @@ use Rattle.ncp_follow.specs.declared.request.Request.TheVariants.{Link, Size}
 use Rattle.ncp_follow.specs.declared.turn.Turn.{Turn}
 use Rattle.ncp_follow.specs.declared.tables.Tables.{Tables}
 use Rattle.ncp_follow.specs.Amounts.{with_more, with_less}
-use Rattle.ncp_follow.specs.Lives.{new_life, is_pair, sends, is_used, has_left, with_left, has_asked, with_request, is_live, is_whole, takes, life_at}
-use Rattle.ncp_follow.specs.Connections.{opened_as, with_text, with_late, with_granted, with_returned, told_at, put_told, end_told}
+use Rattle.ncp_follow.specs.Lives.{new_life, is_pair, is_sending_socket, is_used, has_left, with_left, has_requested, with_request, nobody_left, is_whole, takes_bits, life_at}
+use Rattle.ncp_follow.specs.Connections.{opened_as, connection_with_text, with_late, with_granted, with_returned, told_at, with_told_at, with_end_told}
 
 -- ---- those that have not ended
 
-abbrev pub is_of : ℕ → ℕ → Life → Bool
-is_of at peer life = life.at == at && life.peer == peer
+abbrev pub is_life_of : ℕ → ℕ → Life → Bool
+is_life_of at peer life = life.at == at && life.peer == peer
 
 abbrev pub pair_place : ℕ → ℕ → ℕ → ℕ → List Life → Option ℕ
 pair_place at peer local remote lives = position (is_pair at peer local remote) lives
@@ -32,11 +32,11 @@ abbrev pub with_new : List Life → Life → List Life
 with_new lives life = if nat_lt (length lives) MAX_LIVES then lives ++ life ∷ [] else lives
 
 abbrev pub without : List Life → ℕ → ℕ → List Life
-without lives at peer = filter (λ life. not (is_of at peer life)) lives
+without lives at peer = filter (λ life. not (is_life_of at peer life)) lives
 
 -- there is room for one more that is opened
-abbrev pub has_place : List Connection → Bool
-has_place told = nat_lt (length told) MAX_TOLD
+abbrev pub has_place_told : List Connection → Bool
+has_place_told told = nat_lt (length told) MAX_TOLD
 
 -- one more, opened by this record
 abbrev pub with_opened : List Connection → ℕ → Life → List Connection
@@ -45,14 +45,14 @@ with_opened told opened life = told ++ opened_as (length told + 1) opened life �
 -- ---- requests
 
 -- another connection has the link that the receiver asks for
-abbrev pub is_taken : Turn → ℕ → Request → List Life → Bool
-is_taken turn local (Link link) lives = is_some (link_place turn.at turn.peer (sends local) link lives)
-is_taken turn local (Size size) lives = false
+abbrev pub is_link_taken : Turn → ℕ → Request → List Life → Bool
+is_link_taken turn local (Link link) lives = is_some (link_place turn.at turn.peer (is_sending_socket local) link lives)
+is_link_taken turn local (Size size) lives = false
 
 -- a connection at its place; it is opened, if both have asked and none left
-abbrev pub placed : Turn → ℕ → Life → Tables → Tables
-placed turn place life tables =
-    if is_whole life && has_place tables.told
+abbrev pub life_placed : Turn → ℕ → Life → Tables → Tables
+life_placed turn place life tables =
+    if is_whole life && has_place_told tables.told
     then record tables { lives = slice_set tables.lives place (record life { place = Some (length tables.told) }); told = with_opened tables.told turn.number life }
     else record tables { lives = slice_set tables.lives place life }
 
@@ -62,18 +62,18 @@ asked_at turn local remote request tables None =
     record tables { lives = with_new tables.lives (with_request (new_life turn.at turn.peer local remote) request) }
 asked_at turn local remote request tables (Some place) =
     let life = life_at tables.lives place in
-    if has_asked life request || has_left life turn.sent then tables
-    else placed turn place (with_request life request) tables
+    if has_requested life request || has_left life turn.sent then tables
+    else life_placed turn place (with_request life request) tables
 
 abbrev pub after_request : Turn → ℕ → ℕ → Request → Tables → Tables
 after_request turn local remote request tables =
-    if is_taken turn local request tables.lives then tables
+    if is_link_taken turn local request tables.lives then tables
     else asked_at turn local remote request tables (pair_place turn.at turn.peer local remote tables.lives)
 
 -- the sockets of an RTS or an STR, and the link of an RTS, or the size of an STR, as they may be
 abbrev pub is_right : ℕ → ℕ → Request → Bool
-is_right receive send (Link link) = not (sends receive) && sends send && nat_le 2 link && nat_le link 71
-is_right receive send (Size size) = not (sends receive) && sends send && nat_lt 0 size
+is_right receive send (Link link) = not (is_sending_socket receive) && is_sending_socket send && nat_le 2 link && nat_le link 71
+is_right receive send (Size size) = not (is_sending_socket receive) && is_sending_socket send && nat_lt 0 size
 
 abbrev pub is_of_receiver : Request → Bool
 is_of_receiver (Link link) = true
@@ -95,8 +95,8 @@ end_by sent = if sent then CloseSent else CloseCame
 abbrev pub left_at : Turn → ℕ → Life → Tables → Tables
 left_at turn place life tables =
     if life.host_left && life.peer_left
-    then record tables { lives = remove tables.lives place; told = end_told tables.told life.place Closed (Some turn.number) }
-    else record tables { lives = slice_set tables.lives place life; told = end_told tables.told life.place (end_by turn.sent) None }
+    then record tables { lives = remove tables.lives place; told = with_end_told tables.told life.place Closed (Some turn.number) }
+    else record tables { lives = slice_set tables.lives place life; told = with_end_told tables.told life.place (end_by turn.sent) None }
 
 abbrev pub closed_at : Turn → Tables → Option ℕ → Tables
 closed_at turn tables None = tables
@@ -117,7 +117,7 @@ granted_of place messages bits life tables None = tables
 granted_of place messages bits life tables (Some t) =
     record tables {
       lives = slice_set tables.lives place (record life { left = with_more life.left messages bits });
-      told = put_told tables.told t (with_granted (told_at tables.told t) messages bits);
+      told = with_told_at tables.told t (with_granted (told_at tables.told t) messages bits);
     }
 
 abbrev pub granted_at : Turn → ℕ → ℕ → Tables → Option ℕ → Tables
@@ -134,7 +134,7 @@ returned_of place messages bits life tables None = tables
 returned_of place messages bits life tables (Some t) =
     record tables {
       lives = slice_set tables.lives place (record life { left = with_less life.left messages bits });
-      told = put_told tables.told t (with_returned (told_at tables.told t) messages bits);
+      told = with_told_at tables.told t (with_returned (told_at tables.told t) messages bits);
     }
 
 abbrev pub returned_at : Turn → ℕ → ℕ → Tables → Option ℕ → Tables
@@ -150,8 +150,8 @@ after_return turn link messages bits tables = returned_at turn messages bits tab
 -- a text of a connection that was opened: it is one of it, or late
 abbrev pub told_after : Life → ℕ → ℕ → List Bool → List Connection → List Connection
 told_after life place size text told =
-    if takes life size (length text) then put_told told place (with_text (told_at told place) text)
-    else put_told told place (with_late (told_at told place))
+    if takes_bits life size (length text) then with_told_at told place (connection_with_text (told_at told place) text)
+    else with_told_at told place (with_late (told_at told place))
 
 abbrev pub texts_of : ℕ → ℕ → List Bool → Life → Tables → Option ℕ → Tables
 texts_of place size text life tables None = tables
@@ -179,7 +179,7 @@ belongs turn link tables = belongs_at tables.lives (link_place turn.at turn.peer
 -- ---- resets
 
 abbrev pub end_one : ℕ → ℕ → ℕ → End → Life → List Connection → List Connection
-end_one number at peer end life told = if is_of at peer life then end_told told life.place end (Some number) else told
+end_one number at peer end life told = if is_life_of at peer life then with_end_told told life.place end (Some number) else told
 
 -- the connections of two hosts end, one after the other
 abbrev pub end_all : ℕ → ℕ → ℕ → End → List Life → List Connection → List Connection

@@ -1,6 +1,6 @@
 //! `Connection`: what was said on one that was opened.
 ghost use Rattle.std.specs.Prelude.{◌≡◌, ◌≤◌, length};
-ghost use Rattle.ncp_follow.specs.Connections.{number_in, opened_as, with_text, text_with, without_text, with_end};
+ghost use Rattle.ncp_follow.specs.Connections.{number_or_zero, opened_as, connection_with_text, text_with, without_text, connection_with_end};
 
 use crate::amount::Amount;
 use crate::life::Life;
@@ -62,7 +62,7 @@ pub struct Connection {
 
 // A number that was given.
 fn number_in(given: Option<u8>) -> u8
-    ensures { result ≡ number_in given }
+    ensures { result ≡ number_or_zero given }
 {
     given.unwrap_or(0)
 }
@@ -101,7 +101,7 @@ impl Connection {
 
     // A text more.
     pub(crate) fn say(&mut self, text: Part<'_>)
-        ensures { self.new ≡ with_text self.old text.entry }
+        ensures { self.new ≡ connection_with_text self.old text.entry }
     {
         self.said = self.said.more(1, text.len() as u32);
         append_front(&mut self.text, text);
@@ -116,7 +116,7 @@ impl Connection {
 
     // What is seen of its end.
     pub(crate) fn be_ended(&mut self, end: End, ended: Option<u32>)
-        ensures { self.new ≡ with_end self.old end ended }
+        ensures { self.new ≡ connection_with_end self.old end ended }
     {
         self.end = end;
         self.ended = ended;

@@ -1,8 +1,8 @@
 //! `Follower`.
 ghost use Rattle.std.specs.Prelude.{◌≡◌, ◌≤◌, [], length, option_map, IfOk};
-ghost use Rattle.ncp_follow.specs.Connections.{place_of, numbered};
+ghost use Rattle.ncp_follow.specs.Connections.{place_numbered, numbered};
 ghost use Rattle.ncp_leader.specs.Message.{message_in};
-ghost use Rattle.ncp_follow.specs.Followed.{after_regular, after_said, after_out, after_in, is_answer, after_answer, after_leader, after_record, silent, new_follower};
+ghost use Rattle.ncp_follow.specs.Followed.{follower_after_regular, follower_after_said, follower_after_out, follower_after_in, is_answer, follower_after_answer, after_leader, follower_after_record, silent, new_follower};
 
 use crate::connection::Connection;
 use crate::saying::hear_regular;
@@ -63,7 +63,7 @@ impl Follower {
 
     /// The connection with this number, if it was opened.
     pub fn connection(&self, number: u32) -> Option<&Connection>
-        ensures { option_map (λ one. one.now) result ≡ numbered self.now.tables.told (place_of number) }
+        ensures { option_map (λ one. one.now) result ≡ numbered self.now.tables.told (place_numbered number) }
     {
         self.tables.told.numbered(number)
     }
@@ -85,7 +85,7 @@ impl Follower {
 
     // A message that is regular.
     fn hear_regular(&mut self, turn: &Turn, regular: &Regular<'_>)
-        ensures { self.new ≡ after_regular turn.now regular.now self.old }
+        ensures { self.new ≡ follower_after_regular turn.now regular.now self.old }
     {
         let session = self.sessions.of(self.part, turn.at, turn.peer);
         let after = hear_regular(turn, regular, session, &mut self.tables);
@@ -94,7 +94,7 @@ impl Follower {
 
     // What a message says.
     fn hear_message(&mut self, turn: &Turn, message: &Bits)
-        ensures { self.new ≡ after_said turn.now (message_in message.now) self.old }
+        ensures { self.new ≡ follower_after_said turn.now (message_in message.now) self.old }
     {
         if let Ok(regular) = read_regular(message) {
             self.hear_regular(turn, &regular);
@@ -103,7 +103,7 @@ impl Follower {
 
     // A message goes out.
     fn hear_out(&mut self, number: u32, at: u8, peer: u8, link: u8, message: &Bits)
-        ensures { self.new ≡ after_out number at peer link message.now self.old }
+        ensures { self.new ≡ follower_after_out number at peer link message.now self.old }
     {
         if self.outs.send(at, peer, link, message) {
             return;
@@ -119,7 +119,7 @@ impl Follower {
 
     // A message comes.
     fn hear_in(&mut self, number: u32, at: u8, peer: u8, message: &Bits)
-        ensures { self.new ≡ after_in number at peer message.now self.old }
+        ensures { self.new ≡ follower_after_in number at peer message.now self.old }
     {
         let turn = Turn {
             number,
@@ -151,7 +151,7 @@ impl Follower {
 
     /// A record with this number: a message that went out of a host, or came to it.
     pub fn hear(&mut self, number: u32, sent: bool, at: u8, message: &Bits)
-        ensures { self.new ≡ after_record number sent at message.now self.old }
+        ensures { self.new ≡ follower_after_record number sent at message.now self.old }
     {
         if let Ok(leader) = read_leader(message) {
             self.hear_leader(number, sent, at, &leader, message);

@@ -1,15 +1,15 @@
 //! Laws about what is followed: the contracts of functions.
 ghost use Rattle.std.specs.Prelude.{◌≡◌, ◌∷◌, [], true, false, None, Some, replicate};
 ghost use Rattle.ncp_follow.specs.declared.connection.End.TheVariants as ended;
-ghost use Rattle.ncp_follow.specs.Connections.{place_of, numbered, text_in, silent_at};
-ghost use Rattle.ncp_follow.specs.Sessions.{new_session, is_heard, after_reset};
+ghost use Rattle.ncp_follow.specs.Connections.{place_numbered, numbered, connection_text, silent_at};
+ghost use Rattle.ncp_follow.specs.Sessions.{new_session, is_heard, session_after_reset};
 ghost use Rattle.ncp_follow.specs.Examples.{in_touch, says, spoken, overdrawn, left, crossed};
 
 /// A host is heard after a reset was answered, and not before, nor while one waits for a reply.
 pub fn hosts_are_heard_so()
     ensures before { is_heard (new_session false 1 2) true ≡ false }
-    ensures waiting { is_heard (after_reset in_touch true) true ≡ false }
-    ensures reset { is_heard (after_reset in_touch false) true ≡ false }
+    ensures waiting { is_heard (session_after_reset in_touch true) true ≡ false }
+    ensures reset { is_heard (session_after_reset in_touch false) true ≡ false }
     ensures answered { is_heard in_touch true ≡ true }
     ensures part { is_heard (new_session true 1 2) false ≡ true }
 {}
@@ -29,12 +29,12 @@ pub fn closed_ones_stay()
 /// Connections are counted from 1 on. On one that is as if nothing was said on it, what is said behind stands alone in its
 /// text.
 pub fn texts_are_forgotten_so()
-    ensures none { numbered left.told (place_of 0) ≡ None }
-    ensures first { text_in (numbered left.told (place_of 1)) ≡ replicate 8 true }
-    ensures second { text_in (numbered left.told (place_of 2)) ≡ [] }
-    ensures beyond { numbered left.told (place_of 3) ≡ None }
-    ensures whole { text_in (numbered (says 9 2 8 8 spoken).told (place_of 1)) ≡ replicate 16 true }
-    ensures alone { text_in (numbered (says 9 2 8 8 (record spoken { told = silent_at spoken.told (place_of 1) })).told (place_of 1)) ≡ replicate 8 true }
+    ensures none { numbered left.told (place_numbered 0) ≡ None }
+    ensures first { connection_text (numbered left.told (place_numbered 1)) ≡ replicate 8 true }
+    ensures second { connection_text (numbered left.told (place_numbered 2)) ≡ [] }
+    ensures beyond { numbered left.told (place_numbered 3) ≡ None }
+    ensures whole { connection_text (numbered (says 9 2 8 8 spoken).told (place_numbered 1)) ≡ replicate 16 true }
+    ensures alone { connection_text (numbered (says 9 2 8 8 (record spoken { told = silent_at spoken.told (place_numbered 1) })).told (place_numbered 1)) ≡ replicate 8 true }
 {}
 
 /// A text that comes after the host left is late; with the CLS of the other the connection has ended.

@@ -1,6 +1,6 @@
 //! `Life`: a connection, or a request for one.
 ghost use Rattle.std.specs.Prelude.{◌≡◌};
-ghost use Rattle.ncp_follow.specs.Lives.{new_life, is_pair, sends, is_given, is_used, has_left, with_left, has_asked, with_request, is_whole, is_live, takes};
+ghost use Rattle.ncp_follow.specs.Lives.{new_life, is_pair, is_sending_socket, is_given, is_used, has_left, with_left, has_requested, with_request, is_whole, nobody_left, takes_bits};
 
 use crate::amount::Amount;
 use crate::request::Request;
@@ -68,7 +68,7 @@ impl Life {
 
     // Whether the host is its sender.
     pub(crate) fn sends(&self) -> bool
-        ensures { result ≡ sends self.now.local }
+        ensures { result ≡ is_sending_socket self.now.local }
     {
         self.local % 2 == 1
     }
@@ -106,7 +106,7 @@ impl Life {
 
     // Whether the side asked that makes this request.
     pub(crate) fn has_asked(self, request: Request) -> bool
-        ensures { result ≡ has_asked self request }
+        ensures { result ≡ has_requested self request }
     {
         match request {
             Request::Link(_) => self.link.is_some(),
@@ -132,7 +132,7 @@ impl Life {
 
     // Whether no side left.
     pub(crate) fn is_live(self) -> bool
-        ensures { result ≡ is_live self }
+        ensures { result ≡ nobody_left self }
     {
         !self.host_left && !self.peer_left
     }
@@ -146,7 +146,7 @@ impl Life {
 
     // Whether a text of so many bits in bytes of this size is one of it.
     pub(crate) fn takes(self, size: u8, bits: u32) -> bool
-        ensures { result ≡ takes self size bits }
+        ensures { result ≡ takes_bits self size bits }
     {
         self.is_live() && is_given(self.size, size) && self.left.covers(bits)
     }

@@ -2,7 +2,7 @@
 ghost use Rattle.std.specs.Prelude.{◌≡◌, ◌<◌, ◌≤◌, ◌++◌, ◌∷◌, [], not, length, slice_set, nat_lt, if◌then◌else◌, IfOk, IfSome};
 ghost use Rattle.std.specs.List.{position, remove, filter};
 ghost use Rattle.ncp_follow.specs.Lives.{is_pair, is_used, life_at};
-ghost use Rattle.ncp_follow.specs.Tables.{is_of, pair_place, link_place, with_new, without};
+ghost use Rattle.ncp_follow.specs.Tables.{is_life_of, pair_place, link_place, with_new, without};
 
 use crate::life::Life;
 use std::alloc::{AllocError, Global};

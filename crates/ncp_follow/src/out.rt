@@ -1,6 +1,6 @@
 //! `Out`: a message that went out.
 ghost use Rattle.std.specs.Prelude.{◌≡◌};
-ghost use Rattle.ncp_follow.specs.Slots.{is_on, same_bits, gone_out};
+ghost use Rattle.ncp_follow.specs.Slots.{is_out_on, same_bits, out_message};
 
 use ncp_bits::Bits;
 
@@ -22,7 +22,7 @@ pub struct Out {
 impl Out {
     // A message that goes out.
     pub(crate) fn new(at: u8, peer: u8, link: u8, message: &Bits) -> Out
-        ensures { result ≡ gone_out at peer link message.now }
+        ensures { result ≡ out_message at peer link message.now }
     {
         Out {
             at,
@@ -35,7 +35,7 @@ impl Out {
 
     // Whether it is on this link.
     pub(crate) fn is_on(&self, at: u8, peer: u8, link: u8) -> bool
-        ensures { result ≡ is_on at peer link self.now }
+        ensures { result ≡ is_out_on at peer link self.now }
     {
         self.at == at && self.peer == peer && self.link == link
     }

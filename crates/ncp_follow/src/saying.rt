@@ -1,6 +1,6 @@
 //! What is done with a message that is regular: its commands, or its text.
 ghost use Rattle.std.specs.Prelude.{◌≡◌, ◌≤◌, ◌%◌, Ok, length};
-ghost use Rattle.ncp_follow.specs.Followed.{after_command, end_of_reset, ends_reset, heard_after, tables_after, session_after, session_after_all, tables_after_all, items_said, is_told, text_tables, text_session, reading_of, read_session, read_tables};
+ghost use Rattle.ncp_follow.specs.Followed.{after_command, end_of_reset, ends_reset, heard_after, tables_after, session_after, session_after_all, tables_after_all, items_said, is_text_told, text_tables, text_session, followed_reading, read_session, read_tables};
 
 use crate::connection::End;
 use crate::request::Request;
@@ -157,7 +157,7 @@ fn hear_text(
 
 // What is read of a message.
 fn reading_of(regular: &Regular<'_>) -> Reading
-    ensures { result ≡ reading_of regular.now }
+    ensures { result ≡ followed_reading regular.now }
 {
     let link = regular.leader().link;
     if link == CONTROL_LINK {
@@ -180,8 +180,8 @@ pub(crate) fn hear_regular(
     session: Session,
     tables: &mut Tables,
 ) -> Session
-    ensures session { result ≡ read_session (reading_of regular.now) turn.now regular.now session tables.old }
-    ensures tables { tables.new ≡ read_tables (reading_of regular.now) turn.now regular.now session tables.old }
+    ensures session { result ≡ read_session (followed_reading regular.now) turn.now regular.now session tables.old }
+    ensures tables { tables.new ≡ read_tables (followed_reading regular.now) turn.now regular.now session tables.old }
 {
     match reading_of(regular) {
         Reading::Nothing => session,

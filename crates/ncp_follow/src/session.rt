@@ -1,6 +1,6 @@
 //! `Session`: what is seen of two hosts at the interface of one.
 ghost use Rattle.std.specs.Prelude.{◌≡◌};
-ghost use Rattle.ncp_follow.specs.Sessions.{new_session, is_between, is_heard, after_reset, after_reply, with_stray};
+ghost use Rattle.ncp_follow.specs.Sessions.{new_session, is_between, is_heard, session_after_reset, session_after_reply, with_stray};
 
 use crate::amount::Amount;
 
@@ -64,7 +64,7 @@ impl Session {
 
     // After an RST of a side.
     pub(crate) fn after_reset(self, sent: bool) -> Session
-        ensures { result ≡ after_reset self sent }
+        ensures { result ≡ session_after_reset self sent }
     {
         if sent {
             Session {
@@ -83,7 +83,7 @@ impl Session {
 
     // After an RRP of a side.
     pub(crate) fn after_reply(self, sent: bool) -> Session
-        ensures { result ≡ after_reply self sent }
+        ensures { result ≡ session_after_reply self sent }
     {
         if sent {
             Session {

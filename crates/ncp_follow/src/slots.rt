@@ -1,6 +1,6 @@
 //! `Slots`: the messages that are out.
 ghost use Rattle.std.specs.Prelude.{◌≡◌, ◌<◌, [], length, IfOk, IfSome};
-ghost use Rattle.ncp_follow.specs.Slots.{place_on, is_repeat, gone_out, put_out, with_out, answered, with_answer};
+ghost use Rattle.ncp_follow.specs.Slots.{place_on, is_repeat, out_message, put_out, outs_with_message, outs_answered, outs_with_answer};
 
 use crate::out::Out;
 use ncp_bits::Bits;
@@ -76,7 +76,7 @@ impl Slots {
     /// A message goes out. The answer is whether it went out before, and did not come.
     pub(crate) fn send(&mut self, at: u8, peer: u8, link: u8, message: &Bits) -> bool
         ensures again { result ≡ is_repeat self.old (place_on at peer link self.old) message.now }
-        ensures after { self.new ≡ with_out self.old at peer link message.now }
+        ensures after { self.new ≡ outs_with_message self.old at peer link message.now }
     {
         let place = place_in(self.all.as_slice(), at, peer, link);
         let again = self.is_repeat(place, message);
@@ -87,7 +87,7 @@ impl Slots {
     // The message at a place came, or did not.
     fn answer_at(&mut self, place: Option<usize>, came: bool)
         requires { IfSome place (λ p. p < length self.old) }
-        ensures { self.new ≡ answered self.old came place }
+        ensures { self.new ≡ outs_answered self.old came place }
     {
         let Some(place) = place else {
             return;
@@ -104,7 +104,7 @@ impl Slots {
 
     /// The message on a link came, or did not.
     pub(crate) fn answer(&mut self, at: u8, peer: u8, link: u8, came: bool)
-        ensures { self.new ≡ with_answer self.old at peer link came }
+        ensures { self.new ≡ outs_with_answer self.old at peer link came }
     {
         let place = place_in(self.all.as_slice(), at, peer, link);
         self.answer_at(place, came);

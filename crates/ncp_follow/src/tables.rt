@@ -1,7 +1,7 @@
 //! `Tables`: the connections, and what commands and texts do to them.
 ghost use Rattle.std.specs.Prelude.{◌≡◌, ◌<◌, ◌≤◌, not, [], length, is_some, IfOk, IfSome};
-ghost use Rattle.ncp_follow.specs.Tables.{is_of, is_taken, placed, asked_at, after_request, is_right, is_of_receiver, after_asking, end_by, left_at, closed_at, after_close, granted_of, returned_of, granted_at, after_grant, returned_at, after_return, told_after, texts_of, said_at, after_text, belongs_at, belongs, end_one, end_all, after_clearing};
-ghost use Rattle.ncp_follow.specs.Lives.{sends};
+ghost use Rattle.ncp_follow.specs.Tables.{is_life_of, is_link_taken, life_placed, asked_at, after_request, is_right, is_of_receiver, after_asking, end_by, left_at, closed_at, after_close, granted_of, returned_of, granted_at, after_grant, returned_at, after_return, told_after, texts_of, said_at, after_text, belongs_at, belongs, end_one, end_all, after_clearing};
+ghost use Rattle.ncp_follow.specs.Lives.{is_sending_socket};
 
 use crate::connection::End;
 use crate::life::Life;
@@ -28,7 +28,7 @@ pub struct Tables {
 
 // Whether a socket is a sender's.
 fn sends(socket: u32) -> bool
-    ensures { result ≡ sends socket }
+    ensures { result ≡ is_sending_socket socket }
 {
     socket % 2 == 1
 }
@@ -82,7 +82,7 @@ impl Tables {
 
     // Whether another connection has the link that the receiver asks for.
     fn is_taken(&self, turn: &Turn, local: u32, request: Request) -> bool
-        ensures { result ≡ is_taken turn.now local request self.now.lives }
+        ensures { result ≡ is_link_taken turn.now local request self.now.lives }
     {
         match request {
             Request::Link(link) => self
@@ -96,7 +96,7 @@ impl Tables {
     // Puts a connection at its place, and opens it, if both have asked.
     fn put(&mut self, turn: &Turn, place: usize, life: Life)
         requires { place < length self.old.lives }
-        ensures { self.new ≡ placed turn.now place life self.old }
+        ensures { self.new ≡ life_placed turn.now place life self.old }
     {
         if life.is_whole() && self.told.has_place() {
             let open = Life {

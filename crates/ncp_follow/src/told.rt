@@ -1,7 +1,7 @@
 //! `Told`: the connections that were opened.
 ghost use Rattle.std.specs.Prelude.{◌≡◌, ◌<◌, ◌≤◌, ◌++◌, ◌∷◌, [], true, length, option_map, IfOk};
-ghost use Rattle.ncp_follow.specs.Connections.{told_at, put_told, end_told, place_of, numbered, silent_at, with_text, with_late, with_granted, with_returned};
-ghost use Rattle.ncp_follow.specs.Tables.{has_place, with_opened, end_one};
+ghost use Rattle.ncp_follow.specs.Connections.{told_at, with_told_at, with_end_told, place_numbered, numbered, silent_at, connection_with_text, with_late, with_granted, with_returned};
+ghost use Rattle.ncp_follow.specs.Tables.{has_place_told, with_opened, end_one};
 
 use crate::connection::{Connection, End};
 use crate::life::Life;
@@ -34,7 +34,7 @@ impl Model for Told {
 
 // The place of the one with a number.
 fn place_of(number: u32) -> Option<usize>
-    ensures { result ≡ place_of number }
+    ensures { result ≡ place_numbered number }
 {
     if number == 0 {
         return None;
@@ -61,7 +61,7 @@ impl Told {
 
     /// The one with a number, if there is one.
     pub(crate) fn numbered(&self, number: u32) -> Option<&Connection>
-        ensures { option_map (λ one. one.now) result ≡ numbered self.now (place_of number) }
+        ensures { option_map (λ one. one.now) result ≡ numbered self.now (place_numbered number) }
     {
         let place = place_of(number)?;
         self.all.get(place)
@@ -76,14 +76,14 @@ impl Told {
 
     /// Whether there is room for one more.
     pub(crate) fn has_place(&self) -> bool
-        ensures { result ≡ has_place self.now }
+        ensures { result ≡ has_place_told self.now }
     {
         self.all.len() < MAX_TOLD
     }
 
     /// One more, opened by this record, for which there has to be room.
     pub(crate) fn push(&mut self, opened: u32, life: Life)
-        requires { has_place self.old ≡ true }
+        requires { has_place_told self.old ≡ true }
         ensures { self.new ≡ with_opened self.old opened life }
     {
         let number = self.all.len() as u32 + 1;
@@ -93,7 +93,7 @@ impl Told {
 
     /// A text of the one at a place.
     pub(crate) fn say(&mut self, place: usize, text: Part<'_>)
-        ensures { self.new ≡ put_told self.old place (with_text (told_at self.old place) text.entry) }
+        ensures { self.new ≡ with_told_at self.old place (connection_with_text (told_at self.old place) text.entry) }
     {
         if place < self.all.len() {
             self.all[place].say(text);
@@ -102,7 +102,7 @@ impl Told {
 
     /// A text on the link of the one at a place that is not one of it.
     pub(crate) fn be_late(&mut self, place: usize)
-        ensures { self.new ≡ put_told self.old place (with_late (told_at self.old place)) }
+        ensures { self.new ≡ with_told_at self.old place (with_late (told_at self.old place)) }
     {
         if place < self.all.len() {
             self.all[place].late = self.all[place].late.saturating_add(1);
@@ -111,7 +111,7 @@ impl Told {
 
     /// So much is allocated for the one at a place.
     pub(crate) fn grant(&mut self, place: usize, messages: u32, bits: u32)
-        ensures { self.new ≡ put_told self.old place (with_granted (told_at self.old place) messages bits) }
+        ensures { self.new ≡ with_told_at self.old place (with_granted (told_at self.old place) messages bits) }
     {
         if place < self.all.len() {
             self.all[place].granted = self.all[place].granted.more(messages, bits);
@@ -120,7 +120,7 @@ impl Told {
 
     /// So much of it is returned.
     pub(crate) fn give_back(&mut self, place: usize, messages: u32, bits: u32)
-        ensures { self.new ≡ put_told self.old place (with_returned (told_at self.old place) messages bits) }
+        ensures { self.new ≡ with_told_at self.old place (with_returned (told_at self.old place) messages bits) }
     {
         if place < self.all.len() {
             self.all[place].returned = self.all[place].returned.more(messages, bits);
@@ -129,7 +129,7 @@ impl Told {
 
     /// The one with a number, if there is one, is as if nothing was said on it so far.
     pub(crate) fn forget_text(&mut self, number: u32)
-        ensures { self.new ≡ silent_at self.old (place_of number) }
+        ensures { self.new ≡ silent_at self.old (place_numbered number) }
     {
         let Some(place) = place_of(number) else {
             return;
@@ -150,7 +150,7 @@ impl Told {
 
     /// What is seen of the end of the one at a place, if there is one.
     pub(crate) fn end(&mut self, place: Option<usize>, end: End, ended: Option<u32>)
-        ensures { self.new ≡ end_told self.old place end ended }
+        ensures { self.new ≡ with_end_told self.old place end ended }
     {
         let Some(place) = place else {
             return;

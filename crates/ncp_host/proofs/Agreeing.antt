@@ -21,13 +21,13 @@ use Rattle.ncp_model.proofs.PairOrder.{pairs_exact, pairs_total}
 use Rattle.ncp_model.proofs.EndsAfter.{after-at, after-elsewhere}
 use Rattle.ncp_model.proofs.LinksLead.{itself, led, command-led, cut-led, answered-led}
 use Rattle.ncp_model.proofs.Lookups.{any-none, leads-there}
-use Rattle.ncp_host.specs.Soundness.{is_busy, hears, IsOut, Agree}
+use Rattle.ncp_host.specs.Soundness.{is_end_busy, pair_hears_link, IsOut, Agree}
 use Rattle.ncp_host.proofs.Steady.{is_still, stays-busy, stays-heard, NewLink, new-link, freed}
 
 pub agree-empty : (slots : LinkSlots) → Agree no_ends slots
 agree-empty slots = record {
   one = λ on p q h k. absurd (cc (h, ap (passes (hears_link on) p) (get-empty pair_cmp p)));
-  out = λ p b. absurd (cc (b, ap is_busy (get-empty pair_cmp p)));
+  out = λ p b. absurd (cc (b, ap is_end_busy (get-empty pair_cmp p)));
 }
 
 abbrev pub StaysFull : LinkSlots → LinkSlots → Type 0
@@ -39,8 +39,8 @@ agree-full m slots now a full = record { one = a.one; out = λ p b. let o = a.ou
 -- One end becomes another, and no other end changes.
 module _ (m n : Ends) (slots now : LinkSlots) (p : Pair) (a : Agree m slots)
     (else_same : (q : Pair) → ((q ≡ p) → ⊥) → get n q ≡ get m q)
-    (came : (on : ℕ) → hears on p n ≡ true → hears on p m ≡ false → any (hears_link on) m ≡ false)
-    (out : is_busy (get n p) ≡ true → IsOut n now p)
+    (came : (on : ℕ) → pair_hears_link on p n ≡ true → pair_hears_link on p m ≡ false → any (hears_link on) m ≡ false)
+    (out : is_end_busy (get n p) ≡ true → IsOut n now p)
     (full : StaysFull slots now) where
   is : (q : Pair) → eq_by_cmp pair_cmp q p ≡ true → q ≡ p
   is q e = tells_apart pairs_exact q p e
@@ -48,26 +48,26 @@ module _ (m n : Ends) (slots now : LinkSlots) (p : Pair) (a : Agree m slots)
   is_not : (q : Pair) → eq_by_cmp pair_cmp q p ≡ false → (q ≡ p) → ⊥
   is_not q e s = let t : eq_by_cmp pair_cmp q p ≡ true = ap (λ (y : Pair). eq_by_cmp pair_cmp y p) s ∙ itself p in absurd (cc (e, t))
 
-  before : (on : ℕ) (q : Pair) → ((q ≡ p) → ⊥) → hears on q n ≡ true → hears on q m ≡ true
+  before : (on : ℕ) (q : Pair) → ((q ≡ p) → ⊥) → pair_hears_link on q n ≡ true → pair_hears_link on q m ≡ true
   before on q d h = ap (passes (hears_link on) q) (sym (else_same q d)) ∙ h
 
-  alone : (on : ℕ) (q : Pair) → ((q ≡ p) → ⊥) → hears on p n ≡ true → hears on q m ≡ true → ⊥
-  alone on q d h k = go (hears on p m) refl
+  alone : (on : ℕ) (q : Pair) → ((q ≡ p) → ⊥) → pair_hears_link on p n ≡ true → pair_hears_link on q m ≡ true → ⊥
+  alone on q d h k = go (pair_hears_link on p m) refl
     where
-      go : (b : Bool) → hears on p m ≡ b → ⊥
+      go : (b : Bool) → pair_hears_link on p m ≡ b → ⊥
       go true e = d (a.one on q p k e)
       go false e = let z = any-none (hears_link on) m (came on h e) q in absurd (cc (k, z))
 
-  pairs : (on : ℕ) (q r : Pair) (b : Bool) → eq_by_cmp pair_cmp q p ≡ b → (c : Bool) → eq_by_cmp pair_cmp r p ≡ c → hears on q n ≡ true → hears on r n ≡ true → q ≡ r
+  pairs : (on : ℕ) (q r : Pair) (b : Bool) → eq_by_cmp pair_cmp q p ≡ b → (c : Bool) → eq_by_cmp pair_cmp r p ≡ c → pair_hears_link on q n ≡ true → pair_hears_link on r n ≡ true → q ≡ r
   pairs on q r true e true f h k = is q e ∙ sym (is r f)
-  pairs on q r true e false f h k = absurd (alone on r (is_not r f) (subst (λ (y : Pair). hears on y n ≡ true) (is q e) h) (before on r (is_not r f) k))
-  pairs on q r false e true f h k = absurd (alone on q (is_not q e) (subst (λ (y : Pair). hears on y n ≡ true) (is r f) k) (before on q (is_not q e) h))
+  pairs on q r true e false f h k = absurd (alone on r (is_not r f) (subst (λ (y : Pair). pair_hears_link on y n ≡ true) (is q e) h) (before on r (is_not r f) k))
+  pairs on q r false e true f h k = absurd (alone on q (is_not q e) (subst (λ (y : Pair). pair_hears_link on y n ≡ true) (is r f) k) (before on q (is_not q e) h))
   pairs on q r false e false f h k = a.one on q r (before on q (is_not q e) h) (before on r (is_not r f) k)
 
-  outs : (q : Pair) (b : Bool) → eq_by_cmp pair_cmp q p ≡ b → is_busy (get n q) ≡ true → IsOut n now q
-  outs q true e k = subst (λ (y : Pair). IsOut n now y) (sym (is q e)) (out (subst (λ (y : Pair). is_busy (get n y) ≡ true) (is q e) k))
+  outs : (q : Pair) (b : Bool) → eq_by_cmp pair_cmp q p ≡ b → is_end_busy (get n q) ≡ true → IsOut n now q
+  outs q true e k = subst (λ (y : Pair). IsOut n now y) (sym (is q e)) (out (subst (λ (y : Pair). is_end_busy (get n y) ≡ true) (is q e) k))
   outs q false e k =
-      let o = a.out q (ap is_busy (sym (else_same q (is_not q e))) ∙ k) in
+      let o = a.out q (ap is_end_busy (sym (else_same q (is_not q e))) ∙ k) in
       (o.0, o.1, ap (passes (hears_link o.0) q) (else_same q (is_not q e)) ∙ o.2, full o.0 o.3)
 
   pub agree-changed : Agree n now
@@ -85,15 +85,15 @@ taken_not : (on : ℕ) (m : Ends) (what : Happening) → IsTold m what → NewLi
 taken_not on m (all.Rts_comes by taken by_peer) t l = ap (λ (k : ℕ). any (hears_link k) m) l.0 ∙ sym t ∙ l.1
 taken_not on m what t l = absurd l
 
-came_of : (on : ℕ) (m : Ends) (p : Pair) (what : Happening) (after : Option End) → IsTold m what → (happens p what (get m p)).after ≡ after → passes (hears_link on) p after ≡ true → hears on p m ≡ false → any (hears_link on) m ≡ false
+came_of : (on : ℕ) (m : Ends) (p : Pair) (what : Happening) (after : Option End) → IsTold m what → (happens p what (get m p)).after ≡ after → passes (hears_link on) p after ≡ true → pair_hears_link on p m ≡ false → any (hears_link on) m ≡ false
 came_of on m p what None t h k no_link = absurd (cc k)
 came_of on m p what (Some e) t h k no_link = taken_not on m what t (new-link on p what (get m p) e h k no_link)
 
-busy_of : (p : Pair) (what : Happening) (before after : Option End) → is_still what ≡ true → (happens p what before).after ≡ after → is_busy after ≡ true → is_busy before ≡ true
+busy_of : (p : Pair) (what : Happening) (before after : Option End) → is_still what ≡ true → (happens p what before).after ≡ after → is_end_busy after ≡ true → is_end_busy before ≡ true
 busy_of p what before None s h b = absurd (cc b)
 busy_of p what before (Some e) s h b = stays-busy p what before e h s b
 
-heard_of : (on : ℕ) (p : Pair) (what : Happening) (before after : Option End) → (happens p what before).after ≡ after → is_busy after ≡ true → passes (hears_link on) p before ≡ true → passes (hears_link on) p after ≡ true
+heard_of : (on : ℕ) (p : Pair) (what : Happening) (before after : Option End) → (happens p what before).after ≡ after → is_end_busy after ≡ true → passes (hears_link on) p before ≡ true → passes (hears_link on) p after ≡ true
 heard_of on p what None after h b k = absurd (cc k)
 heard_of on p what (Some x) None h b k = absurd (cc b)
 heard_of on p what (Some x) (Some e) h b k = stays-heard on p what x e h k
@@ -170,7 +170,7 @@ agree-cut m slots now on a ne full there = go (pair_of (sender_on on m)) refl
 
 -- a text was taken, and its slot is empty now
 
-freed_of : (on : ℕ) (p : Pair) (before after : Option End) → (happens p (all.Is_answered Rfnm) before).after ≡ after → is_busy after ≡ true → passes (hears_link on) p after ≡ true → ⊥
+freed_of : (on : ℕ) (p : Pair) (before after : Option End) → (happens p (all.Is_answered Rfnm) before).after ≡ after → is_end_busy after ≡ true → passes (hears_link on) p after ≡ true → ⊥
 freed_of on p before None h b k = absurd (cc b)
 freed_of on p before (Some e) h b k = absurd (cc (b, freed on p before e h k))
 
@@ -182,17 +182,17 @@ equals x on e = grind arith
 
 -- no text of the ends is in the slot that becomes empty
 pub agree-emptied : (m : Ends) (slots now : LinkSlots) (on : ℕ) → Agree m slots → ((by : ℕ) → ((by ≡ on) → ⊥) → slot_at now by ≡ slot_at slots by)
-    → ((p : Pair) → ((on ≡ 0) → ⊥) → is_busy (get m p) ≡ true → hears on p m ≡ true → ⊥) → Agree m now
+    → ((p : Pair) → ((on ≡ 0) → ⊥) → is_end_busy (get m p) ≡ true → pair_hears_link on p m ≡ true → ⊥) → Agree m now
 agree-emptied m slots now on a same none = record { one = a.one; out = λ p b. let o = a.out p b in go p b o (o.0 == on) refl }
   where
-    go : (p : Pair) → is_busy (get m p) ≡ true → (o : IsOut m slots p) → (b : Bool) → (o.0 == on) ≡ b → IsOut m now p
-    go p k o true e = absurd (none p (λ z. o.1 (equals o.0 on e ∙ z)) k (subst (λ (y : ℕ). hears y p m ≡ true) (equals o.0 on e) o.2))
+    go : (p : Pair) → is_end_busy (get m p) ≡ true → (o : IsOut m slots p) → (b : Bool) → (o.0 == on) ≡ b → IsOut m now p
+    go p k o true e = absurd (none p (λ z. o.1 (equals o.0 on e ∙ z)) k (subst (λ (y : ℕ). pair_hears_link y p m ≡ true) (equals o.0 on e) o.2))
     go p k o false e = (o.0, o.1, o.2, ap is_empty (same o.0 (differs o.0 on e)) ∙ o.3)
 
 pub agree-freed : (m : Ends) (slots now : LinkSlots) (on : ℕ) → Agree m slots → ((by : ℕ) → ((by ≡ on) → ⊥) → slot_at now by ≡ slot_at slots by) → Agree (map_after_at m (pair_of (sender_on on m)) (answered_in on Rfnm m)) now
 agree-freed m slots now on a same = go (pair_of (sender_on on m)) refl
   where
-    leads : (p : Pair) → hears on p m ≡ true → pair_of (sender_on on m) ≡ Some p
+    leads : (p : Pair) → pair_hears_link on p m ≡ true → pair_of (sender_on on m) ≡ Some p
     leads p h = leads-there (hears_link on) m p h (λ q k. a.one on q p k h)
 
     go : (o : Option Pair) → pair_of (sender_on on m) ≡ o → Agree (map_after_at m o (answered_in on Rfnm m)) now
@@ -205,13 +205,13 @@ agree-freed m slots now on a same = go (pair_of (sender_on on m)) refl
         first : Agree (map_after m p (answered_in on Rfnm m)) slots
         first = agree-act m slots p (all.Is_answered Rfnm) (answered_in on Rfnm m) a refl tt happened
 
-        none : (q : Pair) (b : Bool) → eq_by_cmp pair_cmp q p ≡ b → is_busy (get (map_after m p (answered_in on Rfnm m)) q) ≡ true → hears on q (map_after m p (answered_in on Rfnm m)) ≡ true → ⊥
+        none : (q : Pair) (b : Bool) → eq_by_cmp pair_cmp q p ≡ b → is_end_busy (get (map_after m p (answered_in on Rfnm m)) q) ≡ true → pair_hears_link on q (map_after m p (answered_in on Rfnm m)) ≡ true → ⊥
         none q true f k h =
             let s : q ≡ p = tells_apart pairs_exact q p f in
             freed_of on p (get m p) (get (map_after m p (answered_in on Rfnm m)) p) (happened ∙ sym (after-at m p (answered_in on Rfnm m)))
-            (subst (λ (y : Pair). is_busy (get (map_after m p (answered_in on Rfnm m)) y) ≡ true) s k)
-            (subst (λ (y : Pair). hears on y (map_after m p (answered_in on Rfnm m)) ≡ true) s h)
+            (subst (λ (y : Pair). is_end_busy (get (map_after m p (answered_in on Rfnm m)) y) ≡ true) s k)
+            (subst (λ (y : Pair). pair_hears_link on y (map_after m p (answered_in on Rfnm m)) ≡ true) s h)
         none q false f k h =
             let d : (q ≡ p) → ⊥ = (λ s. let t : eq_by_cmp pair_cmp q p ≡ true = ap (λ (y : Pair). eq_by_cmp pair_cmp y p) s ∙ itself p in absurd (cc (f, t))) in
-            let was : hears on q m ≡ true = ap (passes (hears_link on) q) (sym (after-elsewhere m p q (answered_in on Rfnm m) d)) ∙ h in
+            let was : pair_hears_link on q m ≡ true = ap (passes (hears_link on) q) (sym (after-elsewhere m p q (answered_in on Rfnm m) d)) ∙ h in
             d (a.one on q p was (led (hears_link on) m p e).1)

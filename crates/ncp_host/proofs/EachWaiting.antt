@@ -4,7 +4,7 @@ use Rattle.std.specs.List.{list_any}
 use Rattle.std.proofs.lemmas.List.Elements.{All-push, All-filter}
 use Rattle.ncp_terms.specs.declared.command.Command.{Command}
 use Rattle.ncp_terms.specs.declared.command.Command.TheVariants.{Rst, Rrp}
-use Rattle.ncp_model.specs.Phase.{Phase, up, is_reset, is_other, is_rst, is_rrp, has_place, queued, goes_down, makes, makes_all, is_resetting, answers, asks, wants_reset, owes_answer}
+use Rattle.ncp_model.specs.Phase.{Phase, up, is_reset, is_other, is_rst, is_rrp, has_place, queued, goes_down, phase_makes, makes_all, is_resetting, phase_answers, phase_asks, wants_reset, owes_answer}
 use Rattle.ncp_model.specs.Phase as phases
 
 -- each of some commands
@@ -27,14 +27,14 @@ module _ (P : Command → Type 0) (rst : P Rst) (rrp : P Rrp) where
   pub down : (q : Phase) → EachWaits P q → EachWaits P (goes_down q)
   down q k = All-filter is_reset P q.waiting k
 
-  made : (c : Command) (q : Phase) → P c → EachWaits P q → EachWaits P (makes c q)
+  made : (c : Command) (q : Phase) → P c → EachWaits P q → EachWaits P (phase_makes c q)
   made c q f k = either (up q && is_other c) (if has_place q then queued c q else goes_down q) q (either (has_place q) (queued c q) (goes_down q) (All-push P q.waiting c k f) (down q k)) k
 
   pub all_made : (cs : List Command) (q : Phase) → Each P cs → EachWaits P q → EachWaits P (makes_all cs q)
   all_made [] q f k = k
-  all_made (c ∷ cs) q f k = all_made cs (makes c q) f.1 (made c q f.0 k)
+  all_made (c ∷ cs) q f k = all_made cs (phase_makes c q) f.1 (made c q f.0 k)
 
-  answered : (q : Phase) → EachWaits P q → EachWaits P (answers q)
+  answered : (q : Phase) → EachWaits P q → EachWaits P (phase_answers q)
   answered q k = go q.owe (list_any is_rrp q.waiting)
     where
       go : (a b : Bool) → EachWaits P (if a then record q { down = false; owe = false; waiting = if b then q.waiting else q.waiting ++ Rrp ∷ [] } else q)
@@ -42,7 +42,7 @@ module _ (P : Command → Type 0) (rst : P Rst) (rrp : P Rrp) where
       go true false = All-push P q.waiting Rrp k rrp
       go false b = k
 
-  asked : (q : Phase) → EachWaits P q → EachWaits P (asks q)
+  asked : (q : Phase) → EachWaits P q → EachWaits P (phase_asks q)
   asked q k = go q.want (list_any is_rst q.waiting)
     where
       go : (a b : Bool) → EachWaits P (if a then record q { down = false; want = false; wait = true; waiting = if b then q.waiting else q.waiting ++ Rst ∷ [] } else q)
@@ -50,12 +50,12 @@ module _ (P : Command → Type 0) (rst : P Rst) (rrp : P Rrp) where
       go true false = All-push P q.waiting Rst k rst
       go false b = k
 
-  pub settled : (quiet : Bool) (q : Phase) → EachWaits P q → EachWaits P (phases.settles quiet q)
-  settled true q k = asked (answers q) (answered q k)
+  pub settled : (quiet : Bool) (q : Phase) → EachWaits P q → EachWaits P (phases.phase_settles quiet q)
+  settled true q k = asked (phase_answers q) (answered q k)
   settled false q k = k
 
   pub reset : (quiet : Bool) (q : Phase) → EachWaits P q → EachWaits P (phases.resets quiet q)
-  reset quiet q k = either (is_resetting q) q (phases.settles quiet (wants_reset q)) k (settled quiet (wants_reset q) (All-filter is_reset P q.waiting k))
+  reset quiet q k = either (is_resetting q) q (phases.phase_settles quiet (wants_reset q)) k (settled quiet (wants_reset q) (All-filter is_reset P q.waiting k))
 
   pub rst_heard : (quiet : Bool) (q : Phase) → EachWaits P q → EachWaits P (phases.hears_rst quiet q)
   rst_heard quiet q k = settled quiet (owes_answer q) (All-filter is_reset P q.waiting k)

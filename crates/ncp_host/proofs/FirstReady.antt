@@ -18,16 +18,16 @@ use Rattle.ncp_model.specs.Sending.{next_commands}
 use Rattle.ncp_model.specs.Leading.{passes}
 use Rattle.ncp_model.proofs.Lookups.{any-none, none-any, leads-there}
 use Rattle.ncp_model.proofs.LinksLead.{led}
-use Rattle.ncp_host.specs.PeerState.{PeerState, new_state, control_link, calls, calls_echo, calls_reset, calls_wake}
+use Rattle.ncp_host.specs.PeerState.{PeerState, new_state, control_link, state_calls, state_calls_echo, state_calls_reset, state_calls_wake}
 use Rattle.ncp_host.specs.Hearing.{is_kind, after_bits}
 use Rattle.ncp_host.specs.Output.{control_message, text_message, output_by, output_on, first_or, first_output, next_of}
 use Rattle.ncp_host.specs.Host.{Host, state_of, at_peer}
 use Rattle.ncp_host.specs.Arrivals.{after_with, after_from, one_other}
 use Rattle.ncp_host.specs.Turns.{message_in_turn, after_turn, first_message, first_goes}
-use Rattle.ncp_host.specs.Readiness.{has_text, is_ready_by, is_ready, NoLinkReady, IsFirstLink, IsNext}
-use Rattle.ncp_host.specs.Running.{Step, Calls, Resets, Echoes, Wakes, Receives, Sends, after_step}
+use Rattle.ncp_host.specs.Readiness.{has_text, is_ready_by, is_link_ready, NoLinkReady, IsFirstLink, IsNext}
+use Rattle.ncp_host.specs.Running.{HostStep, Calls, Resets, Echoes, Wakes, Receives, Sends, after_step}
 pub use Rattle.ncp_host.specs.Soundness.{IsWell, AreWell}
-use Rattle.ncp_host.specs.Soundness.{is_busy, Agree, IsOut, hears}
+use Rattle.ncp_host.specs.Soundness.{is_end_busy, Agree, IsOut, pair_hears_link}
 use Rattle.ncp_host.proofs.Sound.{sound-calls, sound-echo, sound-reset, sound-wakes, sound-bits, sound-output, sound-new}
 use Rattle.ncp_host.proofs.Short.{some_go, fit-calls, fit-echo, fit-reset, fit-bits, fit-output, fit-new}
 use Rattle.ncp_host.proofs.Outputs.{first_none, first_more}
@@ -49,7 +49,7 @@ not_busy on m s p e a empty g h = go e.busy refl
     go : (b : Bool) → e.busy ≡ b → e.busy ≡ false
     go false k = k
     go true k =
-        let o : IsOut m s.slots p = a.out p (ap is_busy g ∙ k) in
+        let o : IsOut m s.slots p = a.out p (ap is_end_busy g ∙ k) in
         let same : o.0 ≡ on = by_link on o.0 p e h (sym (ap (passes (hears_link o.0) p) g) ∙ o.2) in
         let full : is_empty (slot_at s.slots on) ≡ false = subst (λ (y : ℕ). is_empty (slot_at s.slots y) ≡ false) same o.3 in
         absurd (cc (empty, full))
@@ -70,7 +70,7 @@ cut_goes number on s a empty = go (sender_on on m) refl
     hears_too p None h = absurd (cc h)
     hears_too p (Some e) h = needs_link on p e h
 
-    leads : (p : Pair) → hears on p m ≡ true → pair_of (sender_on on m) ≡ Some p
+    leads : (p : Pair) → pair_hears_link on p m ≡ true → pair_of (sender_on on m) ≡ Some p
     leads p h = leads-there (hears_link on) m p h (λ q k. a.one on q p k h)
 
     none : (p : Pair) (b : Bool) → passes (has_text on) p (get m p) ≡ b → (b ≡ true → ⊥) → passes (has_text on) p (get m p) ≡ false
@@ -88,7 +88,7 @@ cut_goes number on s a empty = go (sender_on on m) refl
         nobody p t = let l = leads p (hears_too p (get m p) t) in absurd (cc (e, l))
     go (Some q) e = by_test (has_text on q) refl
       where
-        found : (get m q.0 ≡ end_of (sender_on on m)) × (hears on q.0 m ≡ true)
+        found : (get m q.0 ≡ end_of (sender_on on m)) × (pair_hears_link on q.0 m ≡ true)
         found = led (hears_link on) m q.0 (ap pair_of e)
 
         there : get m q.0 ≡ Some q.1
@@ -120,7 +120,7 @@ says number [] = refl
 says number (c ∷ cs) = grind arith
 
 -- a message goes out on a link where the link is ready
-pub goes_where_ready : (number on : ℕ) (s : PeerState) → IsWell s → goes (output_on number on s) ≡ is_ready on s
+pub goes_where_ready : (number on : ℕ) (s : PeerState) → IsWell s → goes (output_on number on s) ≡ is_link_ready on s
 goes_where_ready number on s h = go (slot_at s.slots on) refl
   where
     new : (b : Bool) → is_empty (slot_at s.slots on) ≡ true → goes (if b then control_message number (next_commands s.peer.phase.waiting) else text_message number on (answer (cut_in on s.peer.ends))) ≡ (if b then nat_lt 0 (length s.peer.phase.waiting) else any (has_text on) s.peer.ends)
@@ -136,21 +136,21 @@ goes_where_ready number on s h = go (slot_at s.slots on) refl
 -- The links in their order.
 
 module _ (number : ℕ) (s : PeerState) (h : IsWell s) where
-  silent : (on : ℕ) → output_on number on s ≡ None → is_ready on s ≡ false
+  silent : (on : ℕ) → output_on number on s ≡ None → is_link_ready on s ≡ false
   silent on e = sym (goes_where_ready number on s h) ∙ ap goes e
 
-  speaks : (on : ℕ) (message : List Bool) → output_on number on s ≡ Some message → is_ready on s ≡ true
+  speaks : (on : ℕ) (message : List Bool) → output_on number on s ≡ Some message → is_link_ready on s ≡ true
   speaks on message e = sym (goes_where_ready number on s h) ∙ ap goes e
 
   -- from a link on, so many of them
   abbrev Silent : ℕ → ℕ → Type 0
-  Silent from many = (on : ℕ) → from ≤ on → on < from + many → is_ready on s ≡ false
+  Silent from many = (on : ℕ) → from ≤ on → on < from + many → is_link_ready on s ≡ false
 
   record FirstOf (from many on : ℕ) (message : List Bool) : Type 0 where
     least : from ≤ on
     below : on < from + many
     said : output_on number on s ≡ Some message
-    before : (lower : ℕ) → from ≤ lower → lower < on → is_ready lower s ≡ false
+    before : (lower : ℕ) → from ≤ lower → lower < on → is_link_ready lower s ≡ false
 
   abbrev FirstIn : ℕ → ℕ → Option (ℕ × List Bool) → Type 0
   FirstIn from many None = Silent from many
@@ -169,7 +169,7 @@ module _ (number : ℕ) (s : PeerState) (h : IsWell s) where
     where
       go : (o : Option (List Bool)) → output_on number from s ≡ o → (rest : Option (ℕ × List Bool)) → FirstIn (from + 1) many rest → FirstIn from (suc many) (first_or from o rest)
       go (Some message) e rest r = record { least = omega arith; below = omega arith; said = e; before = λ lower l b. absurd (omega arith) }
-      go None e None r = (λ on l b. elim (here_or_above from on l) [ inl same ↦ subst (λ (y : ℕ). is_ready y s ≡ false) same (silent from e) | inr above ↦ r on above (omega arith) ])
+      go None e None r = (λ on l b. elim (here_or_above from on l) [ inl same ↦ subst (λ (y : ℕ). is_link_ready y s ≡ false) same (silent from e) | inr above ↦ r on above (omega arith) ])
       go None e (Some out) r =
           let least = r.least in
           let below = r.below in
@@ -177,7 +177,7 @@ module _ (number : ℕ) (s : PeerState) (h : IsWell s) where
             least = omega arith;
             below = omega arith;
             said = r.said;
-            before = λ lower l b. elim (here_or_above from lower l) [ inl same ↦ subst (λ (y : ℕ). is_ready y s ≡ false) same (silent from e) | inr above ↦ r.before lower above b ];
+            before = λ lower l b. elim (here_or_above from lower l) [ inl same ↦ subst (λ (y : ℕ). is_link_ready y s ≡ false) same (silent from e) | inr above ↦ r.before lower above b ];
           }
 
   abbrev NextTo : Option (ℕ × List Bool) → Type 0
@@ -197,14 +197,14 @@ module _ (number : ℕ) (s : PeerState) (h : IsWell s) where
     where
       go : (o : Option (List Bool)) → output_on number 0 s ≡ o → (rest : Option (ℕ × List Bool)) → FirstIn 2 70 rest → NextTo (first_or 0 o rest)
       go (Some message) e rest r = (record { link = (λ z. absurd (cc z), omega arith); ready = speaks 0 message e; first = λ lower b has. absurd (omega arith) }, e)
-      go None e None r = (λ on has. elim (control_or_data on has) [ inl same ↦ subst (λ (y : ℕ). is_ready y s ≡ false) same (silent 0 e) | inr l ↦ r on l.0 l.1 ])
+      go None e None r = (λ on has. elim (control_or_data on has) [ inl same ↦ subst (λ (y : ℕ). is_link_ready y s ≡ false) same (silent 0 e) | inr l ↦ r on l.0 l.1 ])
       go None e (Some out) r =
           let least = r.least in
           let below = r.below in (
             record {
               link = (λ z. absurd (omega arith), omega arith);
               ready = speaks out.0 out.1 r.said;
-              first = λ lower b has. elim (control_or_data lower has) [ inl same ↦ subst (λ (y : ℕ). is_ready y s ≡ false) same (silent 0 e) | inr l ↦ r.before lower l.0 b ];
+              first = λ lower b has. elim (control_or_data lower has) [ inl same ↦ subst (λ (y : ℕ). is_link_ready y s ≡ false) same (silent 0 e) | inr l ↦ r.before lower l.0 b ];
             },
             r.said,
           )
@@ -247,11 +247,11 @@ received-well (Ok leader) bits h s = go (is_kind leader.kind) (state_of h leader
     go true (Some x) = changed-well h.peers leader.host (after_bits leader bits) (λ x k. (sound-bits leader bits x k.0, fit-bits leader bits x k.1)) s
     go false o = s
 
-pub step-well : (step : Step) (h : Host) → AreWell h.peers → AreWell (after_step step h).peers
-step-well (Calls number pair call) h s = changed-well h.peers number (calls pair call) (λ x k. (sound-calls pair call x.peer x.slots k.0, fit-calls pair call x.peer k.1)) s
-step-well (Resets number) h s = changed-well h.peers number calls_reset (λ x k. (sound-reset _ x.peer x.slots k.0, fit-reset _ x.peer k.1)) s
-step-well (Echoes number byte) h s = changed-well h.peers number (calls_echo byte) (λ x k. (sound-echo byte x.peer x.slots k.0, fit-echo byte x.peer k.1)) s
-step-well (Wakes number) h s = changed-well h.peers number calls_wake (λ x k. (sound-wakes x k.0, k.1)) s
+pub step-well : (step : HostStep) (h : Host) → AreWell h.peers → AreWell (after_step step h).peers
+step-well (Calls number pair call) h s = changed-well h.peers number (state_calls pair call) (λ x k. (sound-calls pair call x.peer x.slots k.0, fit-calls pair call x.peer k.1)) s
+step-well (Resets number) h s = changed-well h.peers number state_calls_reset (λ x k. (sound-reset _ x.peer x.slots k.0, fit-reset _ x.peer k.1)) s
+step-well (Echoes number byte) h s = changed-well h.peers number (state_calls_echo byte) (λ x k. (sound-echo byte x.peer x.slots k.0, fit-echo byte x.peer k.1)) s
+step-well (Wakes number) h s = changed-well h.peers number state_calls_wake (λ x k. (sound-wakes x k.0, k.1)) s
 step-well (Receives bits) h s = received-well (leader_in bits) bits h s
 step-well Sends h s = turn-well h.peers s
 

@@ -11,18 +11,18 @@ use Rattle.ncp_host.specs.Host.{Host, are_peers}
 use Rattle.ncp_host.specs.Arrivals.{after_with, after_hearing}
 use Rattle.ncp_host.specs.Turns.{after_turn}
 use Rattle.ncp_host.proofs.Peering.{new_beside}
-use Rattle.ncp_host.specs.Running.{Step, Receives, Sends, after_step, IsKept}
+use Rattle.ncp_host.specs.Running.{HostStep, Receives, Sends, after_step, IsKept}
 use Rattle.ncp_host.specs.Soundness.{AreWell}
 use Rattle.ncp_host.proofs.FirstReady.{step-well, new-well}
 
-pub lives_on : (step : Step) (before now : Host) → AreWell before.peers → now ≡ after_step step before → AreWell now.peers
+pub lives_on : (step : HostStep) (before now : Host) → AreWell before.peers → now ≡ after_step step before → AreWell now.peers
 lives_on step before now well is = subst (λ (h : Host). AreWell h.peers) (sym is) (step-well step before well)
 
 abbrev host_of : ℕ → List ℕ → List PeerState → Ignored → Host
 host_of me ns ss ignored = record { me = me; peers = zip ns ss; ignored = ignored }
 
 module _ (me : ℕ) (ns : List ℕ) (ss : List PeerState) (ignored : Ignored) (kept : IsKept me ns ss) where
-  pub kept_on : (step : Step) (before : Host) (now : List PeerState) (ignored_now : Ignored) → host_of me ns ss ignored ≡ before → length now ≡ length ss → host_of me ns now ignored_now ≡ after_step step before → IsKept me ns now
+  pub kept_on : (step : HostStep) (before : Host) (now : List PeerState) (ignored_now : Ignored) → host_of me ns ss ignored ≡ before → length now ≡ length ss → host_of me ns now ignored_now ≡ after_step step before → IsKept me ns now
   kept_on step before now ignored_now is long happened = record {
     beside = long ∙ kept.beside;
     peers = kept.peers;

@@ -16,7 +16,7 @@ use Rattle.ncp_model.specs.Leading.{passes}
 use Rattle.ncp_conn.specs.Walking.{AreItsPairs}
 use Rattle.ncp_conn.proofs.Finding.{same_is}
 use Rattle.ncp_host.specs.PeerState.{PeerState}
-use Rattle.ncp_host.specs.Soundness.{is_busy, Agree, is_short, IsShort, IsWell, AreWell}
+use Rattle.ncp_host.specs.Soundness.{is_end_busy, Agree, has_short_data, IsShort, IsWell, AreWell}
 use Rattle.ncp_host.specs.Loading.{IsPlaced}
 
 -- what holds of each of some pairs holds of one that is among them
@@ -31,7 +31,7 @@ among P p (q ∷ qs) a c = go (same q p) refl (among P p qs (All-tail P q qs a))
 placed_none : (m : Ends) (slots : LinkSlots) (p : Pair) → get m p ≡ None → IsPlaced m slots p
 placed_none m slots p e = record {
   alone = λ on h. absurd (cc (h, ap (passes (hears_link on) p) e));
-  out = λ b. absurd (cc (b, ap is_busy e));
+  out = λ b. absurd (cc (b, ap is_end_busy e));
 }
 
 pub all_placed : (m : Ends) (slots : LinkSlots) (ps : List Pair) → AreItsPairs ps m → All (IsPlaced m slots) ps → (p : Pair) → IsPlaced m slots p
@@ -48,15 +48,15 @@ placed_agree m slots placed = record {
 }
 
 -- each value of the type of commands is short
-pub command_short : (c : Command) → IsCommand c → true ≡ is_short c
+pub command_short : (c : Command) → IsCommand c → true ≡ has_short_data c
 command_short (commands.Err code bytes) k = sym (ap (λ (n : ℕ). nat_le n 10) k.1)
 command_short c k = refl
 
-pub all_short : (cs : List Command) → list_all is_short cs ≡ true → All IsShort cs
+pub all_short : (cs : List Command) → list_all has_short_data cs ≡ true → All IsShort cs
 all_short [] h = All-nil IsShort
-all_short (c ∷ cs) h = go (is_short c) refl h (all_short cs)
+all_short (c ∷ cs) h = go (has_short_data c) refl h (all_short cs)
   where
-    go : (b : Bool) → is_short c ≡ b → (b && list_all is_short cs) ≡ true → (list_all is_short cs ≡ true → All IsShort cs) → All IsShort (c ∷ cs)
+    go : (b : Bool) → has_short_data c ≡ b → (b && list_all has_short_data cs) ≡ true → (list_all has_short_data cs ≡ true → All IsShort cs) → All IsShort (c ∷ cs)
     go true e k rest = All-cons IsShort c cs e (rest k)
     go false e k rest = absurd (cc k)
 

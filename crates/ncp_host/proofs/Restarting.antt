@@ -23,7 +23,7 @@ use Rattle.ncp_host.specs.Host.{Host, state_in, state_of, at_peer, changed}
 use Rattle.ncp_host.specs.Arrivals.{after_with, after_from, after_received}
 use Rattle.ncp_host.specs.Running.{Receives}
 use Rattle.ncp_host.specs.Soundness.{AreWell}
-use Rattle.ncp_host.specs.Restarting.{incomplete_leader, incomplete_bits, is_out, incomplete_comes, incompletes_come, gives_up, gives_up_all, restarts, IsGivenUp}
+use Rattle.ncp_host.specs.Restarting.{incomplete_leader, incomplete_bits, is_message_out, incomplete_comes, incompletes_come, gives_up, gives_up_all, restarts, IsGivenUp}
 use Rattle.ncp_host.proofs.Living.{lives_on}
 use Rattle.ncp_host.proofs.Arriving.{is_stray, is_no_stray, not_done, answer_heard}
 
@@ -127,7 +127,7 @@ is_received number on h s n o known =
     ∙ ap (λ (x : Option PeerState). after_from x (incomplete_leader number on) (incomplete_bits number on) h) known
 
 comes : (number on : ℕ) (h : Host) (s : PeerState) → number < 256 → on < 256 → state_of h number ≡ Some s → incomplete_comes number on h ≡ changed number (gives_up on) h
-comes number on h s n o known = ap (λ (x : Option PeerState). if is_out on x then after_received (incomplete_bits number on) h else h) known ∙ go (is_answered on s) refl
+comes number on h s n o known = ap (λ (x : Option PeerState). if is_message_out on x then after_received (incomplete_bits number on) h else h) known ∙ go (is_answered on s) refl
   where
     go : (b : Bool) → is_answered on s ≡ b → (if b then after_received (incomplete_bits number on) h else h) ≡ changed number (gives_up on) h
     go true e =
@@ -158,14 +158,14 @@ pub none_come : (number : ℕ) (ons : List ℕ) (h : Host) → state_of h number
 none_come number [] h none = come_none number h
 none_come number (on ∷ ons) h none =
     come_more number on ons h
-    ∙ ap (incompletes_come number ons) (ap (λ (x : Option PeerState). if is_out on x then after_received (incomplete_bits number on) h else h) none)
+    ∙ ap (incompletes_come number ons) (ap (λ (x : Option PeerState). if is_message_out on x then after_received (incomplete_bits number on) h else h) none)
     ∙ none_come number ons h none
 
 -- what is true of a host is true then
 pub lives_restarted : (number : ℕ) (ons : List ℕ) (h : Host) → AreWell h.peers → AreWell (incompletes_come number ons h).peers
 lives_restarted number [] h well = subst (λ (x : Host). AreWell x.peers) (sym (come_none number h)) well
 lives_restarted number (on ∷ ons) h well =
-    subst (λ (x : Host). AreWell x.peers) (sym (come_more number on ons h)) (lives_restarted number ons (incomplete_comes number on h) (go (is_out on (state_of h number))))
+    subst (λ (x : Host). AreWell x.peers) (sym (come_more number on ons h)) (lives_restarted number ons (incomplete_comes number on h) (go (is_message_out on (state_of h number))))
   where
     go : (b : Bool) → AreWell (if b then after_received (incomplete_bits number on) h else h).peers
     go true = lives_on (Receives (incomplete_bits number on)) h _ well refl

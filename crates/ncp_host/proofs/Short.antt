@@ -36,11 +36,11 @@ use Rattle.ncp_model.specs.Happenings as all
 use Rattle.ncp_model.specs.Phase.{Phase, Reaction, new_phase, up, goes_down, makes_all, is_resetting}
 use Rattle.ncp_model.specs.Phase as phases
 use Rattle.ncp_model.specs.Sending.{fitting, next_commands, is_full}
-use Rattle.ncp_model.specs.Peers.{Peer, Call, Ask_to_send, Ask_to_receive, Close, Give, Take, Allocate, Call_back, Interrupt, called, calls_up, echo_called, hears_other, takes_text, frees_up, reaction, echo_replies}
+use Rattle.ncp_model.specs.Peers.{Peer, PairCall, Ask_to_send, Ask_to_receive, Close, Give, Take, Allocate, Call_back, Interrupt, called, calls_up, echo_called, hears_other, takes_text, frees_up, reaction, echo_replies}
 use Rattle.ncp_model.specs.Peers as peers
 use Rattle.ncp_host.specs.PeerState.{PeerState, control_link, frees_on, is_answered, answer_taken, answer_comes}
 use Rattle.ncp_host.specs.Counting.{one_more}
-use Rattle.ncp_host.specs.Hearing.{hears, hears_all, hears_last, hears_text, control_size, control_after, text_after, is_wrong_link, message_after, regular, answer_of, after_bits}
+use Rattle.ncp_host.specs.Hearing.{state_hears, state_hears_all, hears_last, state_hears_text, control_size, state_after_control, state_after_text, is_wrong_link, message_after, regular, answer_of, after_bits}
 use Rattle.ncp_host.specs.Output.{after_by, after_output}
 use Rattle.ncp_host.specs.Soundness.{IsShort, IsFit}
 use Rattle.ncp_host.proofs.EachWaiting.{Each, EachWaits, each_of_both}
@@ -181,7 +181,7 @@ if_fit false p q k l = l
 makes_fit : (cs : List Command) (q : Phase) → AreShort cs → EachWaits IsShort q → EachWaits IsShort (makes_all cs q)
 makes_fit cs q f k = each.all_made IsShort refl refl cs q f k
 
-no_text : (call : Call) (full : Bool) (m : Ends) → is_no_text (called call full m) ≡ true
+no_text : (call : PairCall) (full : Bool) (m : Ends) → is_no_text (called call full m) ≡ true
 no_text (Ask_to_send of_size with_room) full m = refl
 no_text (Ask_to_receive with_room) full m = refl
 no_text Close full m = refl
@@ -191,7 +191,7 @@ no_text (Allocate x y) full m = refl
 no_text (Call_back x y) full m = refl
 no_text Interrupt full m = refl
 
-pub fit-calls : (pair : Pair) (call : Call) (p : Peer) → FitPeer p → FitPeer (peers.calls pair call p)
+pub fit-calls : (pair : Pair) (call : PairCall) (p : Peer) → FitPeer p → FitPeer (peers.calls pair call p)
 fit-calls pair call p k =
     if_fit (up p.phase) (calls_up pair call p) p
     (makes_fit (peers.happened_at pair call p).made p.phase (made_short pair (called call (is_full p.phase) p.ends) (get p.ends pair) (no_text call (is_full p.phase) p.ends)) k)
@@ -229,7 +229,7 @@ echoed_short : (c : Command) → AreShort (echo_replies c)
 echoed_short (commands.Eco byte) = (refl, tt)
 echoed_short c = tt
 
-phase_heard : (c : Command) (r : Reaction) (q : Phase) → AreShort r.replies → EachWaits IsShort q → EachWaits IsShort (phases.hears c r q)
+phase_heard : (c : Command) (r : Reaction) (q : Phase) → AreShort r.replies → EachWaits IsShort q → EachWaits IsShort (phases.phase_hears c r q)
 phase_heard Rst r q f k = each.rst_heard IsShort refl refl r.quiet q k
 phase_heard Rrp r q f k = k
 phase_heard c r q f k = go (up q) r.full
@@ -250,25 +250,25 @@ hears_fit quiet Rst p k = each.rst_heard IsShort refl refl quiet p.phase k
 hears_fit quiet Rrp p k = k
 hears_fit quiet c p k = other_fit quiet c p k
 
-all_fit : (cs : List Command) (s : PeerState) → IsFit s → IsFit (hears_all cs s)
+all_fit : (cs : List Command) (s : PeerState) → IsFit s → IsFit (state_hears_all cs s)
 all_fit [] s k = k
-all_fit (c ∷ cs) s k = all_fit cs (hears c s) (hears_fit (is_quiet s.slots) c s.peer k)
+all_fit (c ∷ cs) s k = all_fit cs (state_hears c s) (hears_fit (is_quiet s.slots) c s.peer k)
 
 last_fit : (fault : Option CommandFault) (s : PeerState) → ((f : CommandFault) → fault ≡ Some f → IsShort (commands.Err f.code f.bytes)) → IsFit s → IsFit (hears_last fault s)
 last_fit None s f k = k
 last_fit (Some fault) s f k = if_fit (up s.peer.phase) (peers.makes (commands.Err fault.code fault.bytes ∷ []) s.peer) s.peer (makes_fit (commands.Err fault.code fault.bytes ∷ []) s.peer.phase (f fault refl, tt) k) k
 
-control_fit : (m : Message) (s : PeerState) → IsFit s → IsFit (control_after m s)
+control_fit : (m : Message) (s : PeerState) → IsFit s → IsFit (state_after_control m s)
 control_fit m s k = go (m.size == control_size)
   where
     bytes : List ℕ
     bytes = bytes_of m.text
 
-    go : (b : Bool) → IsFit (if b then hears_text (commands_in bytes) (fault_in bytes) s else record s { counts = record s.counts { wrong_size = one_more s.counts.wrong_size } })
-    go true = last_fit (fault_in bytes) (hears_all (commands_in bytes) s) (λ f e. fault_short (rest_in bytes) f e) (all_fit (commands_in bytes) s k)
+    go : (b : Bool) → IsFit (if b then state_hears_text (commands_in bytes) (fault_in bytes) s else record s { counts = record s.counts { wrong_size = one_more s.counts.wrong_size } })
+    go true = last_fit (fault_in bytes) (state_hears_all (commands_in bytes) s) (λ f e. fault_short (rest_in bytes) f e) (all_fit (commands_in bytes) s k)
     go false = k
 
-text_fit : (on : ℕ) (bits : List Bool) (m : Message) (s : PeerState) → IsFit s → IsFit (text_after on (take FRONT_BITS bits) m s)
+text_fit : (on : ℕ) (bits : List Bool) (m : Message) (s : PeerState) → IsFit s → IsFit (state_after_text on (take FRONT_BITS bits) m s)
 text_fit on bits m s k = if_fit (up s.peer.phase) (takes_text on head m.size m.text s.peer) s.peer (makes_fit (made_by_text head m.text took) s.peer.phase (took_short head m.text took front) k) k
   where
     head : List Bool
@@ -284,7 +284,7 @@ message_fit : (on : ℕ) (bits : List Bool) (m : Result Message MessageFault) (s
 message_fit on bits (Err fault) s k = k
 message_fit on bits (Ok m) s k = go (is_wrong_link on) (on == control_link)
   where
-    go : (b c : Bool) → IsFit (if b then record s { counts = record s.counts { wrong_link = one_more s.counts.wrong_link } } else if c then control_after m s else text_after on (take FRONT_BITS bits) m s)
+    go : (b c : Bool) → IsFit (if b then record s { counts = record s.counts { wrong_link = one_more s.counts.wrong_link } } else if c then state_after_control m s else state_after_text on (take FRONT_BITS bits) m s)
     go true c = k
     go false true = control_fit m s k
     go false false = text_fit on bits m s k
@@ -320,7 +320,7 @@ fit-bits leader bits s k = go (leader.kind == regular)
 pub fit-output : (on : ℕ) (message : List Bool) (s : PeerState) → IsFit s → IsFit (after_output on message s)
 fit-output on message s k = go (slot_at s.slots on)
   where
-    made : (b : Bool) → FitPeer (if b then peers.sends s.peer else peers.cuts on s.peer)
+    made : (b : Bool) → FitPeer (if b then peers.peer_sends s.peer else peers.cuts on s.peer)
     made true = All-drop IsShort (length (next_commands s.peer.phase.waiting)) s.peer.phase.waiting k
     made false = k
 

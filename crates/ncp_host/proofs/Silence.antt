@@ -6,7 +6,7 @@ use Rattle.ncp_terms.specs.declared.command.Command.{Command}
 use Rattle.ncp_slot.specs.declared.slot.Slot.TheVariants.{Empty, Ready, Travelling, Held}
 use Rattle.ncp_terms.specs.declared.answer.Answer.{Answer}
 use Rattle.ncp_slot.specs.Slot.{is_empty, is_ready, answered}
-use Rattle.ncp_slot.specs.Slots.{LinkSlot, LinkSlots, OthersStay, slot_at, with_slot, is_quiet}
+use Rattle.ncp_slot.specs.Slots.{LinkSlot, LinkSlots, OtherSlotsStay, slot_at, with_slot, is_quiet}
 use Rattle.ncp_slot.proofs.Places.{is_quiet-tells, slot_at-changed, OthersStay-changed}
 use Rattle.ncp_model.specs.Act.{answer}
 use Rattle.ncp_model.specs.Ends.{cut_in}
@@ -119,7 +119,7 @@ emptied how (Travelling m) e = refl
 emptied how (Held m) e = refl
 
 -- an answer comes to the message on a link, which may be to go out again now
-pub marked_again : (kept again now : ℕ) (before after : LinkSlots) (on : ℕ) (how : Answer) → AreMarked kept again before → slot_at after on ≡ answered how (slot_at before on) → OthersStay before after on → ((link : ℕ) → is_in now link ≡ (if link == on then true else is_in again link)) → AreMarked kept now after
+pub marked_again : (kept again now : ℕ) (before after : LinkSlots) (on : ℕ) (how : Answer) → AreMarked kept again before → slot_at after on ≡ answered how (slot_at before on) → OtherSlotsStay before after on → ((link : ℕ) → is_in now link ≡ (if link == on then true else is_in again link)) → AreMarked kept now after
 marked_again kept again now before after on how marked there others inserted = record {
   has_kept = λ link low high full. elim (eqb_tells link on) [
     | inl e ↦ marked.has_kept link low high (ap (λ (k : ℕ). is_empty (slot_at before k)) e.1 ∙ emptied how (slot_at before on) (sym (ap is_empty there) ∙ sym (ap (λ (k : ℕ). is_empty (slot_at after k)) e.1) ∙ full))

@@ -12,14 +12,14 @@ use Rattle.ncp_model.specs.Texts.{Rfnm, Incomplete, Dead}
 use Rattle.ncp_model.specs.Leading.{passes}
 use Rattle.ncp_model.specs.Happenings.{Happening, happens}
 use Rattle.ncp_model.specs.Happenings as all
-use Rattle.ncp_host.specs.Soundness.{is_busy}
+use Rattle.ncp_host.specs.Soundness.{is_end_busy}
 
 -- no text of the end goes out
 abbrev pub is_still : Happening → Bool
 is_still all.Text_goes_out = false
 is_still what = true
 
-pub stays-busy : (pair : Pair) (what : Happening) (before : Option End) (e : End) → (happens pair what before).after ≡ Some e → is_still what ≡ true → e.busy ≡ true → is_busy before ≡ true
+pub stays-busy : (pair : Pair) (what : Happening) (before : Option End) (e : End) → (happens pair what before).after ≡ Some e → is_still what ≡ true → e.busy ≡ true → is_end_busy before ≡ true
 stays-busy pair (all.Asks_to_send of_size with_room own full) None e h s k = grind arith
 stays-busy pair (all.Asks_to_send of_size with_room own full) (Some x) e h s k = grind arith
 stays-busy pair (all.Asks_to_receive with_room by own full) None e h s k = grind arith

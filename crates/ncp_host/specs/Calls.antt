@@ -9,12 +9,12 @@ use Rattle.ncp_model.specs.declared.call_fault.CallFault.{CallFault}
 use Rattle.ncp_model.specs.declared.call_fault.CallFault.TheVariants.{NoEntry, OutOfMemory}
 use Rattle.ncp_model.specs.declared.outcomes.Error.{Error}
 use Rattle.ncp_model.specs.Phase.{Phase, reset_answer}
-use Rattle.ncp_model.specs.Peers.{Call, Take, comes_of, reply, reply_of_take, reply_of_echo}
+use Rattle.ncp_model.specs.Peers.{PairCall, Take, comes_of, reply, reply_of_take, reply_of_echo}
 use Rattle.ncp_conn.specs.declared.record.Record.{Record}
 use Rattle.ncp_conn.specs.Records.{record_in}
 use Rattle.ncp_host.specs.declared.counts.Counts.{Counts}
 use Rattle.ncp_host.specs.declared.flags.Flags.{Flags}
-use Rattle.ncp_host.specs.PeerState.{PeerState, calls, calls_echo, calls_reset, calls_wake}
+use Rattle.ncp_host.specs.PeerState.{PeerState, state_calls, state_calls_echo, state_calls_reset, state_calls_wake}
 use Rattle.ncp_host.specs.Host.{Host, state_of, changed, if_known}
 
 -- A call on a connection.
@@ -23,11 +23,11 @@ use Rattle.ncp_host.specs.Host.{Host, state_of, changed, if_known}
 abbrev pub sockets : ℕ → ℕ → Pair
 sockets local remote = record { local = local; remote = remote }
 
-abbrev pub call_reply : ℕ → Pair → Call → Host → Result (Unit {0}) CallFault
+abbrev pub call_reply : ℕ → Pair → PairCall → Host → Result (Unit {0}) CallFault
 call_reply number pair call h = if_known (state_of h number) (λ s. reply (comes_of pair call s.peer))
 
-abbrev pub after_call : ℕ → Pair → Call → Host → Host
-after_call number pair call h = changed number (calls pair call) h
+abbrev pub after_call_to : ℕ → Pair → PairCall → Host → Host
+after_call_to number pair call h = changed number (state_calls pair call) h
 
 -- the answer to the one that has bits
 abbrev pub take_reply : ℕ → Pair → ℕ → Host → Result (List Bool) CallFault
@@ -39,13 +39,13 @@ abbrev pub reset_reply : ℕ → Host → Result (Unit {0}) CallFault
 reset_reply number h = if_known (state_of h number) (λ s. reset_answer s.peer.phase)
 
 abbrev pub after_reset : ℕ → Host → Host
-after_reset number h = changed number calls_reset h
+after_reset number h = changed number state_calls_reset h
 
 abbrev pub echo_reply : ℕ → ℕ → Host → Result (Unit {0}) CallFault
 echo_reply number byte h = if_known (state_of h number) (λ s. reply_of_echo byte s.peer)
 
 abbrev pub after_echo : ℕ → ℕ → Host → Host
-after_echo number byte h = changed number (calls_echo byte) h
+after_echo number byte h = changed number (state_calls_echo byte) h
 
 -- What is held for a dead destination is asked for: in any phase (this profile's rule).
 
@@ -53,7 +53,7 @@ abbrev pub wake_reply : ℕ → Host → Result (Unit {0}) CallFault
 wake_reply number h = if_known (state_of h number) (λ s. Ok tt)
 
 abbrev pub after_wake : ℕ → Host → Host
-after_wake number h = changed number calls_wake h
+after_wake number h = changed number state_calls_wake h
 
 -- A call that takes memory does all that it is to do, or nothing where there is no memory for it. That is
 -- answered last, where no other refusal comes.

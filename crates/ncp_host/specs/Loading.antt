@@ -6,12 +6,12 @@ use Rattle.ncp_slot.specs.Slots.{LinkSlots}
 use Rattle.ncp_model.specs.declared.pair.Pair.{Pair}
 use Rattle.ncp_model.specs.Ends.{Ends, pair_of, sender_on}
 use Rattle.ncp_host.specs.Saved.{file_name, file_version}
-use Rattle.ncp_host.specs.Soundness.{is_busy, hears, IsOut}
+use Rattle.ncp_host.specs.Soundness.{is_end_busy, pair_hears_link, IsOut}
 
 -- to the end of a pair alone the link leads that it heard, and its text is in its slot while it is out
 pub record IsPlaced (m : Ends) (slots : LinkSlots) (p : Pair) : Type 0 where
-  pub alone : (on : ℕ) → hears on p m ≡ true → pair_of (sender_on on m) ≡ Some p
-  pub out : is_busy (get m p) ≡ true → IsOut m slots p
+  pub alone : (on : ℕ) → pair_hears_link on p m ≡ true → pair_of (sender_on on m) ≡ Some p
+  pub out : is_end_busy (get m p) ≡ true → IsOut m slots p
 
 -- the version of the bytes in which a host is saved, where they begin with the name
 abbrev pub version_in : List ℕ → Option ℕ

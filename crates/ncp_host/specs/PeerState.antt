@@ -6,7 +6,7 @@ use Rattle.ncp_terms.specs.declared.answer.Answer.TheVariants.{Rfnm, Incomplete,
 use Rattle.ncp_slot.specs.Slot.{answered, is_travelling}
 use Rattle.ncp_slot.specs.Slots.{LinkSlots, slot_at, with_slot, all_woken, no_slots, is_quiet}
 use Rattle.ncp_model.specs.declared.pair.Pair.{Pair}
-use Rattle.ncp_model.specs.Peers.{Peer, Call, new_peer}
+use Rattle.ncp_model.specs.Peers.{Peer, PairCall, new_peer}
 use Rattle.ncp_model.specs.Peers as peers
 use Rattle.ncp_host.specs.declared.counts.Counts.{Counts}
 use Rattle.ncp_host.specs.Counting.{one_more, no_counts}
@@ -22,18 +22,18 @@ new_state = record { peer = new_peer; slots = no_slots; counts = no_counts }
 
 -- what a call of a user makes of it
 
-abbrev pub calls : Pair → Call → PeerState → PeerState
-calls pair call s = record s { peer = peers.calls pair call s.peer }
+abbrev pub state_calls : Pair → PairCall → PeerState → PeerState
+state_calls pair call s = record s { peer = peers.calls pair call s.peer }
 
-abbrev pub calls_echo : ℕ → PeerState → PeerState
-calls_echo byte s = record s { peer = peers.calls_echo byte s.peer }
+abbrev pub state_calls_echo : ℕ → PeerState → PeerState
+state_calls_echo byte s = record s { peer = peers.calls_echo byte s.peer }
 
-abbrev pub calls_reset : PeerState → PeerState
-calls_reset s = record s { peer = peers.calls_reset (is_quiet s.slots) s.peer }
+abbrev pub state_calls_reset : PeerState → PeerState
+state_calls_reset s = record s { peer = peers.calls_reset (is_quiet s.slots) s.peer }
 
 -- the messages that are held for a dead destination are to go out again (this profile's rule)
-abbrev pub calls_wake : PeerState → PeerState
-calls_wake s = record s { slots = all_woken s.slots }
+abbrev pub state_calls_wake : PeerState → PeerState
+state_calls_wake s = record s { slots = all_woken s.slots }
 
 -- The answer to the message that went out on a link (BBN 1822, section 3): a text that was taken frees
 -- its sender, and after an RFNM on any link the host settles. A message that was not delivered goes out

@@ -27,17 +27,17 @@ is_ready_by (Ready message) on p = true
 is_ready_by (Travelling message) on p = false
 is_ready_by (Held message) on p = false
 
-abbrev pub is_ready : ℕ → PeerState → Bool
-is_ready on s = is_ready_by (slot_at s.slots on) on s.peer
+abbrev pub is_link_ready : ℕ → PeerState → Bool
+is_link_ready on s = is_ready_by (slot_at s.slots on) on s.peer
 
 -- no link to a peer is ready; or a link is the first that is
 abbrev pub NoLinkReady : PeerState → Type 0
-NoLinkReady s = (on : ℕ) → HasSlot on → is_ready on s ≡ false
+NoLinkReady s = (on : ℕ) → HasSlot on → is_link_ready on s ≡ false
 
 pub record IsFirstLink (on : ℕ) (s : PeerState) : Type 0 where
   pub link : HasSlot on
-  pub ready : is_ready on s ≡ true
-  pub first : (lower : ℕ) → lower < on → HasSlot lower → is_ready lower s ≡ false
+  pub ready : is_link_ready on s ≡ true
+  pub first : (lower : ℕ) → lower < on → HasSlot lower → is_link_ready lower s ≡ false
 
 -- the message on the first link to a peer that is ready
 abbrev pub IsMessageTo : ℕ × PeerState → List Bool → Type 0

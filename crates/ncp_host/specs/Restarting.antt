@@ -22,13 +22,13 @@ abbrev pub incomplete_bits : ℕ → ℕ → List Bool
 incomplete_bits number on = leader_bits (incomplete_leader number on)
 
 -- whether a message is out on a link
-abbrev pub is_out : ℕ → Option PeerState → Bool
-is_out on None = false
-is_out on (Some s) = is_answered on s
+abbrev pub is_message_out : ℕ → Option PeerState → Bool
+is_message_out on None = false
+is_message_out on (Some s) = is_answered on s
 
 -- it is received on a link on which a message is out
 abbrev pub incomplete_comes : ℕ → ℕ → Host → Host
-incomplete_comes number on h = if is_out on (state_of h number) then after_received (incomplete_bits number on) h else h
+incomplete_comes number on h = if is_message_out on (state_of h number) then after_received (incomplete_bits number on) h else h
 
 -- on some links, one after the other
 unfoldable pub incompletes_come : ℕ → List ℕ → Host → Host

@@ -2,26 +2,26 @@
 use Rattle.std.specs.Prelude.{◌≡◌, ℕ, Bool, true, List, length}
 use Rattle.std.specs.List.{zip}
 use Rattle.ncp_model.specs.declared.pair.Pair.{Pair}
-use Rattle.ncp_model.specs.Peers.{Call}
+use Rattle.ncp_model.specs.Peers.{PairCall}
 use Rattle.ncp_host.specs.PeerState.{PeerState}
 use Rattle.ncp_host.specs.Host.{Host, are_peers}
-use Rattle.ncp_host.specs.Calls.{after_call, after_reset, after_echo, after_wake}
+use Rattle.ncp_host.specs.Calls.{after_call_to, after_reset, after_echo, after_wake}
 use Rattle.ncp_host.specs.Arrivals.{after_received}
 use Rattle.ncp_host.specs.Turns.{after_next_output}
 use Rattle.ncp_host.specs.Soundness.{AreWell}
 
 -- A call that is refused for want of memory leaves the host as it was, and so does what is read: neither
 -- is a step.
-pub data Step : Type 0 where
-  Calls : (number : ℕ) → (pair : Pair) → (call : Call) → Step
-  Resets : (number : ℕ) → Step
-  Echoes : (number : ℕ) → (byte : ℕ) → Step
-  Wakes : (number : ℕ) → Step
-  Receives : (bits : List Bool) → Step
-  Sends : Step
+pub data HostStep : Type 0 where
+  Calls : (number : ℕ) → (pair : Pair) → (call : PairCall) → HostStep
+  Resets : (number : ℕ) → HostStep
+  Echoes : (number : ℕ) → (byte : ℕ) → HostStep
+  Wakes : (number : ℕ) → HostStep
+  Receives : (bits : List Bool) → HostStep
+  Sends : HostStep
 
-abbrev pub after_step : Step → Host → Host
-after_step (Calls number pair call) h = after_call number pair call h
+abbrev pub after_step : HostStep → Host → Host
+after_step (Calls number pair call) h = after_call_to number pair call h
 after_step (Resets number) h = after_reset number h
 after_step (Echoes number byte) h = after_echo number byte h
 after_step (Wakes number) h = after_wake number h

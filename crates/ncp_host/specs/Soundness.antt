@@ -15,38 +15,38 @@ use Rattle.ncp_model.specs.Peers.{Peer}
 use Rattle.ncp_host.specs.PeerState.{PeerState}
 
 -- a text of the end is out
-abbrev pub is_busy : Option End → Bool
-is_busy None = false
-is_busy (Some e) = e.busy
+abbrev pub is_end_busy : Option End → Bool
+is_end_busy None = false
+is_end_busy (Some e) = e.busy
 
 -- the end of a pair sends, and heard the link
-abbrev pub hears : ℕ → Pair → Ends → Bool
-hears on p m = passes (hears_link on) p (get m p)
+abbrev pub pair_hears_link : ℕ → Pair → Ends → Bool
+pair_hears_link on p m = passes (hears_link on) p (get m p)
 
 -- the text of a pair's end is in the slot of the link that the end heard
 abbrev pub IsOut : Ends → LinkSlots → Pair → Type 0
-IsOut m slots p = (on : ℕ) × ((on ≡ 0) → ⊥) × (hears on p m ≡ true) × (is_empty (slot_at slots on) ≡ false)
+IsOut m slots p = (on : ℕ) × ((on ≡ 0) → ⊥) × (pair_hears_link on p m ≡ true) × (is_empty (slot_at slots on) ≡ false)
 
 -- two sending ends never hear one link, and a text that is out is in its slot
 pub record Agree (m : Ends) (slots : LinkSlots) : Type 0 where
-  pub one : (on : ℕ) (p q : Pair) → hears on p m ≡ true → hears on q m ≡ true → p ≡ q
-  pub out : (p : Pair) → is_busy (get m p) ≡ true → IsOut m slots p
+  pub one : (on : ℕ) (p q : Pair) → pair_hears_link on p m ≡ true → pair_hears_link on q m ≡ true → p ≡ q
+  pub out : (p : Pair) → is_end_busy (get m p) ≡ true → IsOut m slots p
 
 -- and while the host is not up with the peer no end is there
-pub record Sound (p : Peer) (slots : LinkSlots) : Type 0 where
+pub record SoundPeer (p : Peer) (slots : LinkSlots) : Type 0 where
   pub ends : Agree p.ends slots
   pub down : up p.phase ≡ false → p.ends ≡ no_ends
 
 abbrev pub IsSound : PeerState → Type 0
-IsSound s = Sound s.peer s.slots
+IsSound s = SoundPeer s.peer s.slots
 
 -- an ERR has ten bytes of data at most; all others have their few fields
-abbrev pub is_short : Command → Bool
-is_short (commands.Err code bytes) = nat_le (length bytes) 10
-is_short c = true
+abbrev pub has_short_data : Command → Bool
+has_short_data (commands.Err code bytes) = nat_le (length bytes) 10
+has_short_data c = true
 
 abbrev pub IsShort : Command → Type 0
-IsShort c = is_short c ≡ true
+IsShort c = has_short_data c ≡ true
 
 -- each command that waits has room in a control message: so the first of them goes out with the next one
 abbrev pub IsFit : PeerState → Type 0

@@ -6,7 +6,7 @@ ghost use Rattle.ncp_model.specs.Act.{answer, made_if_any};
 ghost use Rattle.ncp_model.specs.Ends.{cut_in};
 ghost use Rattle.ncp_model.specs.Sending.{next_commands};
 ghost use Rattle.ncp_terms.specs.Spelling.{spellings};
-ghost use Rattle.ncp_model.specs.Peers.{new_peer, falls, makes, calls_reset, settles, frees, sends, cuts};
+ghost use Rattle.ncp_model.specs.Peers.{new_peer, falls, makes, calls_reset, settles, frees, peer_sends, cuts};
 ghost use Rattle.ncp_conn.specs.Cutting.{next_cut, sizes, text_of};
 
 mod calls;
@@ -129,7 +129,7 @@ impl<S: BitStore> Association<S> {
     pub(crate) fn take_text(&mut self) -> ControlText
         ensures text { result.items ≡ spellings (next_commands self.old.phase.waiting) }
         ensures fits { length result.items ≤ MAX_CONTROL }
-        ensures peer { self.new ≡ sends self.old }
+        ensures peer { self.new ≡ peer_sends self.old }
     {
         self.phase.take_text()
     }

@@ -21,7 +21,7 @@ ghost use Rattle.ncp_host.specs.Listing.{connection_told};
 ghost use Rattle.ncp_host.specs.Arrivals.{OnlyNamedPeerChanges, OthersStay};
 ghost use Rattle.ncp_host.specs.Restarting.{after_restart, IsGivenUp};
 ghost use Rattle.ncp_host.specs.Saved.{saved, AreAlikeHosts, HaveTheirLinks};
-ghost use Rattle.ncp_host.specs.Readiness.{is_ready_by, is_ready, NoLinkReady, IsFirstLink, IsNext};
+ghost use Rattle.ncp_host.specs.Readiness.{is_ready_by, is_link_ready, NoLinkReady, IsFirstLink, IsNext};
 
 /// What is to go out again is ready. What is out or is held is not, whatever is new; with nothing out,
 /// link 0 is ready exactly where a command waits.
@@ -35,8 +35,8 @@ pub fn what_is_out_or_held_is_not_ready()
 
 /// Nothing goes out next only where no link to any peer is ready, to the first peer or to one behind it.
 pub fn nothing_goes_out_only_where_nothing_is_ready()
-    ensures first { (on : ℕ) (p : ℕ × PeerState) (ps : List (ℕ × PeerState)) → HasSlot on → is_ready on p.1 ≡ true → IsNext None (p ∷ ps) → ⊥ }
-    ensures behind { (on : ℕ) (p q : ℕ × PeerState) (ps : List (ℕ × PeerState)) → HasSlot on → is_ready on q.1 ≡ true → IsNext None (p ∷ q ∷ ps) → ⊥ }
+    ensures first { (on : ℕ) (p : ℕ × PeerState) (ps : List (ℕ × PeerState)) → HasSlot on → is_link_ready on p.1 ≡ true → IsNext None (p ∷ ps) → ⊥ }
+    ensures behind { (on : ℕ) (p q : ℕ × PeerState) (ps : List (ℕ × PeerState)) → HasSlot on → is_link_ready on q.1 ≡ true → IsNext None (p ∷ q ∷ ps) → ⊥ }
     ensures none { (message : List Bool) → IsNext (Some message) [] → ⊥ }
 {}
 
@@ -46,7 +46,7 @@ pub fn the_first_that_is_ready_goes_out()
     ensures may { (p : ℕ × PeerState) (ps : List (ℕ × PeerState)) (again : List Bool) → slot_at p.1.slots 0 ≡ Slot.Ready again → IsNext (Some again) (p ∷ ps) }
     ensures alone { (p : ℕ × PeerState) (ps : List (ℕ × PeerState)) (again message : List Bool) → slot_at p.1.slots 0 ≡ Slot.Ready again → IsNext (Some message) (p ∷ ps) → message ≡ again }
     ensures behind { (p q : ℕ × PeerState) (ps : List (ℕ × PeerState)) (again message : List Bool) → NoLinkReady p.1 → slot_at q.1.slots 0 ≡ Slot.Ready again → IsNext (Some message) (p ∷ q ∷ ps) → message ≡ again }
-    ensures lower { (lower on : ℕ) (s : PeerState) → lower < on → HasSlot lower → is_ready lower s ≡ true → IsFirstLink on s → ⊥ }
+    ensures lower { (lower on : ℕ) (s : PeerState) → lower < on → HasSlot lower → is_link_ready lower s ≡ true → IsFirstLink on s → ⊥ }
 {}
 
 /// Bits whose leader names a peer change what the host has for no other; and where they change what

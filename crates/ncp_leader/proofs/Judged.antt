@@ -11,7 +11,7 @@ use Rattle.ncp_leader.specs.declared.leader.Leader.{Leader}
 use Rattle.ncp_leader.specs.declared.regular.TheConstants.{FRONT_BITS, MAX_TEXT_BITS}
 use Rattle.ncp_leader.specs.declared.fault.MessageFault.{MessageFault}
 use Rattle.ncp_leader.specs.declared.fault.MessageFault.TheVariants.{ShortPrefix, M1NotZero, SizeZero, M2NotZero, TextMissing, TextTooLong, NotWhole}
-use Rattle.ncp_leader.specs.Message.{message_in, message_at, message_bits, message_with, written, size_at, text_end, IsReadFault, IsWriteFault, judged}
+use Rattle.ncp_leader.specs.Message.{message_in, message_at, message_bits, message_with, written, size_at, text_end, IsReadFault, IsWriteFault, message_faults_judged}
 
 -- the tests of a message that is read
 read_test : List Bool → MessageFault → Bool
@@ -36,13 +36,13 @@ read_decided bits TextMissing = Decides-ltb (length bits) (text_end bits)
 read_decided bits TextTooLong = never
 read_decided bits NotWhole = never
 
-pub read_first : (bits : List Bool) (fault : MessageFault) → (message_in bits ≡ Err fault) ↔ IsFirst (IsReadFault bits) judged fault
+pub read_first : (bits : List Bool) (fault : MessageFault) → (message_in bits ≡ Err fault) ↔ IsFirst (IsReadFault bits) message_faults_judged fault
 unfolding answer read_test
-read_first bits fault = answer_first {holds = IsReadFault bits} (read_test bits) (read_decided bits) judged (message_at bits) fault
+read_first bits fault = answer_first {holds = IsReadFault bits} (read_test bits) (read_decided bits) message_faults_judged (message_at bits) fault
 
-pub read_none : (bits : List Bool) → NoneHolds (IsReadFault bits) judged → message_in bits ≡ Ok (message_at bits)
+pub read_none : (bits : List Bool) → NoneHolds (IsReadFault bits) message_faults_judged → message_in bits ≡ Ok (message_at bits)
 unfolding answer read_test
-read_none bits h = answer_none {holds = IsReadFault bits} (read_test bits) (read_decided bits) judged (message_at bits) h
+read_none bits h = answer_none {holds = IsReadFault bits} (read_test bits) (read_decided bits) message_faults_judged (message_at bits) h
 
 -- a length is a whole number of bytes where nothing is left of it
 no_rest : (n size : ℕ) → n % size ≡ 0 → n ≡ size * (n / size)
@@ -76,10 +76,10 @@ write_decided size text TextMissing = never
 write_decided size text TextTooLong = Decides-ltb MAX_TEXT_BITS (length text)
 write_decided size text NotWhole = whole (length text) size
 
-pub write_first : (leader : Leader) (size : ℕ) (text : List Bool) (fault : MessageFault) → (written leader size text ≡ Err fault) ↔ IsFirst (IsWriteFault size text) judged fault
+pub write_first : (leader : Leader) (size : ℕ) (text : List Bool) (fault : MessageFault) → (written leader size text ≡ Err fault) ↔ IsFirst (IsWriteFault size text) message_faults_judged fault
 unfolding answer write_test
-write_first leader size text fault = answer_first {holds = IsWriteFault size text} (write_test size text) (write_decided size text) judged (message_bits (message_with leader size text)) fault
+write_first leader size text fault = answer_first {holds = IsWriteFault size text} (write_test size text) (write_decided size text) message_faults_judged (message_bits (message_with leader size text)) fault
 
-pub write_none : (leader : Leader) (size : ℕ) (text : List Bool) → NoneHolds (IsWriteFault size text) judged → written leader size text ≡ Ok (message_bits (message_with leader size text))
+pub write_none : (leader : Leader) (size : ℕ) (text : List Bool) → NoneHolds (IsWriteFault size text) message_faults_judged → written leader size text ≡ Ok (message_bits (message_with leader size text))
 unfolding answer write_test
-write_none leader size text h = answer_none {holds = IsWriteFault size text} (write_test size text) (write_decided size text) judged (message_bits (message_with leader size text)) h
+write_none leader size text h = answer_none {holds = IsWriteFault size text} (write_test size text) (write_decided size text) message_faults_judged (message_bits (message_with leader size text)) h

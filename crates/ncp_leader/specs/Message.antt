@@ -70,8 +70,8 @@ message_in bits =
     else Ok (message_at bits)
 
 -- a byte of a message's text, counted from 0: a run of the byte size
-abbrev pub byte_at : Message → ℕ → List Bool
-byte_at message place = slice_range message.text (message.size * place) (message.size * place + message.size)
+abbrev pub message_byte_at : Message → ℕ → List Bool
+message_byte_at message place = slice_range message.text (message.size * place) (message.size * place + message.size)
 
 -- the message that a leader, a byte size and a text of whole bytes make
 abbrev pub message_with : Leader → ℕ → List Bool → Message
@@ -107,5 +107,5 @@ IsWriteFault size text TextTooLong = MAX_TEXT_BITS < length text
 IsWriteFault size text NotWhole = (count : ℕ) → length text ≢ size * count
 
 -- the order in which they are judged, the same for both
-abbrev pub judged : List MessageFault
-judged = ShortPrefix ∷ M1NotZero ∷ SizeZero ∷ M2NotZero ∷ TextMissing ∷ TextTooLong ∷ NotWhole ∷ []
+abbrev pub message_faults_judged : List MessageFault
+message_faults_judged = ShortPrefix ∷ M1NotZero ∷ SizeZero ∷ M2NotZero ∷ TextMissing ∷ TextTooLong ∷ NotWhole ∷ []

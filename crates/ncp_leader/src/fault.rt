@@ -1,6 +1,6 @@
 //! `MessageFault`.
 ghost use Rattle.std.specs.Prelude.{◌≡◌};
-ghost use Rattle.ncp_leader.specs.Fault.{name_of};
+ghost use Rattle.ncp_leader.specs.Fault.{name_of_message_fault};
 
 use crate::regular::MAX_TEXT_BITS;
 use thiserror::Error;
@@ -27,7 +27,7 @@ pub enum MessageFault {
 impl MessageFault {
     /// The name that a program prints.
     pub fn name(self) -> &'static str
-        ensures { result.now ≡ name_of self }
+        ensures { result.now ≡ name_of_message_fault self }
     {
         match self {
             MessageFault::ShortPrefix => "ShortPrefix",

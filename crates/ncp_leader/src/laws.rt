@@ -1,7 +1,7 @@
 //! Laws about leaders, messages and their bits, each the contract of a function that does nothing.
 ghost use Rattle.std.specs.Prelude.{◌≡◌, ◌↔◌, Ok, Err, ◌<◌, ◌≤◌, ◌%◌, ◌^◌, ◌++◌, ℕ, List, Bool, length};
 ghost use Rattle.ncp_leader.specs.Leader.{IsLeader, BeginsWith, leader_bits, leader_in};
-ghost use Rattle.ncp_leader.specs.Message.{Message, IsMessage, StandsFor, message_bits, message_in, message_at, message_with, written, IsReadFault, IsWriteFault, judged};
+ghost use Rattle.ncp_leader.specs.Message.{Message, IsMessage, StandsFor, message_bits, message_in, message_at, message_with, written, IsReadFault, IsWriteFault, message_faults_judged};
 ghost use Rattle.ncp_bits.specs.Reasons.{IsFirst, NoneHolds};
 ghost use Rattle.ncp_numbers.specs.Numbers.{number_at};
 ghost use Rattle.ncp_leader.specs.declared.leader.Leader.{Leader};
@@ -47,13 +47,13 @@ pub fn whole_bytes_make_a_message()
 /// [`MessageFault`]; where none does, the message is read or written.
 pub fn faults_are_in_order()
     ensures read { (bits : List Bool) (fault : MessageFault) →
-        (message_in bits ≡ Err fault) ↔ IsFirst (IsReadFault bits) judged fault }
+        (message_in bits ≡ Err fault) ↔ IsFirst (IsReadFault bits) message_faults_judged fault }
     ensures found { (bits : List Bool) →
-        NoneHolds (IsReadFault bits) judged → message_in bits ≡ Ok (message_at bits) }
+        NoneHolds (IsReadFault bits) message_faults_judged → message_in bits ≡ Ok (message_at bits) }
     ensures write { (leader : Leader) (size : ℕ) (text : List Bool) (fault : MessageFault) →
-        (written leader size text ≡ Err fault) ↔ IsFirst (IsWriteFault size text) judged fault }
+        (written leader size text ≡ Err fault) ↔ IsFirst (IsWriteFault size text) message_faults_judged fault }
     ensures made { (leader : Leader) (size : ℕ) (text : List Bool) →
-        NoneHolds (IsWriteFault size text) judged →
+        NoneHolds (IsWriteFault size text) message_faults_judged →
         written leader size text ≡ Ok (message_bits (message_with leader size text)) }
 {}
 

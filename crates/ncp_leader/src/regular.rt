@@ -2,7 +2,7 @@
 ghost use Rattle.std.specs.Prelude.{◌≡◌, ◌<◌, ◌≤◌, ◌+◌, ◌*◌, length, IfOk};
 ghost use Rattle.ncp_leader.specs.Leader.{IsLeader};
 ghost use Rattle.ncp_leader.specs.declared.leader.TheConstants.{MAX_FLAGS, MAX_KIND};
-ghost use Rattle.ncp_leader.specs.Message.{Message, StandsFor, message_bits, message_in, byte_at, message_with, written};
+ghost use Rattle.ncp_leader.specs.Message.{Message, StandsFor, message_bits, message_in, message_byte_at, message_with, written};
 ghost use Rattle.ncp_leader.specs.Front.{front_bits};
 
 use crate::fault::MessageFault;
@@ -83,7 +83,7 @@ impl<'a> Regular<'a> {
     /// A byte of the text, counted from 0.
     pub fn byte(&self, place: u16) -> Part<'a>
         requires { place < self.now.count }
-        ensures bits { result ≡ byte_at self.now place }
+        ensures bits { result ≡ message_byte_at self.now place }
         ensures len { length result ≡ self.now.size }
     {
         let width = usize::from(self.size);

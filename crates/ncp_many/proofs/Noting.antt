@@ -12,7 +12,7 @@ use Rattle.ncp_transcript_two.specs.declared.note.Note.{Note}
 use Rattle.ncp_transcript_two.specs.declared.note.Note.TheVariants as notes
 use Rattle.ncp_transcript_two.specs.Happening.{Noted}
 use Rattle.ncp_transcript_two.specs.Seen.{CallFits}
-use Rattle.ncp_step.specs.Told.{told}
+use Rattle.ncp_step.specs.Told.{note_if_any}
 use Rattle.ncp_step.proofs.Telling.{came-noted, came-vain, answer-noted, answer-vain}
 use Rattle.ncp_transcript_many.specs.declared.many_event.ManyEvent.{ManyEvent}
 use Rattle.ncp_transcript_many.specs.declared.many_event.ManyEvent.TheVariants as events
@@ -33,19 +33,19 @@ pub noted-out : (m : Crowd) (host : ℕ) (n : HostNote) → is_there host m ≡ 
 noted-out m host n e is = noted-two (events.Out host) (many.Out host n) m (notes.Out A n) e (ap (notes.Out A) is) refl
 
 module _ (m : Crowd) (from to link : ℕ) (e : are_two from to m ≡ true) where
-  pub noted-came : (n : HostNote) → Some n ≡ told (arriving from (transit_at m.subnet from to link)) (host_at to m) → ManyNoted (events.Deliver from to link) (many.Came from to link n) m
+  pub noted-came : (n : HostNote) → Some n ≡ note_if_any (arriving from (transit_at m.subnet from to link)) (host_at to m) → ManyNoted (events.Deliver from to link) (many.Came from to link n) m
   noted-came n is =
       noted-two (events.Deliver from to link) (many.Came from to link n) m (notes.Came A link n) e (came-noted A link (arriving from (transit_at m.subnet from to link)) (between from to m) n is) refl
 
-  pub vain-came : None ≡ told (arriving from (transit_at m.subnet from to link)) (host_at to m) → ManyNoted (events.Deliver from to link) (many.Nothing (events.Deliver from to link)) m
+  pub vain-came : None ≡ note_if_any (arriving from (transit_at m.subnet from to link)) (host_at to m) → ManyNoted (events.Deliver from to link) (many.Nothing (events.Deliver from to link)) m
   vain-came is =
       noted-two (events.Deliver from to link) (many.Nothing (events.Deliver from to link)) m (notes.Nothing A link moves.Deliver) e (came-vain A link (arriving from (transit_at m.subnet from to link)) (between from to m) is) refl
 
-  pub noted-answer : (n : HostNote) → Some n ≡ told (answer_about to link (transit_at m.subnet from to link)) (host_at from m) → ManyNoted (events.Answer from to link) (many.Answered from to link n) m
+  pub noted-answer : (n : HostNote) → Some n ≡ note_if_any (answer_about to link (transit_at m.subnet from to link)) (host_at from m) → ManyNoted (events.Answer from to link) (many.Answered from to link n) m
   noted-answer n is =
       noted-two (events.Answer from to link) (many.Answered from to link n) m (notes.Answered A link n) e (answer-noted A link (answer_about to link (transit_at m.subnet from to link)) (between from to m) n is) refl
 
-  pub vain-answer : None ≡ told (answer_about to link (transit_at m.subnet from to link)) (host_at from m) → ManyNoted (events.Answer from to link) (many.Nothing (events.Answer from to link)) m
+  pub vain-answer : None ≡ note_if_any (answer_about to link (transit_at m.subnet from to link)) (host_at from m) → ManyNoted (events.Answer from to link) (many.Nothing (events.Answer from to link)) m
   vain-answer is =
       noted-two (events.Answer from to link) (many.Nothing (events.Answer from to link)) m (notes.Nothing A link moves.Answer) e (answer-vain A link (answer_about to link (transit_at m.subnet from to link)) (between from to m) is) refl
 

@@ -10,12 +10,12 @@ ghost use Rattle.ncp_host.specs.Host.{is_one_of, are_distinct, new_host};
 ghost use Rattle.ncp_transcript.specs.Noting.{CallNoted, note_of_output};
 ghost use Rattle.ncp_transcript.specs.After.{after_note};
 ghost use Rattle.ncp_transcript_two.specs.Seen.{CallFits};
-ghost use Rattle.ncp_transcript_two.specs.Between.{after_out};
-ghost use Rattle.ncp_step.specs.Told.{told, put_told};
+ghost use Rattle.ncp_transcript_two.specs.Between.{subnet_after_out};
+ghost use Rattle.ncp_step.specs.Told.{note_if_any, put_told};
 ghost use Rattle.ncp_transcript_many.specs.declared.many_event.ManyEvent.TheVariants as events;
 ghost use Rattle.ncp_transcript_many.specs.Numbered.{thing_in, at_thing};
 ghost use Rattle.ncp_transcript_many.specs.Crowd.{numbers_in, is_there, are_hosts, others, new_crowd, host_or_none, after_many};
-ghost use Rattle.ncp_transcript_many.specs.ManyHappening.{are_two, are_there, gives, ManyNoted};
+ghost use Rattle.ncp_transcript_many.specs.ManyHappening.{are_two, are_there, is_giving, ManyNoted};
 ghost use Rattle.ncp_many.specs.Found.{IsAt, at_told};
 
 use ncp_bits::BitStore;
@@ -188,7 +188,7 @@ fn sent<S: BitStore>(
     requires { is_one_of number (map (λ x. x.0) members.old) ≡ true }
     ensures note { IfOk result (λ note. note ≡ note_of_output (host_or_none number (thing_in members.old number))) }
     ensures hosts { IfOk result (λ note. members.new ≡ at_thing number (after_note note) members.old) }
-    ensures subnet { IfOk result (λ note. subnet.new ≡ after_out number note subnet.old) }
+    ensures subnet { IfOk result (λ note. subnet.new ≡ subnet_after_out number note subnet.old) }
     ensures err { OnErr result (members.new ≡ members.old) }
     ensures kept { OnErr result (subnet.new ≡ subnet.old) }
 {
@@ -207,7 +207,7 @@ fn came<S: BitStore>(
     link: u8,
 ) -> Result<Option<HostNote>, AllocError>
     requires { is_one_of to (map (λ x. x.0) members.old) ≡ true }
-    ensures note { IfOk result (λ note. note ≡ told (arriving from (transit_at subnet.old from to link)) (host_or_none to (thing_in members.old to))) }
+    ensures note { IfOk result (λ note. note ≡ note_if_any (arriving from (transit_at subnet.old from to link)) (host_or_none to (thing_in members.old to))) }
     ensures hosts { IfOk result (λ note. members.new ≡ at_told to note members.old) }
     ensures subnet { IfOk result (λ note. subnet.new ≡ put_told note from to link Transit.Delivered subnet.old) }
     ensures err { OnErr result (members.new ≡ members.old) }
@@ -228,7 +228,7 @@ fn answered<S: BitStore>(
     link: u8,
 ) -> Result<Option<HostNote>, AllocError>
     requires { is_one_of from (map (λ x. x.0) members.old) ≡ true }
-    ensures note { IfOk result (λ note. note ≡ told (answer_about to link (transit_at subnet.old from to link)) (host_or_none from (thing_in members.old from))) }
+    ensures note { IfOk result (λ note. note ≡ note_if_any (answer_about to link (transit_at subnet.old from to link)) (host_or_none from (thing_in members.old from))) }
     ensures hosts { IfOk result (λ note. members.new ≡ at_told from note members.old) }
     ensures subnet { IfOk result (λ note. subnet.new ≡ put_told note from to link Transit.Free subnet.old) }
     ensures err { OnErr result (members.new ≡ members.old) }
@@ -396,7 +396,7 @@ impl<S: BitStore> Crowd<S> {
         ensures note { IfOk result (λ note. ManyNoted event.now note self.old) }
         ensures crowd { IfOk result (λ note. self.new ≡ after_many note self.old) }
         ensures err { OnErr result (self.new ≡ self.old) }
-        ensures absent { are_there event.now self.old ≡ false → OnErr result (gives event.now ≡ true) }
+        ensures absent { are_there event.now self.old ≡ false → OnErr result (is_giving event.now ≡ true) }
     {
         if !self.are_there(event) {
             let event = event.copied(alloc)?;

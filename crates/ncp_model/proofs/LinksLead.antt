@@ -16,9 +16,9 @@ use Rattle.ncp_model.specs.Ends.{Ends, count, any, is_by_peer, hears_link, uses_
 use Rattle.ncp_model.specs.Act.{made_by_hearing, made_if_any}
 use Rattle.ncp_model.specs.Commands.{hear_all, hear_gvb, hear_ret, hear_inr, hear_ins}
 use Rattle.ncp_model.specs.Texts.{hear_text, made_by_text, Answer}
-use Rattle.ncp_model.specs.Happenings.{Happening, Happened, happens, happened, of_hearing, of_text, of_cut}
+use Rattle.ncp_model.specs.Happenings.{Happening, Happened, happens, happened, of_hearing, outcome_of_text, of_cut}
 use Rattle.ncp_model.specs.Happenings as all
-use Rattle.ncp_model.specs.Leading.{suits, passes, leads, link_in, comes}
+use Rattle.ncp_model.specs.Leading.{suits, passes, leads, link_in_head, comes}
 use Rattle.ncp_model.proofs.PairOrder.{pairs_exact, pairs_total}
 
 truth : (b : Bool) → T b → b ≡ true
@@ -118,10 +118,10 @@ command-led m (commands.Ins on) pair what e f =
     becomes m (commands.Ins on) pair pair (all.Ins_comes on) what refl f (p.1, ap (λ o. happened (get m pair) (hear_ins on o) made_by_hearing of_hearing) p.0)
 command-led m c pair what e f = absurd (cc e)
 
-pub text-led : (m : Ends) (head : List Bool) (of_size : ℕ) (text : List Bool) (pair : Pair) → pair_of (receiver_on (link_in head) m) ≡ Some pair → (leads pair (all.Text_comes head of_size text) (get m pair) ≡ true) × (happens pair (all.Text_comes head of_size text) (get m pair) ≡ happened (get m pair) (text_in (link_in head) of_size text m) (made_by_text head text) of_text)
+pub text-led : (m : Ends) (head : List Bool) (of_size : ℕ) (text : List Bool) (pair : Pair) → pair_of (receiver_on (link_in_head head) m) ≡ Some pair → (leads pair (all.Text_comes head of_size text) (get m pair) ≡ true) × (happens pair (all.Text_comes head of_size text) (get m pair) ≡ happened (get m pair) (text_in (link_in_head head) of_size text m) (made_by_text head text) outcome_of_text)
 text-led m head of_size text pair e =
-    let p = led (uses_link (link_in head)) m pair e in
-    (p.1, ap (λ o. happened (get m pair) (hear_text of_size text o) (made_by_text head text) of_text) p.0)
+    let p = led (uses_link (link_in_head head)) m pair e in
+    (p.1, ap (λ o. happened (get m pair) (hear_text of_size text o) (made_by_text head text) outcome_of_text) p.0)
 
 -- a sending end that a link leads to sends
 pub hearer-sends : (on : ℕ) (pair : Pair) (before : Option End) → passes (hears_link on) pair before ≡ true → sends pair ≡ true
@@ -162,5 +162,5 @@ suits-led pair (all.Gvb_comes on a b) before h = hearer-sends on pair before h
 suits-led pair (all.Inr_comes on) before h = hearer-sends on pair before h
 suits-led pair (all.Ret_comes on a b) before h = user-receives on pair before h
 suits-led pair (all.Ins_comes on) before h = user-receives on pair before h
-suits-led pair (all.Text_comes head of_size text) before h = user-receives (link_in head) pair before h
+suits-led pair (all.Text_comes head of_size text) before h = user-receives (link_in_head head) pair before h
 suits-led pair what before h = h

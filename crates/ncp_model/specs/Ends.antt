@@ -16,7 +16,7 @@ use Rattle.ncp_model.specs.End.{End, is_over}
 use Rattle.ncp_model.specs.Act.{Act, Stays, Becomes}
 use Rattle.ncp_model.specs.Calls.{may_ask, ask_send, ask_receive}
 use Rattle.ncp_model.specs.Commands.{wrong_rts, wrong_str, hear_rts, hear_str, hear_cls, hear_all, hear_gvb, hear_ret, hear_inr, hear_ins}
-use Rattle.ncp_model.specs.Texts.{hear_text, cut, Answer, answered}
+use Rattle.ncp_model.specs.Texts.{hear_text, cut, Answer, end_answered}
 
 abbrev pub Ends : Type 0
 Ends = FinMap pair_cmp End
@@ -115,7 +115,7 @@ cut_in on m = cut_at (sender_on on m)
 
 abbrev pub answered_at : Answer → Option (Pair × End) → Act (Option Command)
 answered_at how None = Stays None
-answered_at how (Some p) = answered p.0 how (Some p.1)
+answered_at how (Some p) = end_answered p.0 how (Some p.1)
 
 abbrev pub answered_in : ℕ → Answer → Ends → Act (Option Command)
 answered_in on how m = answered_at how (sender_on on m)

@@ -10,24 +10,24 @@ use Rattle.ncp_model.specs.declared.outcomes.Took.TheVariants.{Admitted, Late, W
 use Rattle.ncp_model.specs.declared.outcomes.Took.TheVariants as took
 
 -- as a program prints it
-abbrev pub name_of : CallFault → List ℕ
-name_of UnknownPeer = codes "UnknownPeer"
-name_of NotUp = codes "NotUp"
-name_of BadSex = codes "BadSex"
-name_of BadSize = codes "BadSize"
-name_of BadRoom = codes "BadRoom"
-name_of NoEntry = codes "NoEntry"
-name_of AlreadyAsked = codes "AlreadyAsked"
-name_of Closing = codes "Closing"
-name_of NotOpen = codes "NotOpen"
-name_of WrongEnd = codes "WrongEnd"
-name_of NotWhole = codes "NotWhole"
-name_of Busy = codes "Busy"
-name_of NoRoom = codes "NoRoom"
-name_of TooMuch = codes "TooMuch"
-name_of TableFull = codes "TableFull"
-name_of QueueFull = codes "QueueFull"
-name_of OutOfMemory = codes "OutOfMemory"
+abbrev pub name_of_call_fault : CallFault → List ℕ
+name_of_call_fault UnknownPeer = codes "UnknownPeer"
+name_of_call_fault NotUp = codes "NotUp"
+name_of_call_fault BadSex = codes "BadSex"
+name_of_call_fault BadSize = codes "BadSize"
+name_of_call_fault BadRoom = codes "BadRoom"
+name_of_call_fault NoEntry = codes "NoEntry"
+name_of_call_fault AlreadyAsked = codes "AlreadyAsked"
+name_of_call_fault Closing = codes "Closing"
+name_of_call_fault NotOpen = codes "NotOpen"
+name_of_call_fault WrongEnd = codes "WrongEnd"
+name_of_call_fault NotWhole = codes "NotWhole"
+name_of_call_fault Busy = codes "Busy"
+name_of_call_fault NoRoom = codes "NoRoom"
+name_of_call_fault TooMuch = codes "TooMuch"
+name_of_call_fault TableFull = codes "TableFull"
+name_of_call_fault QueueFull = codes "QueueFull"
+name_of_call_fault OutOfMemory = codes "OutOfMemory"
 
 -- the number that says when it is judged: a smaller one before a greater
 abbrev pub fault_number : CallFault → ℕ

@@ -12,7 +12,7 @@ use Rattle.ncp_model.specs.End.{End}
 use Rattle.ncp_model.specs.Act.{Act, answer, end_after, made_by_call, made_if_any, made_by_close, made_by_take, made_by_hearing}
 use Rattle.ncp_model.specs.Calls.{ask_send, ask_receive, close, give, take_held, allocate, call_back, interrupt}
 use Rattle.ncp_model.specs.Commands.{hear_rts, hear_str, hear_cls, hear_all, hear_gvb, hear_ret, hear_inr, hear_ins}
-use Rattle.ncp_model.specs.Texts.{hear_text, made_by_text, cut, Answer, answered, cleared}
+use Rattle.ncp_model.specs.Texts.{hear_text, made_by_text, cut, Answer, end_answered, end_cleared}
 
 -- What an act depends on beside the end stands in its arguments: own and by_peer are the numbers
 -- of ends with an own request and with the peer's alone; full: no place for a call's command;
@@ -60,9 +60,9 @@ pub record Happened : Type 0 where
 
 -- The outcome, by the kind of answer.
 
-abbrev pub of_call : {A : Type 0} → Result A CallFault → Outcome
-of_call (Ok a) = Accepted
-of_call (Err fault) = Refused fault
+abbrev pub outcome_of_call : {A : Type 0} → Result A CallFault → Outcome
+outcome_of_call (Ok a) = Accepted
+outcome_of_call (Err fault) = Refused fault
 
 abbrev pub of_take : Result (List Bool × Option Command) CallFault → Outcome
 of_take (Ok taken) = Took_out taken.0
@@ -78,12 +78,12 @@ of_hearing (heard.Reply c) = of_reply c
 of_hearing heard.Late = Late
 of_hearing heard.Full = Full
 
-abbrev pub of_text : Took → Outcome
-of_text took.Admitted = Admitted
-of_text took.Late = Late
-of_text took.WrongSize = WrongSize
-of_text took.Over = Over
-of_text took.NotOpen = NotOpen
+abbrev pub outcome_of_text : Took → Outcome
+outcome_of_text took.Admitted = Admitted
+outcome_of_text took.Late = Late
+outcome_of_text took.WrongSize = WrongSize
+outcome_of_text took.Over = Over
+outcome_of_text took.NotOpen = NotOpen
 
 abbrev pub of_cut : Option (ℕ × List Bool) → Outcome
 of_cut None = Accepted
@@ -103,14 +103,14 @@ abbrev pub happened : {A : Type 0} → Option End → Act A → (A → List Comm
 happened before act made_by of = record { after = end_after before act; made = made_by (answer act); outcome = of (answer act) }
 
 abbrev pub happens : Pair → Happening → Option End → Happened
-happens pair (Asks_to_send of_size with_room own full) before = happened before (ask_send pair of_size with_room own full before) made_by_call of_call
-happens pair (Asks_to_receive with_room on own full) before = happened before (ask_receive pair with_room on own full before) made_by_call of_call
-happens pair (Closes full) before = happened before (close pair full before) made_by_close of_call
-happens pair (Gives text) before = happened before (give pair text before) (λ _. []) of_call
+happens pair (Asks_to_send of_size with_room own full) before = happened before (ask_send pair of_size with_room own full before) made_by_call outcome_of_call
+happens pair (Asks_to_receive with_room on own full) before = happened before (ask_receive pair with_room on own full before) made_by_call outcome_of_call
+happens pair (Closes full) before = happened before (close pair full before) made_by_close outcome_of_call
+happens pair (Gives text) before = happened before (give pair text before) (λ _. []) outcome_of_call
 happens pair (Takes bytes) before = happened before (take_held pair bytes before) made_by_take of_take
-happens pair (Allocates of_messages of_bits full) before = happened before (allocate pair of_messages of_bits full before) made_by_call of_call
-happens pair (Calls_back of_messages of_bits full) before = happened before (call_back pair of_messages of_bits full before) made_by_call of_call
-happens pair (Interrupts full) before = happened before (interrupt pair full before) made_by_call of_call
+happens pair (Allocates of_messages of_bits full) before = happened before (allocate pair of_messages of_bits full before) made_by_call outcome_of_call
+happens pair (Calls_back of_messages of_bits full) before = happened before (call_back pair of_messages of_bits full before) made_by_call outcome_of_call
+happens pair (Interrupts full) before = happened before (interrupt pair full before) made_by_call outcome_of_call
 happens pair (Rts_comes on taken by_peer) before = happened before (hear_rts pair on taken by_peer before) made_by_hearing of_hearing
 happens pair (Str_comes of_size by_peer) before = happened before (hear_str pair of_size by_peer before) made_by_hearing of_hearing
 happens pair Cls_comes before = happened before (hear_cls pair before) made_by_hearing of_hearing
@@ -119,10 +119,10 @@ happens pair (Gvb_comes on of_messages of_bits) before = happened before (hear_g
 happens pair (Ret_comes on of_messages of_bits) before = happened before (hear_ret on of_messages of_bits before) made_by_hearing of_hearing
 happens pair (Inr_comes on) before = happened before (hear_inr on before) made_by_hearing of_hearing
 happens pair (Ins_comes on) before = happened before (hear_ins on before) made_by_hearing of_hearing
-happens pair (Text_comes head of_size text) before = happened before (hear_text of_size text before) (made_by_text head text) of_text
+happens pair (Text_comes head of_size text) before = happened before (hear_text of_size text before) (made_by_text head text) outcome_of_text
 happens pair Text_goes_out before = happened before (cut pair before) (λ _. []) of_cut
-happens pair (Is_answered how) before = happened before (answered pair how before) made_if_any (λ _. Accepted)
-happens pair Is_cleared before = record { after = cleared before; made = []; outcome = Accepted }
+happens pair (Is_answered how) before = happened before (end_answered pair how before) made_if_any (λ _. Accepted)
+happens pair Is_cleared before = record { after = end_cleared before; made = []; outcome = Accepted }
 
 -- the end after a list of these, in order
 abbrev pub end_from : Pair → List Happening → Option End → Option End

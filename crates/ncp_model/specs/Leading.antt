@@ -24,8 +24,8 @@ suits pair (all.Text_comes head of_size text) = receives pair
 suits pair what = true
 
 -- the link in the leader with which a text came: its bits 17 to 24 (BBN 1822, leader)
-abbrev pub link_in : List Bool → ℕ
-link_in head = number_of (take 8 (drop 16 head))
+abbrev pub link_in_head : List Bool → ℕ
+link_in_head head = number_of (take 8 (drop 16 head))
 
 -- an end is there, and passes a test
 abbrev pub passes : (Pair × End → Bool) → Pair → Option End → Bool
@@ -39,7 +39,7 @@ leads pair (all.Gvb_comes on m b) before = passes (hears_link on) pair before
 leads pair (all.Inr_comes on) before = passes (hears_link on) pair before
 leads pair (all.Ret_comes on m b) before = passes (uses_link on) pair before
 leads pair (all.Ins_comes on) before = passes (uses_link on) pair before
-leads pair (all.Text_comes head of_size text) before = passes (uses_link (link_in head)) pair before
+leads pair (all.Text_comes head of_size text) before = passes (uses_link (link_in_head head)) pair before
 leads pair what before = suits pair what
 
 -- what a command is for the end to which it leads (NIC 8246, commands)

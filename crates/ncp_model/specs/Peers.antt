@@ -56,17 +56,17 @@ makes cs p = standing (makes_all cs p.phase) p.ends p.echoes
 -- The calls of a user, while the host is up. What they ask of the other ends and of what waits is
 -- looked up.
 
-pub data Call : Type 0 where
-  Ask_to_send : (of_size : ℕ) → (with_room : ℕ) → Call
-  Ask_to_receive : (with_room : ℕ) → Call
-  Close : Call
-  Give : (text : List Bool) → Call
-  Take : (bytes : ℕ) → Call
-  Allocate : (of_messages : ℕ) → (of_bits : ℕ) → Call
-  Call_back : (of_messages : ℕ) → (of_bits : ℕ) → Call
-  Interrupt : Call
+pub data PairCall : Type 0 where
+  Ask_to_send : (of_size : ℕ) → (with_room : ℕ) → PairCall
+  Ask_to_receive : (with_room : ℕ) → PairCall
+  Close : PairCall
+  Give : (text : List Bool) → PairCall
+  Take : (bytes : ℕ) → PairCall
+  Allocate : (of_messages : ℕ) → (of_bits : ℕ) → PairCall
+  Call_back : (of_messages : ℕ) → (of_bits : ℕ) → PairCall
+  Interrupt : PairCall
 
-abbrev pub called : Call → Bool → Ends → Happening
+abbrev pub called : PairCall → Bool → Ends → Happening
 called (Ask_to_send of_size with_room) full m = all.Asks_to_send of_size with_room (count has_asked m) full
 called (Ask_to_receive with_room) full m = all.Asks_to_receive with_room (free_link m) (count has_asked m) full
 called Close full m = all.Closes full
@@ -76,17 +76,17 @@ called (Allocate of_messages of_bits) full m = all.Allocates of_messages of_bits
 called (Call_back of_messages of_bits) full m = all.Calls_back of_messages of_bits full
 called Interrupt full m = all.Interrupts full
 
-abbrev pub happened_at : Pair → Call → Peer → Happened
+abbrev pub happened_at : Pair → PairCall → Peer → Happened
 happened_at pair call p = happens pair (called call (is_full p.phase) p.ends) (get p.ends pair)
 
-abbrev pub calls_up : Pair → Call → Peer → Peer
+abbrev pub calls_up : Pair → PairCall → Peer → Peer
 calls_up pair call p = makes (happened_at pair call p).made (record p { ends = put p.ends pair (happened_at pair call p).after })
 
-abbrev pub calls : Pair → Call → Peer → Peer
+abbrev pub calls : Pair → PairCall → Peer → Peer
 calls pair call p = if up p.phase then calls_up pair call p else p
 
 -- what comes of a call, and how a call is answered
-abbrev pub comes_of : Pair → Call → Peer → Outcome
+abbrev pub comes_of : Pair → PairCall → Peer → Outcome
 comes_of pair call p = if up p.phase then (happened_at pair call p).outcome else Refused NotUp
 
 abbrev pub reply : Outcome → Result (Unit {0}) CallFault
@@ -106,12 +106,12 @@ abbrev pub calls_echo : ℕ → Peer → Peer
 calls_echo byte p = if up p.phase then echo_called byte p else p
 
 -- a command that is made answers a call that it is good
-abbrev pub accepted : {A : Type 0} → Result A CallFault → Result (Unit {0}) CallFault
-accepted (Ok a) = Ok tt
-accepted (Err fault) = Err fault
+abbrev pub call_accepted : {A : Type 0} → Result A CallFault → Result (Unit {0}) CallFault
+call_accepted (Ok a) = Ok tt
+call_accepted (Err fault) = Err fault
 
 abbrev pub reply_of_echo : ℕ → Peer → Result (Unit {0}) CallFault
-reply_of_echo byte p = if up p.phase then accepted (echo_answer byte (is_full p.phase) p.echoes) else Err NotUp
+reply_of_echo byte p = if up p.phase then call_accepted (echo_answer byte (is_full p.phase) p.echoes) else Err NotUp
 
 abbrev pub calls_reset : Bool → Peer → Peer
 calls_reset quiet p = if is_resetting p.phase then p else cleared (resets quiet p.phase) p
@@ -142,7 +142,7 @@ reaction quiet c p = record {
 -- while up, any but RST and RRP
 abbrev pub hears_other : Bool → Command → Peer → Peer
 hears_other quiet c p = standing
-    (phases.hears c (reaction quiet c p) p.phase)
+    (phases.phase_hears c (reaction quiet c p) p.phase)
     (map_after_at p.ends (leads_to c p.ends) (hear c p.ends))
     (echoes_after c p.echoes)
 
@@ -170,8 +170,8 @@ abbrev pub cuts : ℕ → Peer → Peer
 cuts on p = record p { ends = map_after_at p.ends (pair_of (sender_on on p.ends)) (cut_in on p.ends) }
 
 -- The commands go out that the next control message takes.
-abbrev pub sends : Peer → Peer
-sends p = record p { phase = record p.phase { waiting = drop (length (next_commands p.phase.waiting)) p.phase.waiting } }
+abbrev pub peer_sends : Peer → Peer
+peer_sends p = record p { phase = record p.phase { waiting = drop (length (next_commands p.phase.waiting)) p.phase.waiting } }
 
 -- A text that went out was taken (RFNM): its sender is free, and a leaving one makes its CLS. Ends
 -- stand only while the host is up.
@@ -185,4 +185,4 @@ frees on p = if up p.phase then frees_up on p else p
 
 -- settling, where the data links are quiet
 abbrev pub settles : Bool → Peer → Peer
-settles quiet p = record p { phase = phases.settles quiet p.phase }
+settles quiet p = record p { phase = phases.phase_settles quiet p.phase }

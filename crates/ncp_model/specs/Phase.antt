@@ -50,22 +50,22 @@ purge p = record p { waiting = filter is_reset p.waiting }
 
 -- the RRP that is owed is made, and then the RST that is wanted. Neither is queued while one of
 -- its kind still waits; the flags change all the same
-abbrev pub answers : Phase → Phase
-answers p =
+abbrev pub phase_answers : Phase → Phase
+phase_answers p =
     if p.owe
     then record p { down = false; owe = false; waiting = if list_any is_rrp p.waiting then p.waiting else p.waiting ++ Rrp ∷ [] }
     else p
 
-abbrev pub asks : Phase → Phase
-asks p =
+abbrev pub phase_asks : Phase → Phase
+phase_asks p =
     if p.want
     then record p { down = false; want = false; wait = true; waiting = if list_any is_rst p.waiting then p.waiting else p.waiting ++ Rst ∷ [] }
     else p
 
 -- settling: both only while the data links are quiet. It happens after a reset, after an RST came,
 -- and after an RFNM
-abbrev pub settles : Bool → Phase → Phase
-settles quiet p = if quiet then asks (answers p) else p
+abbrev pub phase_settles : Bool → Phase → Phase
+phase_settles quiet p = if quiet then phase_asks (phase_answers p) else p
 
 -- The call of a reset is refused while one is under way.
 
@@ -79,7 +79,7 @@ abbrev pub wants_reset : Phase → Phase
 wants_reset p = record (purge p) { want = true }
 
 abbrev pub resets : Bool → Phase → Phase
-resets quiet p = if is_resetting p then p else settles quiet (wants_reset p)
+resets quiet p = if is_resetting p then p else phase_settles quiet (wants_reset p)
 
 -- An RST came: a purge, and an RRP is owed.
 
@@ -87,7 +87,7 @@ abbrev pub owes_answer : Phase → Phase
 owes_answer p = record (purge p) { owe = true }
 
 abbrev pub hears_rst : Bool → Phase → Phase
-hears_rst quiet p = settles quiet (owes_answer p)
+hears_rst quiet p = phase_settles quiet (owes_answer p)
 
 -- An RRP came. It is stray where none is awaited.
 
@@ -110,12 +110,12 @@ abbrev pub queued : Command → Phase → Phase
 queued c p = record p { waiting = p.waiting ++ c ∷ [] }
 
 -- a command of a call or of a reply is made: only while up, and it is neither RST nor RRP
-abbrev pub makes : Command → Phase → Phase
-makes c p = if up p && is_other c then (if has_place p then queued c p else goes_down p) else p
+abbrev pub phase_makes : Command → Phase → Phase
+phase_makes c p = if up p && is_other c then (if has_place p then queued c p else goes_down p) else p
 
 abbrev pub makes_all : List Command → Phase → Phase
 makes_all [] p = p
-makes_all (c ∷ cs) p = makes_all cs (makes c p)
+makes_all (c ∷ cs) p = makes_all cs (phase_makes c p)
 
 -- while not up every command but RST and RRP is dropped, and so are texts and the faults of a
 -- control text; each is counted
@@ -130,7 +130,7 @@ pub record Reaction : Type 0 where
   pub replies : List Command
 
 -- a command comes. While not up all but RST and RRP are dropped
-abbrev pub hears : Command → Reaction → Phase → Phase
-hears Rst r p = hears_rst r.quiet p
-hears Rrp r p = hears_rrp p
-hears c r p = if up p then (if r.full then goes_down p else makes_all r.replies p) else p
+abbrev pub phase_hears : Command → Reaction → Phase → Phase
+phase_hears Rst r p = hears_rst r.quiet p
+phase_hears Rrp r p = hears_rrp p
+phase_hears c r p = if up p then (if r.full then goes_down p else makes_all r.replies p) else p

@@ -51,8 +51,8 @@ abbrev pub sized : ℕ → End
 sized of_size = record opened_end { size = of_size; room = 1024 }
 
 -- the same with counters, and with bits stored
-abbrev pub counted : ℕ → ℕ → End → End
-counted of_messages of_bits e = record e { messages = of_messages; bits = of_bits }
+abbrev pub with_counters : ℕ → ℕ → End → End
+with_counters of_messages of_bits e = record e { messages = of_messages; bits = of_bits }
 
 abbrev pub with_stored : List Bool → End → End
 with_stored bits_there e = record e { stored = bits_there }

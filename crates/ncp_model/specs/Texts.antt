@@ -68,13 +68,13 @@ taken_at pair e =
     else if e.leaving then Becomes (leaves (record e { busy = false })) (Some (closing pair))
     else Becomes (record e { busy = false }) None
 
-abbrev pub answered : Pair → Answer → Option End → Act (Option Command)
-answered pair Rfnm None = Stays None
-answered pair Rfnm (Some e) = taken_at pair e
-answered pair Incomplete before = Stays None
-answered pair Dead before = Stays None
+abbrev pub end_answered : Pair → Answer → Option End → Act (Option Command)
+end_answered pair Rfnm None = Stays None
+end_answered pair Rfnm (Some e) = taken_at pair e
+end_answered pair Incomplete before = Stays None
+end_answered pair Dead before = Stays None
 
 -- A clearing (an accepted reset, an RST that came, going down) leaves no end (NIC 8246, RST; that
 -- going down clears is this profile's rule).
-abbrev pub cleared : Option End → Option End
-cleared before = None
+abbrev pub end_cleared : Option End → Option End
+end_cleared before = None

@@ -1,6 +1,6 @@
 //! `CallFault`.
 ghost use Rattle.std.specs.Prelude.{◌≡◌};
-ghost use Rattle.ncp_model.specs.Faults.{name_of, fault_number};
+ghost use Rattle.ncp_model.specs.Faults.{name_of_call_fault, fault_number};
 
 use thiserror::Error;
 
@@ -53,7 +53,7 @@ impl CallFault {
 
     /// The name, as a program prints it.
     pub fn name(self) -> &'static str
-        ensures { result.now ≡ name_of self }
+        ensures { result.now ≡ name_of_call_fault self }
     {
         match self {
             CallFault::UnknownPeer => "UnknownPeer",

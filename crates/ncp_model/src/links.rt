@@ -10,9 +10,9 @@ ghost use Rattle.ncp_model.specs.Act.{Act, Stays, Becomes, end_after, made_by_ca
 ghost use Rattle.ncp_model.specs.Ends.{Ends, count, any, has_asked, is_by_peer, hears_link, uses_link, first_by, free_link, sender_on, receiver_on, pair_of, leads_to, hear, ask_send_in, ask_receive_in, text_in, cut_in, answered_in, put, map_after, map_after_at, no_ends};
 ghost use Rattle.ncp_model.specs.Texts.{made_by_text};
 ghost use Rattle.ncp_terms.specs.declared.answer.Answer.{Answer};
-ghost use Rattle.ncp_model.specs.Happenings.{Happening, happens, happened, of_call, of_hearing, of_text, of_cut};
+ghost use Rattle.ncp_model.specs.Happenings.{Happening, happens, happened, outcome_of_call, of_hearing, outcome_of_text, of_cut};
 ghost use Rattle.ncp_model.specs.Happenings as all;
-ghost use Rattle.ncp_model.specs.Leading.{suits, leads, link_in, comes};
+ghost use Rattle.ncp_model.specs.Leading.{suits, leads, link_in_head, comes};
 ghost use Rattle.ncp_model.specs.OnlyEnds.{OfTheOnlyEnd, WhereNoEnd};
 ghost use Rattle.ncp_model.specs.Rows.{outward, inward, ones, noughts, link_heard, size_heard, asked_send, asked_receive, opened_end, due, gone, shut, counting, err, both_ways};
 ghost use Rattle.ncp_model.specs.RowFacts.{new_outward, new_inward, its_receiver, its_request, loaded, with_interrupts, recalling, one_granted, busy_end, left_end, ten_bytes, refusal, erred, one_end};
@@ -117,14 +117,14 @@ pub fn commands_lead_to_ends()
 pub fn what_leads_somewhere_suits()
     ensures command { (m : Ends) (c : Command) (pair : Pair) (what : Happening) → leads_to c m ≡ Some pair → comes c m ≡ Some what → leads pair what (get m pair) ≡ true }
     ensures command_happens { (m : Ends) (c : Command) (pair : Pair) (what : Happening) → leads_to c m ≡ Some pair → comes c m ≡ Some what → happens pair what (get m pair) ≡ happened (get m pair) (hear c m) made_by_hearing of_hearing }
-    ensures text { (m : Ends) (head : List Bool) (of_size : ℕ) (text : List Bool) (pair : Pair) → pair_of (receiver_on (link_in head) m) ≡ Some pair → leads pair (all.Text_comes head of_size text) (get m pair) ≡ true }
-    ensures text_happens { (m : Ends) (head : List Bool) (of_size : ℕ) (text : List Bool) (pair : Pair) → pair_of (receiver_on (link_in head) m) ≡ Some pair → happens pair (all.Text_comes head of_size text) (get m pair) ≡ happened (get m pair) (text_in (link_in head) of_size text m) (made_by_text head text) of_text }
+    ensures text { (m : Ends) (head : List Bool) (of_size : ℕ) (text : List Bool) (pair : Pair) → pair_of (receiver_on (link_in_head head) m) ≡ Some pair → leads pair (all.Text_comes head of_size text) (get m pair) ≡ true }
+    ensures text_happens { (m : Ends) (head : List Bool) (of_size : ℕ) (text : List Bool) (pair : Pair) → pair_of (receiver_on (link_in_head head) m) ≡ Some pair → happens pair (all.Text_comes head of_size text) (get m pair) ≡ happened (get m pair) (text_in (link_in_head head) of_size text m) (made_by_text head text) outcome_of_text }
     ensures cut { (m : Ends) (on : ℕ) (pair : Pair) → pair_of (sender_on on m) ≡ Some pair → leads pair all.Text_goes_out (get m pair) ≡ true }
     ensures cut_happens { (m : Ends) (on : ℕ) (pair : Pair) → pair_of (sender_on on m) ≡ Some pair → happens pair all.Text_goes_out (get m pair) ≡ happened (get m pair) (cut_in on m) (λ _. []) of_cut }
     ensures answered { (m : Ends) (on : ℕ) (how : Answer) (pair : Pair) → pair_of (sender_on on m) ≡ Some pair → leads pair (all.Is_answered how) (get m pair) ≡ true }
     ensures answered_happens { (m : Ends) (on : ℕ) (how : Answer) (pair : Pair) → pair_of (sender_on on m) ≡ Some pair → happens pair (all.Is_answered how) (get m pair) ≡ happened (get m pair) (answered_in on how m) made_if_any (λ _. all.Accepted) }
-    ensures asks { (m : Ends) (pair : Pair) (of_size with_room : ℕ) (full : Bool) → happens pair (all.Asks_to_send of_size with_room (count has_asked m) full) (get m pair) ≡ happened (get m pair) (ask_send_in pair of_size with_room full m) made_by_call of_call }
-    ensures asks_too { (m : Ends) (pair : Pair) (with_room : ℕ) (full : Bool) → happens pair (all.Asks_to_receive with_room (free_link m) (count has_asked m) full) (get m pair) ≡ happened (get m pair) (ask_receive_in pair with_room full m) made_by_call of_call }
+    ensures asks { (m : Ends) (pair : Pair) (of_size with_room : ℕ) (full : Bool) → happens pair (all.Asks_to_send of_size with_room (count has_asked m) full) (get m pair) ≡ happened (get m pair) (ask_send_in pair of_size with_room full m) made_by_call outcome_of_call }
+    ensures asks_too { (m : Ends) (pair : Pair) (with_room : ℕ) (full : Bool) → happens pair (all.Asks_to_receive with_room (free_link m) (count has_asked m) full) (get m pair) ≡ happened (get m pair) (ask_receive_in pair with_room full m) made_by_call outcome_of_call }
     ensures suits { (pair : Pair) (what : Happening) (before : Option End) → leads pair what before ≡ true → suits pair what ≡ true }
 {}
 

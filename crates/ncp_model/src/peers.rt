@@ -5,7 +5,7 @@ ghost use Rattle.ncp_terms.specs.declared.command.Command.TheVariants.{Nop, Rts,
 ghost use Rattle.ncp_model.specs.declared.call_fault.CallFault.TheVariants.{BadSex, QueueFull, NoEntry, WrongEnd, NotWhole, Busy, NotUp};
 ghost use Rattle.ncp_model.specs.Echo.{echo_answer, eco_reply};
 ghost use Rattle.ncp_model.specs.Happenings.{Accepted, Refused, Took_out};
-ghost use Rattle.ncp_model.specs.Peers.{Peer, Call, happened_at, calls, calls_up, comes_of, reply, reply_of_take, calls_echo, echo_called, accepted, reply_of_echo, hears_fault, hears_text, takes_text, frees, falls, hears, calls_reset};
+ghost use Rattle.ncp_model.specs.Peers.{Peer, PairCall, happened_at, calls, calls_up, comes_of, reply, reply_of_take, calls_echo, echo_called, call_accepted, reply_of_echo, hears_fault, hears_text, takes_text, frees, falls, hears, calls_reset};
 ghost use Rattle.ncp_model.specs.Peers as peers;
 ghost use Rattle.ncp_model.specs.PeerRows.{WhileUp, WhileNotUp, peer_in, up_peer, with_waiting, answering_peer, owing_peer, awaiting_peer};
 ghost use Rattle.ncp_model.specs.Phase.{new_phase, up_phase, up, is_resetting, makes_all};
@@ -21,8 +21,8 @@ use crate::pair::Pair;
 /// and so is an echo; a text is dropped whatever its link and size, and the fault of a control text
 /// makes no ERR. An RFNM frees no sender, since there is none. Nothing changes.
 pub fn nothing_passes_while_not_up()
-    ensures call { (pair : Pair) (call : Call) → WhileNotUp (λ p. comes_of pair call p ≡ Refused NotUp) }
-    ensures call_changes_nothing { (pair : Pair) (call : Call) → WhileNotUp (λ p. calls pair call p ≡ p) }
+    ensures call { (pair : Pair) (call : PairCall) → WhileNotUp (λ p. comes_of pair call p ≡ Refused NotUp) }
+    ensures call_changes_nothing { (pair : Pair) (call : PairCall) → WhileNotUp (λ p. calls pair call p ≡ p) }
     ensures echo { (byte : ℕ) → WhileNotUp (λ p. reply_of_echo byte p ≡ Err NotUp) }
     ensures echo_changes_nothing { (byte : ℕ) → WhileNotUp (λ p. calls_echo byte p ≡ p) }
     ensures text { (on of_size : ℕ) (head text : List Bool) → WhileNotUp (λ p. hears_text on head of_size text p ≡ p) }
@@ -33,9 +33,9 @@ pub fn nothing_passes_while_not_up()
 /// While it is up its end judges a call, and a text is taken as the end does; the phase stands in no
 /// way. The fault of a control text makes its ERR, and where 512 commands wait the host goes down.
 pub fn ends_judge_while_up()
-    ensures call { (pair : Pair) (call : Call) → WhileUp (λ p. comes_of pair call p ≡ (happened_at pair call p).outcome) }
-    ensures call_changes { (pair : Pair) (call : Call) → WhileUp (λ p. calls pair call p ≡ calls_up pair call p) }
-    ensures echo { (byte : ℕ) → WhileUp (λ p. reply_of_echo byte p ≡ accepted (echo_answer byte (is_full p.phase) p.echoes)) }
+    ensures call { (pair : Pair) (call : PairCall) → WhileUp (λ p. comes_of pair call p ≡ (happened_at pair call p).outcome) }
+    ensures call_changes { (pair : Pair) (call : PairCall) → WhileUp (λ p. calls pair call p ≡ calls_up pair call p) }
+    ensures echo { (byte : ℕ) → WhileUp (λ p. reply_of_echo byte p ≡ call_accepted (echo_answer byte (is_full p.phase) p.echoes)) }
     ensures echo_changes { (byte : ℕ) → WhileUp (λ p. calls_echo byte p ≡ echo_called byte p) }
     ensures text { (on of_size : ℕ) (head text : List Bool) (p : Peer) → up p.phase ≡ true → hears_text on head of_size text p ≡ takes_text on head of_size text p }
     ensures fault { (fault : CommandFault) (p : Peer) → up p.phase ≡ true → length p.phase.waiting < MAX_WAITING → hears_fault fault p ≡ record p { phase = record p.phase { waiting = p.phase.waiting ++ err fault.code fault.bytes ∷ [] } } }
@@ -46,7 +46,7 @@ pub fn ends_judge_while_up()
 pub fn outcomes_are_replied()
     ensures refused { (fault : CallFault) → reply (Refused fault) ≡ Err fault }
     ensures refused_taking { (fault : CallFault) → reply_of_take (Refused fault) ≡ Err fault }
-    ensures accepted { (reply Accepted ≡ Ok tt) × (accepted (Ok Nop) ≡ Ok tt) }
+    ensures accepted { (reply Accepted ≡ Ok tt) × (call_accepted (Ok Nop) ≡ Ok tt) }
     ensures taken { (text : List Bool) → reply_of_take (Took_out text) ≡ Ok text }
     ensures taken_is_good { (text : List Bool) → reply (Took_out text) ≡ Ok tt }
 {}

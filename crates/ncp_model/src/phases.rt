@@ -3,7 +3,7 @@ ghost use Rattle.std.specs.Prelude.{◌≡◌, ℕ, Bool, true, false, ◌+◌, 
 ghost use Rattle.std.specs.List.{filter, list_any};
 ghost use Rattle.ncp_terms.specs.declared.command.Command.{Command};
 ghost use Rattle.ncp_terms.specs.declared.command.Command.TheVariants.{Nop, Rts, All, Inr, Rst, Rrp};
-ghost use Rattle.ncp_model.specs.Phase.{Phase, Reaction, new_phase, up_phase, up, is_rst, is_rrp, is_reset, is_other, purge, settles, is_resetting, reset_answer, wants_reset, resets, owes_answer, hears_rst, hears_rrp, is_stray_rrp, goes_down, makes, makes_all, is_dropped, hears};
+ghost use Rattle.ncp_model.specs.Phase.{Phase, Reaction, new_phase, up_phase, up, is_rst, is_rrp, is_reset, is_other, purge, phase_settles, is_resetting, reset_answer, wants_reset, resets, owes_answer, hears_rst, hears_rrp, is_stray_rrp, goes_down, phase_makes, makes_all, is_dropped, phase_hears};
 ghost use Rattle.ncp_model.specs.PeerRows.{flagged};
 ghost use Rattle.ncp_terms.specs.Spelling.{IsCommand, spelling, spellings};
 ghost use Rattle.ncp_model.specs.Sending.{is_full, next_commands};
@@ -17,27 +17,27 @@ use crate::limits::{MAX_CONTROL, MAX_WAITING};
 /// RST and RRP are made only while the data links are quiet, the RRP first, and neither while one
 /// of its kind still waits.
 pub fn resets_wait_for_quiet()
-    ensures unquiet { (p : Phase) → settles false p ≡ p }
+    ensures unquiet { (p : Phase) → phase_settles false p ≡ p }
     ensures unquiet_reset { (p : Phase) → is_resetting p ≡ false → resets false p ≡ wants_reset p }
     ensures unquiet_rst { (p : Phase) → hears_rst false p ≡ owes_answer p }
-    ensures neither { (p : Phase) → p.owe ≡ false → p.want ≡ false → settles true p ≡ p }
-    ensures answer { (p : Phase) → p.owe ≡ true → p.want ≡ false → list_any is_rrp p.waiting ≡ false → settles true p ≡ record p { down = false; owe = false; waiting = p.waiting ++ Rrp ∷ [] } }
-    ensures reset { (p : Phase) → p.owe ≡ false → p.want ≡ true → list_any is_rst p.waiting ≡ false → settles true p ≡ record p { down = false; want = false; wait = true; waiting = p.waiting ++ Rst ∷ [] } }
-    ensures both { (p : Phase) → p.owe ≡ true → p.want ≡ true → list_any is_rrp p.waiting ≡ false → list_any is_rst p.waiting ≡ false → settles true p ≡ flagged false false false true (p.waiting ++ (Rrp ∷ Rst ∷ [])) }
-    ensures not_twice { (p : Phase) → p.owe ≡ true → p.want ≡ true → list_any is_rrp p.waiting ≡ true → list_any is_rst p.waiting ≡ true → settles true p ≡ flagged false false false true p.waiting }
+    ensures neither { (p : Phase) → p.owe ≡ false → p.want ≡ false → phase_settles true p ≡ p }
+    ensures answer { (p : Phase) → p.owe ≡ true → p.want ≡ false → list_any is_rrp p.waiting ≡ false → phase_settles true p ≡ record p { down = false; owe = false; waiting = p.waiting ++ Rrp ∷ [] } }
+    ensures reset { (p : Phase) → p.owe ≡ false → p.want ≡ true → list_any is_rst p.waiting ≡ false → phase_settles true p ≡ record p { down = false; want = false; wait = true; waiting = p.waiting ++ Rst ∷ [] } }
+    ensures both { (p : Phase) → p.owe ≡ true → p.want ≡ true → list_any is_rrp p.waiting ≡ false → list_any is_rst p.waiting ≡ false → phase_settles true p ≡ flagged false false false true (p.waiting ++ (Rrp ∷ Rst ∷ [])) }
+    ensures not_twice { (p : Phase) → p.owe ≡ true → p.want ≡ true → list_any is_rrp p.waiting ≡ true → list_any is_rst p.waiting ≡ true → phase_settles true p ≡ flagged false false false true p.waiting }
 {}
 
 /// While a host is not up it makes nothing but RST and RRP, and every other command that comes
 /// is dropped; calls and replies never make these two.
 pub fn only_resets_while_not_up()
-    ensures makes { (c : Command) (p : Phase) → up p ≡ false → makes c p ≡ p }
-    ensures drops { (c : Command) (r : Reaction) (p : Phase) → is_other c ≡ true → up p ≡ false → hears c r p ≡ p }
-    ensures dropped { (c : Command) (r : Reaction) (p : Phase) → is_dropped c p ≡ true → hears c r p ≡ p }
+    ensures makes { (c : Command) (p : Phase) → up p ≡ false → phase_makes c p ≡ p }
+    ensures drops { (c : Command) (r : Reaction) (p : Phase) → is_other c ≡ true → up p ≡ false → phase_hears c r p ≡ p }
+    ensures dropped { (c : Command) (r : Reaction) (p : Phase) → is_dropped c p ≡ true → phase_hears c r p ≡ p }
     ensures rst_not_dropped { (p : Phase) → is_dropped Rst p ≡ false }
     ensures rrp_not_dropped { (p : Phase) → is_dropped Rrp p ≡ false }
     ensures nop_not_dropped_when_up { (p : Phase) → up p ≡ true → is_dropped Nop p ≡ false }
-    ensures rst { (p : Phase) → makes Rst p ≡ p }
-    ensures rrp { (p : Phase) → makes Rrp p ≡ p }
+    ensures rst { (p : Phase) → phase_makes Rst p ≡ p }
+    ensures rrp { (p : Phase) → phase_makes Rrp p ≡ p }
     ensures counted { (c : Command) (p : Phase) → is_other c ≡ true → up p ≡ false → is_dropped c p ≡ true }
 {}
 
@@ -65,8 +65,8 @@ pub fn flags_tell_the_phase()
     ensures awaited { (quiet : Bool) (p : Phase) → p.wait ≡ true → reset_answer p ≡ Err CallFault.Busy }
     ensures awaited_stays { (quiet : Bool) (p : Phase) → p.wait ≡ true → resets quiet p ≡ p }
     ensures accepted { (quiet : Bool) (p : Phase) → p.want ≡ false → p.wait ≡ false → reset_answer p ≡ Ok tt }
-    ensures accepted_settles { (quiet : Bool) (p : Phase) → p.want ≡ false → p.wait ≡ false → resets quiet p ≡ settles quiet (wants_reset p) }
-    ensures rst { (quiet : Bool) (p : Phase) → hears_rst quiet p ≡ settles quiet (owes_answer p) }
+    ensures accepted_settles { (quiet : Bool) (p : Phase) → p.want ≡ false → p.wait ≡ false → resets quiet p ≡ phase_settles quiet (wants_reset p) }
+    ensures rst { (quiet : Bool) (p : Phase) → hears_rst quiet p ≡ phase_settles quiet (owes_answer p) }
     ensures rrp { (p : Phase) → hears_rrp p ≡ record p { wait = false } }
     ensures stray { (p : Phase) → p.wait ≡ false → is_stray_rrp p ≡ true }
     ensures stray_stays { (p : Phase) → p.wait ≡ false → hears_rrp p ≡ p }
@@ -76,13 +76,13 @@ pub fn flags_tell_the_phase()
 /// A command that is made waits at the end of the others. A host goes down where it would be the
 /// 513th, and where there is no place for the peer's request.
 pub fn goes_down_at_the_513th()
-    ensures place { (c : Command) (p : Phase) → is_other c ≡ true → up p ≡ true → length p.waiting < MAX_WAITING → makes c p ≡ record p { waiting = p.waiting ++ c ∷ [] } }
-    ensures none { (c : Command) (p : Phase) → is_other c ≡ true → up p ≡ true → MAX_WAITING ≤ length p.waiting → makes c p ≡ goes_down p }
+    ensures place { (c : Command) (p : Phase) → is_other c ≡ true → up p ≡ true → length p.waiting < MAX_WAITING → phase_makes c p ≡ record p { waiting = p.waiting ++ c ∷ [] } }
+    ensures none { (c : Command) (p : Phase) → is_other c ≡ true → up p ≡ true → MAX_WAITING ≤ length p.waiting → phase_makes c p ≡ goes_down p }
     ensures limit { MAX_WAITING ≡ 512 }
-    ensures full { (link : ℕ) (cs : List Command) (quiet : Bool) (p : Phase) → up p ≡ true → hears (Inr link) (record { quiet = quiet; full = true; replies = cs }) p ≡ goes_down p }
+    ensures full { (link : ℕ) (cs : List Command) (quiet : Bool) (p : Phase) → up p ≡ true → phase_hears (Inr link) (record { quiet = quiet; full = true; replies = cs }) p ≡ goes_down p }
     ensures no_reply { (c d : Command) (cs : List Command) (p : Phase) → makes_all [] p ≡ p }
-    ensures replies { (c d : Command) (cs : List Command) (p : Phase) → makes_all (c ∷ d ∷ cs) p ≡ makes_all cs (makes d (makes c p)) }
-    ensures reply { (link : ℕ) (quiet : Bool) (c : Command) (p : Phase) → up p ≡ true → hears (Inr link) (record { quiet = quiet; full = false; replies = c ∷ [] }) p ≡ makes c p }
+    ensures replies { (c d : Command) (cs : List Command) (p : Phase) → makes_all (c ∷ d ∷ cs) p ≡ makes_all cs (phase_makes d (phase_makes c p)) }
+    ensures reply { (link : ℕ) (quiet : Bool) (c : Command) (p : Phase) → up p ≡ true → phase_hears (Inr link) (record { quiet = quiet; full = false; replies = c ∷ [] }) p ≡ phase_makes c p }
 {}
 
 /// A control message takes whole commands from the front, at most 120 bytes of them: fifteen of 8

@@ -6,7 +6,7 @@ ghost use Rattle.ncp_model.specs.End.{End, new_end, or_new, is_open, is_live, is
 ghost use Rattle.ncp_model.specs.Act.{Act, Stays, Becomes, end_after, met, text_error};
 ghost use Rattle.ncp_model.specs.Calls.{bits_to_take, ask_send, ask_receive, close, give, take_held, allocate, call_back, interrupt};
 ghost use Rattle.ncp_model.specs.Commands.{hear_rts, hear_str, hear_cls, hear_all, hear_gvb, hear_ret, hear_inr, hear_ins};
-ghost use Rattle.ncp_model.specs.Texts.{bytes_to_send, made_by_text, hear_text, cut, answered, cleared};
+ghost use Rattle.ncp_model.specs.Texts.{bytes_to_send, made_by_text, hear_text, cut, end_answered, end_cleared};
 ghost use Rattle.ncp_terms.specs.declared.answer.Answer.TheVariants.{Rfnm, Incomplete, Dead};
 ghost use Rattle.ncp_terms.specs.declared.command.Command.TheVariants.{Rts, Str, Cls, All, Gvb, Ret, Inr, Ins, Eco, Erp};
 ghost use Rattle.ncp_model.specs.declared.call_fault.CallFault.TheVariants.{BadSex, BadSize, BadRoom, AlreadyAsked, Closing, TableFull, QueueFull, NoEntry, NotOpen, WrongEnd, NotWhole, NoRoom, TooMuch, Busy};
@@ -14,7 +14,7 @@ ghost use Rattle.ncp_model.specs.declared.outcomes.Heard.TheVariants.{Nothing, R
 ghost use Rattle.ncp_model.specs.Echo.{Error, Echoes, no_echoes, echo_answer, echo_asked, eco_reply, hear_erp, is_stray_erp, hear_err, purge_echo};
 ghost use Rattle.ncp_model.specs.Happenings.{happens, Asks_to_send, Asks_to_receive, Closes, Gives, Takes, Allocates, Calls_back, Interrupts, Rts_comes, Str_comes, Cls_comes, All_comes, Gvb_comes, Ret_comes, Inr_comes, Ins_comes, Text_comes, Text_goes_out, Is_answered, Is_cleared, Accepted, Refused, Took_out, Sent};
 ghost use Rattle.ncp_model.specs.Happenings as all;
-ghost use Rattle.ncp_model.specs.Rows.{outward, inward, ones, noughts, link_heard, size_heard, asked_send, asked_receive, opened_end, counting, storing, counted, with_stored, sent_one, due, gone, shut, err};
+ghost use Rattle.ncp_model.specs.Rows.{outward, inward, ones, noughts, link_heard, size_heard, asked_send, asked_receive, opened_end, counting, storing, with_counters, with_stored, sent_one, due, gone, shut, err};
 ghost use Rattle.ncp_model.specs.RowFacts.{both_send, both_receive, new_outward, send_request, receive_request, unmet_sender, unmet_receiver, loaded, byte_stored, linked_by, of_large_bytes, with_interrupts, most_interrupted, recalling, recalled_end, awaiting_ret, one_granted, sender_in_use, receiver_in_use, in_full_use, busy_end, left_end, over_end, still_holding, awaiting, ten_bytes, refusal, erred, yields, yields_none, making, leaves_none, errs_at, text_arrives};
 
 use crate::outcomes::{Heard, Took};
@@ -166,7 +166,7 @@ pub fn allocating()
     ensures messages_to_the_limit { allocate inward 1 0 false (Some (counting 65534 0)) ≡ Becomes (counting 65535 0) (Ok (All 2 1 0)) }
     ensures queue { allocate inward 1 64 true (Some opened_end) ≡ refusal QueueFull }
     ensures made { allocate inward 2 16 false (Some opened_end) ≡ Becomes (counting 2 16) (Ok (All 2 2 16)) }
-    ensures recalled { allocate inward 2 16 false (Some (counted 0 0 receiver_in_use)) ≡ Becomes (counted 2 16 receiver_in_use) (Ok (All 2 2 16)) }
+    ensures recalled { allocate inward 2 16 false (Some (with_counters 0 0 receiver_in_use)) ≡ Becomes (with_counters 2 16 receiver_in_use) (Ok (All 2 2 16)) }
     ensures closing_before_end { allocate outward 1 8 false (Some left_end) ≡ refusal Closing }
     ensures closing_before_amounts_due { allocate inward 1 65 false (Some (due byte_stored)) ≡ refusal Closing }
     ensures closing_before_amounts_left { allocate inward 1 65 false (Some left_end) ≡ refusal Closing }
@@ -275,7 +275,7 @@ pub fn hearing_cls()
 
 /// An ALL that comes raises both counters, or neither where one would pass its limit.
 pub fn hearing_all()
-    ensures keeps_the_rest { hear_all 2 1 8 (Some (loaded (counted 2 16 sender_in_use))) ≡ Becomes (loaded sender_in_use) Nothing }
+    ensures keeps_the_rest { hear_all 2 1 8 (Some (loaded (with_counters 2 16 sender_in_use))) ≡ Becomes (loaded sender_in_use) Nothing }
     ensures none { hear_all 2 1 0 None ≡ erred 5 (ten_bytes 4 2 0 1 0 0 0 0 0 0) }
     ensures unopened { hear_all 2 1 0 (Some link_heard) ≡ erred 5 (ten_bytes 4 2 0 1 0 0 0 0 0 0) }
     ensures late { hear_all 2 1 0 (Some (gone link_heard)) ≡ Stays Heard.Late }
@@ -347,7 +347,7 @@ pub fn hearing_text()
 /// A text that goes out: three bytes wait, two are allocated. None goes out where one is out,
 /// where a counter or what waits has not a byte, or where the end is not an open sender's.
 pub fn cutting()
-    ensures keeps_the_rest { cut outward (Some (loaded (with_interrupts 2 (counting 2 16)))) ≡ Becomes (counted 1 8 sender_in_use) (Some (8, ones 8)) }
+    ensures keeps_the_rest { cut outward (Some (loaded (with_interrupts 2 (counting 2 16)))) ≡ Becomes (with_counters 1 8 sender_in_use) (Some (8, ones 8)) }
     ensures none { cut outward None ≡ Stays None }
     ensures two { cut outward (Some (with_stored (ones 16 ++ noughts 8) (counting 2 16))) ≡ Becomes (sent_one (with_stored (noughts 8) (counting 1 0))) (Some (8, ones 16)) }
     ensures whole { cut outward (Some (with_stored (ones 24) (counting 1 23))) ≡ Becomes (sent_one (loaded (counting 0 7))) (Some (8, ones 16)) }
@@ -395,21 +395,21 @@ pub fn refusing_text()
 
 /// The answer to a text: only an RFNM frees its sender, and a leaving one then makes its CLS.
 pub fn answering()
-    ensures keeps_the_rest { answered outward Rfnm (Some (with_interrupts 2 (sent_one byte_stored))) ≡ Becomes (with_interrupts 2 byte_stored) None }
-    ensures none_taken { answered outward Rfnm None ≡ Stays None }
-    ensures none_incomplete { answered outward Incomplete None ≡ Stays None }
-    ensures none_dead { answered outward Dead None ≡ Stays None }
-    ensures taken { answered outward Rfnm (Some (sent_one byte_stored)) ≡ Becomes byte_stored None }
-    ensures only_leaving { answered outward Rfnm (Some (shut (sent_one (counting 2 16)))) ≡ Becomes (shut (counting 2 16)) None }
-    ensures again { answered outward Incomplete (Some (due busy_end)) ≡ Stays None }
-    ensures kept { answered outward Dead (Some (due busy_end)) ≡ Stays None }
-    ensures leaving { answered outward Rfnm (Some (due busy_end)) ≡ Becomes left_end (Some (Cls 3 2)) }
-    ensures leaving_stays { end_after None (answered outward Rfnm (Some (due busy_end))) ≡ Some left_end }
-    ensures ends { answered outward Rfnm (Some (shut (due busy_end))) ≡ Becomes over_end (Some (Cls 3 2)) }
-    ensures ends_there { end_after (Some opened_end) (answered outward Rfnm (Some (shut (due busy_end)))) ≡ None }
-    ensures not_delivered_incomplete { answered outward Incomplete (Some busy_end) ≡ Stays None }
-    ensures not_delivered_dead { answered outward Dead (Some busy_end) ≡ Stays None }
-    ensures receiver { answered inward Rfnm (Some (due byte_stored)) ≡ Stays None }
+    ensures keeps_the_rest { end_answered outward Rfnm (Some (with_interrupts 2 (sent_one byte_stored))) ≡ Becomes (with_interrupts 2 byte_stored) None }
+    ensures none_taken { end_answered outward Rfnm None ≡ Stays None }
+    ensures none_incomplete { end_answered outward Incomplete None ≡ Stays None }
+    ensures none_dead { end_answered outward Dead None ≡ Stays None }
+    ensures taken { end_answered outward Rfnm (Some (sent_one byte_stored)) ≡ Becomes byte_stored None }
+    ensures only_leaving { end_answered outward Rfnm (Some (shut (sent_one (counting 2 16)))) ≡ Becomes (shut (counting 2 16)) None }
+    ensures again { end_answered outward Incomplete (Some (due busy_end)) ≡ Stays None }
+    ensures kept { end_answered outward Dead (Some (due busy_end)) ≡ Stays None }
+    ensures leaving { end_answered outward Rfnm (Some (due busy_end)) ≡ Becomes left_end (Some (Cls 3 2)) }
+    ensures leaving_stays { end_after None (end_answered outward Rfnm (Some (due busy_end))) ≡ Some left_end }
+    ensures ends { end_answered outward Rfnm (Some (shut (due busy_end))) ≡ Becomes over_end (Some (Cls 3 2)) }
+    ensures ends_there { end_after (Some opened_end) (end_answered outward Rfnm (Some (shut (due busy_end)))) ≡ None }
+    ensures not_delivered_incomplete { end_answered outward Incomplete (Some busy_end) ≡ Stays None }
+    ensures not_delivered_dead { end_answered outward Dead (Some busy_end) ≡ Stays None }
+    ensures receiver { end_answered inward Rfnm (Some (due byte_stored)) ≡ Stays None }
 {}
 
 /// What opened, open, live and over mean of an end.
@@ -428,7 +428,7 @@ pub fn lives_of_an_end()
     ensures over_only_with_its_cls { is_over left_end ≡ false }
     ensures over_only_left { is_over (shut opened_end) ≡ false }
     ensures stays_opened { met left_end ≡ gone opened_end }
-    ensures cleared { cleared (Some opened_end) ≡ None }
+    ensures cleared { end_cleared (Some opened_end) ≡ None }
 {}
 
 /// Echo and errors: one echo at a time; an ERP that is not awaited is stray; of 17 errors the last

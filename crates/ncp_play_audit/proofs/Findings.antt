@@ -12,7 +12,7 @@ use Rattle.ncp_play_files.specs.declared.version.Version.TheVariants.{One, Two}
 use Rattle.ncp_play_files.specs.Results.{is_read_failed, is_write_failed}
 use Rattle.ncp_play_files.specs.File.{version_of, ending, HoldsBy, IsCut}
 use Rattle.ncp_play_files.specs.Versions.{Recorded, next_in}
-use Rattle.ncp_play_files.specs.Steps.{Stops, ReadsVersion, SaysFile, Says}
+use Rattle.ncp_play_files.specs.Steps.{Stops, ReadsVersion, SaysFile, SaysOfFile}
 use Rattle.ncp_play_files.proofs.Files.{version_of-short}
 use Rattle.ncp_play_files.proofs.Contents.{by_some, by_longer}
 use Rattle.ncp_play_files.proofs.Placing.{in_front}
@@ -150,12 +150,12 @@ module _ (standard : Bool) (umpire : Umpire) where
 
   -- a header of version 1
   pub plain_file : (bytes was page : List ℕ) (left written : Option (List ℕ)) (direction : Direction) → version_of bytes ≡ Some (One direction) → SaidSoFar was page written []
-      → Says (AuditedAs standard umpire) (AuditedCut standard umpire) bytes was (Err BadHeader) left page written
+      → SaysOfFile (AuditedAs standard umpire) (AuditedCut standard umpire) bytes was (Err BadHeader) left page written
   plain_file bytes was page left written direction e k = no_header bytes was page written (Some (One direction)) e (refl, refl) k
 
   -- a header that was not read
   pub file_ends : (bytes was window page : List ℕ) (left written : Option (List ℕ)) (fault : FileFault) → ReadsVersion bytes (Err fault) window left → SaidSoFar was page written []
-      → Says (AuditedAs standard umpire) (AuditedCut standard umpire) bytes was (Err fault) left page written
+      → SaysOfFile (AuditedAs standard umpire) (AuditedCut standard umpire) bytes was (Err fault) left page written
   file_ends bytes was window page left written BadHeader h k = no_header bytes was page written None h.1 (refl, refl) k
   file_ends bytes was window page left written Truncated h k = let e : ⊥ = cc (h.0) in absurd e
   file_ends bytes was window page left written TooLong h k = let e : ⊥ = cc (h.0) in absurd e
@@ -174,7 +174,7 @@ module _ (standard : Bool) (umpire : Umpire) where
 
   -- the records behind a header
   pub file_audited : (bytes was page : List ℕ) (left written : Option (List ℕ)) (r : Result Bool FileFault) → version_of bytes ≡ Some Two
-      → AuditsFrom standard umpire 1 (drop 4 bytes) was [] true r left page written → Says (AuditedAs standard umpire) (AuditedCut standard umpire) bytes was (done_of r) left page written
+      → AuditsFrom standard umpire 1 (drop 4 bytes) was [] true r left page written → SaysOfFile (AuditedAs standard umpire) (AuditedCut standard umpire) bytes was (done_of r) left page written
   file_audited bytes was page left written (Ok good) h k = says_file (drop 4 bytes) bytes was page written None h (k.0, k.1, k.2)
   file_audited bytes was page left written (Err BadHeader) h k = says_file (drop 4 bytes) bytes was page written _ h k
   file_audited bytes was page left written (Err Truncated) h k = says_file (drop 4 bytes) bytes was page written _ h k

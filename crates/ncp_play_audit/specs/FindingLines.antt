@@ -1,7 +1,7 @@
 -- The line of a finding: the number of its record, the host at whose interface it is seen, who broke the rule, the name of
 -- the rule, and the words that show it.
 use Rattle.std.specs.Prelude.{ℕ, ◌&&◌, ◌||◌, not, Bool, true, false, List, [], ◌++◌, codes, decimal, if◌then◌else◌}
-use Rattle.ncp_leader.specs.Fault.{name_of}
+use Rattle.ncp_leader.specs.Fault.{name_of_message_fault}
 use Rattle.ncp_play_page.specs.Lines.{field}
 use Rattle.ncp_play_files.specs.Lines.{bad_words}
 use Rattle.ncp_umpire.specs.declared.finding.Finding.{Finding}
@@ -40,8 +40,8 @@ why_word Twice = codes "twice"
 why_word Altered = codes "altered"
 
 -- 1 where it is so
-abbrev pub flag : Bool → ℕ
-flag so = if so then 1 else 0
+abbrev pub one_where : Bool → ℕ
+one_where so = if so then 1 else 0
 
 abbrev pub coming_word : Bool → List ℕ
 coming_word came = if came then codes "came" else codes "not-come"
@@ -53,7 +53,7 @@ abbrev pub rule_words : Rule → List ℕ
 rule_words (Short bits) = field (codes "short bits=") bits
 rule_words (OwnHost kind link) = field (codes "own-host type=") kind ++ field (codes " link=") link
 rule_words (Kind kind) = field (codes "kind type=") kind
-rule_words (Fault fault link) = codes "fault name=" ++ name_of fault ++ field (codes " link=") link
+rule_words (Fault fault link) = codes "fault name=" ++ name_of_message_fault fault ++ field (codes " link=") link
 rule_words (WrongLink link) = field (codes "wrong-link link=") link
 rule_words (WrongSize size) = field (codes "wrong-size size=") size
 rule_words (Extras flags low text rest) = field (codes "extras flags=") flags ++ field (codes " low=") low ++ field (codes " text=") text ++ field (codes " rest=") rest
@@ -65,7 +65,7 @@ rule_words (FalseAnswer kind host link came) =
     field (codes "false-answer type=") kind ++ field (codes " host=") host ++ field (codes " link=") link ++ codes " " ++ coming_word came
 rule_words (Bad fault) = bad_words fault
 rule_words (Early thing began waits owes) =
-    codes "early " ++ thing_word thing ++ field (codes " began=") (flag began) ++ field (codes " wait=") (flag waits) ++ field (codes " owe=") (flag owes)
+    codes "early " ++ thing_word thing ++ field (codes " began=") (one_where began) ++ field (codes " wait=") (one_where waits) ++ field (codes " owe=") (one_where owes)
 rule_words RstAgain = codes "rst-again"
 rule_words RrpUnasked = codes "rrp-unasked"
 rule_words (Unquiet reply link) = codes "unquiet " ++ unquiet_word reply ++ field (codes " link=") link

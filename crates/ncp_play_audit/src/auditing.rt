@@ -4,7 +4,7 @@ ghost use Rattle.ncp_play_stream.specs.Pieces.{reads_for, lost_pieces, unpaid};
 ghost use Rattle.ncp_play_page.specs.Inlets.{SameInlet, left_in, reads_left, read_failed, slack, work, Brings, PaidBy};
 ghost use Rattle.ncp_play_page.specs.Outlets.{SameOutlet, written_by, write_failed, credit, HasSaid};
 ghost use Rattle.ncp_play_files.specs.Results.{is_read_failed, is_write_failed};
-ghost use Rattle.ncp_play_files.specs.Steps.{Says, says_nothing, unpaid_after};
+ghost use Rattle.ncp_play_files.specs.Steps.{SaysOfFile, said_nothing, unpaid_after};
 ghost use Rattle.ncp_play_files.specs.Waiting.{is_waiting};
 ghost use Rattle.ncp_play_files.specs.declared.version.Version.TheVariants.{Two};
 ghost use Rattle.ncp_play_files.specs.Writing.{Writes};
@@ -77,9 +77,9 @@ fn audit_next<S: Source, W: Sink>(
     ensures taken { IfOk result (λ next. is_some next ≡ true → slack S.Source input.old ≤ slack S.Source input.new) }
     ensures effort { IfOk result (λ next. is_some next ≡ true → work S.Source input.new < work S.Source input.old) }
     ensures lowers { reads_left S.Source input.new ≤ reads_left S.Source input.old }
-    ensures waited { says_nothing (more_of result) ≡ false → is_waiting Two input.old.window.now ≡ true
+    ensures waited { said_nothing (more_of result) ≡ false → is_waiting Two input.old.window.now ≡ true
         → reads_left S.Source input.new < reads_left S.Source input.old }
-    ensures kept { says_nothing (more_of result) ≡ true → out.new.page.now ≡ out.old.page.now }
+    ensures kept { said_nothing (more_of result) ≡ true → out.new.page.now ≡ out.old.page.now }
     ensures same_inlet { SameInlet input.old input.new }
     ensures same_outlet { SameOutlet out.old out.new }
 {
@@ -176,7 +176,7 @@ fn audit_file<S: Source, W: Sink>(
     requires page { out.old.page.now ≡ [] }
     ensures told { (bytes : List ℕ) (was : List ℕ)
         → left_in S.Source input.old ≡ Some bytes → written_by W.Sink out.old ≡ Some was
-        → Says (AuditedAs standard auditor.old.umpire) (AuditedCut standard auditor.old.umpire) bytes was (done_of result) (left_in S.Source input.new) out.new.page.now (written_by W.Sink out.new) }
+        → SaysOfFile (AuditedAs standard auditor.old.umpire) (AuditedCut standard auditor.old.umpire) bytes was (done_of result) (left_in S.Source input.new) out.new.page.now (written_by W.Sink out.new) }
     ensures verdict { (bytes : List ℕ) (was : List ℕ)
         → left_in S.Source input.old ≡ Some bytes → written_by W.Sink out.old ≡ Some was
         → IfOk result (λ good. HasVerdict standard auditor.old.umpire bytes good) }

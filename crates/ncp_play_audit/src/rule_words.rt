@@ -1,7 +1,7 @@
 //! The words of a rule that was broken.
 ghost use Rattle.std.specs.Prelude.{◌≡◌, ◌+◌, ◌≤◌, ◌++◌, length, codes};
 ghost use Rattle.ncp_play_page.specs.Lines.{field};
-ghost use Rattle.ncp_play_audit.specs.FindingLines.{thing_word, why_word, flag, coming_word, unquiet_word, rule_words, is_standard};
+ghost use Rattle.ncp_play_audit.specs.FindingLines.{thing_word, why_word, one_where, coming_word, unquiet_word, rule_words, is_standard};
 
 use ncp_leader::MessageFault;
 use ncp_play_page::{PAGE_SIZE, Page, push_field};
@@ -64,7 +64,7 @@ fn unquiet_word(reply: bool) -> &'static [u8]
 
 // 1 where it is so.
 fn flag(so: bool) -> u32
-    ensures { result ≡ flag so }
+    ensures { result ≡ one_where so }
 {
     if so { 1 } else { 0 }
 }

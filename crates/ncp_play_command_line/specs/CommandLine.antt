@@ -86,8 +86,8 @@ abbrev pub program : App
 program = with_subcommand of_recorders explaining
 
 -- the number of `--at` among the arguments that clap found; 0 stands for none, which clap refuses
-abbrev pub number_in : List Row → ℕ
-number_in given = option_map_or byte_or_zero (one_of (codes "at") given) 0
+abbrev pub number_given : List Row → ℕ
+number_given given = option_map_or byte_or_zero (one_of (codes "at") given) 0
 
 -- the number that a text spells in 16 bits, if it is one
 abbrev pub number_read : Text → Option ℕ
@@ -105,10 +105,10 @@ abbrev pub flag_in : Text → List Row → Bool
 flag_in name given = option_map_or (λ text. bytes_eq text (codes "true")) (one_of name given) false
 
 -- the order that a subcommand with these arguments is
-abbrev pub named : Text → List Row → Order
-named name given =
+abbrev pub order_named : Text → List Row → Order
+order_named name given =
     if bytes_eq name (codes "check") then Check
-    else if bytes_eq name (codes "convert") then Convert (number_in given)
+    else if bytes_eq name (codes "convert") then Convert (number_given given)
     else if bytes_eq name (codes "audit") then Audit (flag_in (codes "part") given) (flag_in (codes "standard") given)
     else if bytes_eq name (codes "follow") then Follow (flag_in (codes "part") given) (bytes_in given)
     else if bytes_eq name (codes "host") then Host
@@ -120,16 +120,16 @@ named name given =
 -- the order that a subcommand is, with its arguments: `show` where there is none
 abbrev pub order_of : Option (Text × List Row) → Order
 order_of None = Show
-order_of (Some found) = named found.0 found.1
+order_of (Some found) = order_named found.0 found.1
 
 -- the order that clap reads in words
 abbrev pub order_in : List Text → Order
 order_in words = order_of (subcommand_of program words)
 
 -- the word behind a subcommand
-abbrev pub word_of : Option (Text × List Row) → Option Text
-word_of found = option_and_then (λ f. first_of (codes "word") f.1) found
+abbrev pub word_given : Option (Text × List Row) → Option Text
+word_given found = option_and_then (λ f. first_of (codes "word") f.1) found
 
 -- the word behind the subcommand that clap reads in words
 abbrev pub word_in : List Text → Option Text
-word_in words = word_of (subcommand_of program words)
+word_in words = word_given (subcommand_of program words)

@@ -1,6 +1,6 @@
 //! The command line of the program `ncp`.
 ghost use Rattle.std.specs.Prelude.{◌≡◌, IfOk, IsOkAnd, map, option_map, false};
-ghost use Rattle.ncp_play_command_line.specs.CommandLine.{auditing, bare_program, bytes_asked, bytes_in, converting, explaining, flag_asked, following, flag_in, named, number_in, of_files, of_players, of_readers, of_recorders, order_in, order_of, program, reading, file_named, word_in, word_of};
+ghost use Rattle.ncp_play_command_line.specs.CommandLine.{auditing, bare_program, bytes_asked, bytes_in, converting, explaining, flag_asked, following, flag_in, order_named, number_given, of_files, of_players, of_readers, of_recorders, order_in, order_of, program, reading, file_named, word_in, word_given};
 ghost use Rattle.clap.specs.Faults.{fault_of};
 ghost use Rattle.clap.specs.Kinds.{FailsBy};
 ghost use Rattle.clap.specs.Simple.{app_of, new_app, shape_of, subcommand_rows_of, with_subcommand};
@@ -60,7 +60,7 @@ const WORD: &str = "word";
 
 // The number of `--at`. clap wants one, so it is never the 0 that stands for none.
 fn number_in(given: &ArgMatches) -> u8
-    ensures { result ≡ number_in (rows_of (found_of given.now)) }
+    ensures { result ≡ number_given (rows_of (found_of given.now)) }
 {
     given.get_one::<u8>(AT).unwrap_or(0)
 }
@@ -81,7 +81,7 @@ fn flag_in(given: &ArgMatches, id: &'static str) -> bool
 
 // The order that a subcommand with these arguments is.
 fn order_named(name: &str, given: &ArgMatches) -> Order
-    ensures { result ≡ named name.now (rows_of (found_of given.now)) }
+    ensures { result ≡ order_named name.now (rows_of (found_of given.now)) }
 {
     match name {
         _ if name == CHECK => Order::Check,
@@ -112,7 +112,7 @@ fn word_in<'a>(given: &ArgMatches<'a>) -> Option<&'a str>
 // What clap found: `show` and no word where there is no subcommand.
 fn request_of<'a>(matches: &ArgMatches<'a>) -> Request<'a>
     ensures order { result.order ≡ order_of (subcommand_rows_of matches.now) }
-    ensures word { option_map (λ word. word.now) result.word ≡ word_of (subcommand_rows_of matches.now) }
+    ensures word { option_map (λ word. word.now) result.word ≡ word_given (subcommand_rows_of matches.now) }
 {
     match matches.subcommand() {
         Some((name, given)) => Request {

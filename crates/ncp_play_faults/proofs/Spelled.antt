@@ -4,7 +4,7 @@ use Rattle.std.proofs.lemmas.Bool.Decides.{nat_tests}
 use Rattle.std.specs.Str.{IsAscii}
 use Rattle.std.proofs.lemmas.Str.Ascii.{IsAscii-nil, IsAscii-cons}
 use Rattle.std.proofs.Math.ListN.{drop_of_length-le}
-use Rattle.ncp_play_faults.specs.Bytes.{hex_byte}
+use Rattle.ncp_play_faults.specs.Bytes.{hex_glyphs}
 use Rattle.ncp_play_faults.specs.Spelling.{is_sign, strange_from, byte_told}
 
 rest_from : (text : List ℕ) (i : ℕ) → i < length text → drop i text ≡ get_or text i 0 ∷ drop (i + 1) text
@@ -27,11 +27,11 @@ pub told_return : (place byte : ℕ) → byte ≡ 13 → byte_told place byte �
 told_return place byte e = ap (byte_told place) e ∙ append_assoc (codes "a carriage return, at byte ") (decimal place) (codes ", with no line feed behind it")
 
 pub told_other : (place byte : ℕ) → (byte == 9) ≡ false → (byte == 13) ≡ false →
-    byte_told place byte ≡ codes "byte " ++ (decimal place ++ (codes " is " ++ (hex_byte byte ++ codes ", which is no letter, digit or sign of ASCII")))
+    byte_told place byte ≡ codes "byte " ++ (decimal place ++ (codes " is " ++ (hex_glyphs byte ++ codes ", which is no letter, digit or sign of ASCII")))
 told_other place byte a b =
-    rw (a, b) (append_assoc (codes "byte " ++ decimal place ++ codes " is ") (hex_byte byte) (codes ", which is no letter, digit or sign of ASCII")
-    ∙ append_assoc (codes "byte " ++ decimal place) (codes " is ") (hex_byte byte ++ codes ", which is no letter, digit or sign of ASCII")
-    ∙ append_assoc (codes "byte ") (decimal place) (codes " is " ++ (hex_byte byte ++ codes ", which is no letter, digit or sign of ASCII")))
+    rw (a, b) (append_assoc (codes "byte " ++ decimal place ++ codes " is ") (hex_glyphs byte) (codes ", which is no letter, digit or sign of ASCII")
+    ∙ append_assoc (codes "byte " ++ decimal place) (codes " is ") (hex_glyphs byte ++ codes ", which is no letter, digit or sign of ASCII")
+    ∙ append_assoc (codes "byte ") (decimal place) (codes " is " ++ (hex_glyphs byte ++ codes ", which is no letter, digit or sign of ASCII")))
 
 -- ---- a line of signs is ASCII
 sign_is_ascii : (byte : ℕ) → is_sign byte ≡ true → byte < 128

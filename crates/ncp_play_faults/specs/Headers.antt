@@ -2,7 +2,7 @@
 use Rattle.std.specs.Prelude.{◌==◌, ◌||◌, Bool, ℕ, List, ◌++◌, length, slice_index, codes, decimal, nat_eq, nat_lt, if◌then◌else◌}
 use Rattle.std.specs.List.{starts_with, list_all}
 use Rattle.std.specs.Char.{is_ascii_hexdigit, is_ascii_whitespace}
-use Rattle.ncp_play_faults.specs.Bytes.{hex_byte}
+use Rattle.ncp_play_faults.specs.Bytes.{hex_glyphs}
 
 -- what a message file begins with
 abbrev pub wanted : List ℕ
@@ -15,8 +15,8 @@ is_hexadecimal head = list_all (λ byte. is_ascii_hexdigit byte || is_ascii_whit
 -- the first four bytes of a file that is none that is known
 abbrev pub beginning : ℕ → ℕ → ℕ → ℕ → List ℕ
 beginning one two three four =
-    codes "it begins with the bytes " ++ hex_byte one ++ codes " " ++ hex_byte two ++ codes " " ++ hex_byte three ++ codes " "
-    ++ hex_byte four ++ codes ": " ++ wanted
+    codes "it begins with the bytes " ++ hex_glyphs one ++ codes " " ++ hex_glyphs two ++ codes " " ++ hex_glyphs three ++ codes " "
+    ++ hex_glyphs four ++ codes ": " ++ wanted
 
 -- and how many bytes there are, if they are fewer
 abbrev pub unknown_header : List ℕ → List ℕ

@@ -3,7 +3,7 @@ use Rattle.std.specs.Prelude.{◌≡◌, ◌==◌, ◌||◌, ◌+◌, Bool, fals
 use Rattle.std.specs.List.{starts_with, ends_with}
 use Rattle.std.specs.Char.{is_ascii_graphic}
 use Rattle.std.specs.Str.Iter.{HasSubslice}
-use Rattle.ncp_play_faults.specs.Bytes.{hex_byte}
+use Rattle.ncp_play_faults.specs.Bytes.{hex_glyphs}
 
 -- the signs of a line: the letters, digits and signs of ASCII, and the space
 abbrev pub is_sign : ℕ → Bool
@@ -23,7 +23,7 @@ abbrev pub byte_told : ℕ → ℕ → List ℕ
 byte_told place byte =
     if byte == 9 then codes "a tab, at byte " ++ decimal place ++ codes "; words stand one space apart"
     else if byte == 13 then codes "a carriage return, at byte " ++ decimal place ++ codes ", with no line feed behind it"
-    else codes "byte " ++ decimal place ++ codes " is " ++ hex_byte byte ++ codes ", which is no letter, digit or sign of ASCII"
+    else codes "byte " ++ decimal place ++ codes " is " ++ hex_glyphs byte ++ codes ", which is no letter, digit or sign of ASCII"
 
 -- a line whose words stand one space apart, with no remark behind them
 pub record IsWellSpaced (line : List ℕ) : Type 0 where

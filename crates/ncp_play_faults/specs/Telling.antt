@@ -4,7 +4,7 @@ use Rattle.std.specs.List.{before_first, slice_split, starts_with}
 use Rattle.ncp_play_faults.specs.declared.usage.Player.{Player}
 use Rattle.ncp_play_faults.specs.declared.usage.Player.TheVariants.{Host, World}
 use Rattle.ncp_play_faults.specs.Near.{NoneIsNear, IsFirstNear}
-use Rattle.ncp_play_faults.specs.Verbs.{all_verbs}
+use Rattle.ncp_play_faults.specs.Verbs.{all_verb_words}
 
 -- the words of a line, and the first of them
 abbrev pub words_of : List ℕ → List (List ℕ)
@@ -37,7 +37,7 @@ abbrev pub no_verb : List ℕ → List ℕ
 no_verb word = codes "'" ++ word ++ codes "' is no verb"
 
 abbrev pub TellsNoVerb : List ℕ → List ℕ → Type 0
-TellsNoVerb word told = TellsNear word all_verbs (λ near. no_verb word ++ codes "; did you mean '" ++ near ++ codes "'?") (no_verb word) told
+TellsNoVerb word told = TellsNear word all_verb_words (λ near. no_verb word ++ codes "; did you mean '" ++ near ++ codes "'?") (no_verb word) told
 
 -- the words that first lines begin with
 abbrev pub heads : List (List ℕ)

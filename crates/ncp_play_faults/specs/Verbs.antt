@@ -2,15 +2,15 @@
 use Rattle.std.specs.Prelude.{ℕ, List, [], ◌∷◌, ◌++◌, codes}
 
 -- the calls of a host
-abbrev pub calls : List (List ℕ)
-calls =
+abbrev pub call_verbs : List (List ℕ)
+call_verbs =
     codes "reset" ∷ codes "wake" ∷ codes "phase" ∷ codes "echoed" ∷ codes "errors" ∷ codes "counts" ∷ codes "echo" ∷ codes "interrupt"
     ∷ codes "close" ∷ codes "state" ∷ codes "ask-send" ∷ codes "ask-receive" ∷ codes "give" ∷ codes "take" ∷ codes "allocate"
     ∷ codes "call-back" ∷ []
 
 -- what a host is asked for and names no peer
-abbrev pub plain : List (List ℕ)
-plain = codes "ignored" ∷ codes "out" ∷ []
+abbrev pub plain_verbs : List (List ℕ)
+plain_verbs = codes "ignored" ∷ codes "out" ∷ []
 
 -- what else a script of one host has
 abbrev pub of_one_host : List (List ℕ)
@@ -25,5 +25,5 @@ abbrev pub of_all_hosts : List (List ℕ)
 of_all_hosts = codes "settle" ∷ []
 
 -- all of them
-abbrev pub all_verbs : List (List ℕ)
-all_verbs = calls ++ plain ++ of_one_host ++ of_the_subnet ++ of_all_hosts
+abbrev pub all_verb_words : List (List ℕ)
+all_verb_words = call_verbs ++ plain_verbs ++ of_one_host ++ of_the_subnet ++ of_all_hosts

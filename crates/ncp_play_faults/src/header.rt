@@ -1,7 +1,7 @@
 //! What is wrong with the header of a message file.
 ghost use Rattle.std.specs.Prelude.{◌≡◌, IfOk};
 ghost use Rattle.std.specs.String.{string_bytes};
-ghost use Rattle.ncp_play_faults.specs.Bytes.{hex_byte};
+ghost use Rattle.ncp_play_faults.specs.Bytes.{hex_glyphs};
 ghost use Rattle.ncp_play_faults.specs.Headers.{beginning, is_hexadecimal, header_told};
 
 use std::alloc::{AllocError, Global};
@@ -11,7 +11,7 @@ const WANTED: &str = "a message file begins with the letters NCPH, NCPI or NCPJ"
 
 /// A byte in two hexadecimal digits.
 pub(crate) fn in_hexadecimal(alloc: Global, byte: u8) -> Result<String, AllocError>
-    ensures { IfOk result (λ text. string_bytes text ≡ hex_byte byte) }
+    ensures { IfOk result (λ text. string_bytes text ≡ hex_glyphs byte) }
 {
     format!(in alloc; "{byte:02x}")
 }

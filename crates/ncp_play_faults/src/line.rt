@@ -3,7 +3,7 @@ ghost use Rattle.std.specs.Prelude.{◌≡◌, ℕ, List, map, Some, Contains, I
 ghost use Rattle.std.specs.String.{string_bytes};
 ghost use Rattle.ncp_play_faults.specs.Spelling.{strange_byte, byte_told, IsWellSpelled};
 ghost use Rattle.ncp_play_faults.specs.Telling.{first_word, TellsNoVerb};
-ghost use Rattle.ncp_play_faults.specs.Verbs.{all_verbs};
+ghost use Rattle.ncp_play_faults.specs.Verbs.{all_verb_words};
 
 use crate::arguments::{and_form, written, wrong_arguments};
 use crate::near::nearest;
@@ -102,7 +102,7 @@ fn wrong_form(
 
 // What is wrong with what is to be done, behind the side or the host.
 fn wrong_deed(alloc: Global, scene: Scene, words: &[&str]) -> Result<String, AllocError>
-    ensures { (verb : List ℕ) → slice_get (map (λ word. word.now) words.now) 0 ≡ Some verb → ¬ (Contains all_verbs verb) →
+    ensures { (verb : List ℕ) → slice_get (map (λ word. word.now) words.now) 0 ≡ Some verb → ¬ (Contains all_verb_words verb) →
         IfOk result (λ told. TellsNoVerb verb (string_bytes told)) }
 {
     match words {
@@ -182,7 +182,7 @@ fn wrong_words(
     first: &[u8],
     line: &str,
 ) -> Result<String, AllocError>
-    ensures { player ≡ Player.Host → ¬ (Contains all_verbs (first_word line.now)) →
+    ensures { player ≡ Player.Host → ¬ (Contains all_verb_words (first_word line.now)) →
         IfOk result (λ told. TellsNoVerb (first_word line.now) (string_bytes told)) }
 {
     let words = words_of(alloc, line)?;
@@ -200,7 +200,7 @@ pub fn wrong_line(
     text: &[u8],
 ) -> Result<String, AllocError>
     ensures byte { IfSome (strange_byte text.now) (λ at. IfOk result (λ told. string_bytes told ≡ byte_told at.0 at.1)) }
-    ensures verb { player ≡ Player.Host → IsWellSpelled text.now → ¬ (Contains all_verbs (first_word text.now)) →
+    ensures verb { player ≡ Player.Host → IsWellSpelled text.now → ¬ (Contains all_verb_words (first_word text.now)) →
         IfOk result (λ told. TellsNoVerb (first_word text.now) (string_bytes told)) }
 {
     if let Some(wrong) = misspelled(alloc, text)? {

@@ -1,6 +1,6 @@
 //! What the lines of scripts look like.
 ghost use Rattle.std.specs.Prelude.{◌≡◌, ◌++◌, ℕ, List, map, IfOk, IsTrue, Contains};
-ghost use Rattle.ncp_play_faults.specs.Verbs.{all_verbs};
+ghost use Rattle.ncp_play_faults.specs.Verbs.{all_verb_words};
 
 use crate::words::is_among;
 use std::alloc::{AllocError, Global};
@@ -144,7 +144,7 @@ fn add_words(words: &mut Vec<&'static str>, usages: &'static [Usage]) -> Result<
 
 /// All words that name what is to be done, in any script.
 pub fn verbs(alloc: Global) -> Result<Vec<&'static str>, AllocError>
-    ensures { IfOk result (λ words. map (λ word. word.now) words.items ≡ all_verbs) }
+    ensures { IfOk result (λ words. map (λ word. word.now) words.items ≡ all_verb_words) }
 {
     let mut words = Vec::new(alloc);
     for usages in ALL {
@@ -155,7 +155,7 @@ pub fn verbs(alloc: Global) -> Result<Vec<&'static str>, AllocError>
 
 /// Whether a word names what is to be done, in any script.
 pub(crate) fn is_verb(alloc: Global, word: &str) -> Result<bool, AllocError>
-    ensures { IfOk result (λ found. IsTrue found → Contains all_verbs word.now) }
+    ensures { IfOk result (λ found. IsTrue found → Contains all_verb_words word.now) }
 {
     let known = verbs(alloc)?;
     Ok(is_among(word, known.as_slice()))

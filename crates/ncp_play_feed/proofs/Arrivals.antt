@@ -4,7 +4,7 @@ use Rattle.std.proofs.lemmas.List.{append_assoc}
 use Rattle.std.specs.Result.{IfOk}
 use Rattle.ncp_transcript.specs.declared.input.Input.TheVariants as inputs
 use Rattle.ncp_transcript.specs.declared.note.HostNote.{HostNote}
-use Rattle.ncp_transcript.specs.Alone.{Alone, IsStep}
+use Rattle.ncp_transcript.specs.Alone.{Alone, IsHostStep}
 use Rattle.ncp_play_files.specs.declared.file.FileFault.{FileFault}
 use Rattle.ncp_play_files.specs.declared.file.FileFault.TheVariants as file
 use Rattle.ncp_play_files.specs.declared.file.Direction.{Direction}
@@ -16,10 +16,10 @@ use Rattle.ncp_play_notes.specs.declared.fault.PlayFault.{PlayFault}
 use Rattle.ncp_play_notes.specs.declared.fault.PlayFault.TheVariants.{BadLine, LineTooLong, BadHosts, Feed, ReadFailed, WriteFailed, OutOfMemory}
 use Rattle.ncp_play_notes.specs.declared.heading.Heading.{Heading}
 use Rattle.ncp_play_notes.specs.Playing.{Does, TellsAs}
-use Rattle.ncp_play_notes.specs.Faults.{is_write_failed}
+use Rattle.ncp_play_notes.specs.Faults.{play_write_failed}
 use Rattle.ncp_play_stream.specs.Pieces.{bytes_and_writes, lost_pieces, Paid}
 use Rattle.ncp_play_files.specs.Steps.{unpaid_out}
-use Rattle.ncp_play_feed.specs.Steps.{IsOtherHeader, ReadsFeedHeader, HearsNext, HearsOn, Hears, HearsFirst, HearsFrom, unpaid_after}
+use Rattle.ncp_play_feed.specs.Steps.{IsOtherHeader, ReadsFeedHeader, HearsNext, HearsOn, Hears, HearsFirst, HearsFrom, unpaid_after_feeding}
 
 -- ---- the header
 
@@ -94,7 +94,7 @@ hears_on bytes window left before now (Err fault) h = from_err bytes window left
 
 -- something went out before more was waited for, and then the lines of this were said
 pub paid_on : (full : Bool) (w0 w1 w2 : ℕ) (a b c : Option (List ℕ)) (r0 r1 : ℕ) (waits : Bool) (r : Result Bool PlayFault) → bytes_and_writes full w0 a ≤ bytes_and_writes full w1 b + unpaid_out (Ok tt) waits
-    → bytes_and_writes full w1 b ≤ bytes_and_writes full w2 c + lost_pieces (is_write_failed r) → r1 ≤ r0 → IfOk r (λ more. more ≡ true → waits ≡ true → r1 < r0) → Paid full w0 a r0 w2 c r1 (unpaid_after r)
+    → bytes_and_writes full w1 b ≤ bytes_and_writes full w2 c + lost_pieces (play_write_failed r) → r1 ≤ r0 → IfOk r (λ more. more ≡ true → waits ≡ true → r1 < r0) → Paid full w0 a r0 w2 c r1 (unpaid_after_feeding r)
 paid_on full w0 w1 w2 a b c r0 r1 true (Ok true) h k l waited = omega (arith, h, k, waited refl refl)
 paid_on full w0 w1 w2 a b c r0 r1 false (Ok true) h k l waited = omega (arith, h, k, l)
 paid_on full w0 w1 w2 a b c r0 r1 true (Ok false) h k l waited = omega (arith, h, k, l)
@@ -103,7 +103,7 @@ paid_on full w0 w1 w2 a b c r0 r1 true (Err fault) h k l waited = omega (arith, 
 paid_on full w0 w1 w2 a b c r0 r1 false (Err fault) h k l waited = omega (arith, h, k, l)
 
 -- a message in front of others
-module _ (bytes rest : List ℕ) (message : List Bool) (before next : Alone) (h : next_record bytes ≡ Ok (Some (message, rest))) (step : IsStep (inputs.In message) before next) where
+module _ (bytes rest : List ℕ) (message : List Bool) (before next : Alone) (h : next_record bytes ≡ Ok (Some (message, rest))) (step : IsHostStep (inputs.In message) before next) where
   more_hear : (now : Alone) (fault : Option FileFault) → Hears rest fault next now → Hears bytes fault before now
   more_hear now fault k = (message ∷ k.0, (rest, h, k.1), (next, step, k.2))
 

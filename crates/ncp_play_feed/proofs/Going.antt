@@ -11,7 +11,7 @@ use Rattle.ncp_host.specs.Host.{Host}
 use Rattle.ncp_host.specs.Turns.{first_message, message_in_turn, after_turn, next_output, after_next_output}
 use Rattle.ncp_host.proofs.Outputs.{first_none, first_more}
 use Rattle.ncp_host.proofs.Turns.{message_cons, message_nil, after_cons}
-use Rattle.ncp_play_feed.specs.Going.{may_go, goes_on, links_to_peers, open_links}
+use Rattle.ncp_play_feed.specs.Going.{may_go, link_goes_on, links_to_peers, open_links}
 
 -- ---- counts
 
@@ -39,27 +39,27 @@ no_more p q h (n ∷ ns) =
 
 module _ (number : ℕ) (s : PeerState) where
   -- a link on which a message went out
-  gone : (on : ℕ) (message : List Bool) → goes_on (after_output on message s) on ≡ false
+  gone : (on : ℕ) (message : List Bool) → link_goes_on (after_output on message s) on ≡ false
   gone on message = ap may_go (slot_at-with_slot_same s.slots on (Travelling message))
 
   -- no link is won
-  stays : (on : ℕ) (message : List Bool) (link : ℕ) → goes_on (after_output on message s) link ≡ true → goes_on s link ≡ true
+  stays : (on : ℕ) (message : List Bool) (link : ℕ) → link_goes_on (after_output on message s) link ≡ true → link_goes_on s link ≡ true
   stays on message link h = go (link == on) refl
     where
-      go : (b : Bool) → (link == on) ≡ b → goes_on s link ≡ true
+      go : (b : Bool) → (link == on) ≡ b → link_goes_on s link ≡ true
       go true e =
           let same : link ≡ on = grind arith in
-          let no : goes_on (after_output on message s) link ≡ false = subst (λ (l : ℕ). goes_on (after_output on message s) l ≡ false) (sym same) (gone on message) in
+          let no : link_goes_on (after_output on message s) link ≡ false = subst (λ (l : ℕ). link_goes_on (after_output on message s) l ≡ false) (sym same) (gone on message) in
           absurd (cc (h, no))
       go false e =
           let other : link ≢ on = grind arith in
           sym (ap may_go (slot_at-with_slot_other s.slots on (Travelling message) link other)) ∙ h
 
   -- a message goes out only on a link that may send
-  may : (on : ℕ) (message : List Bool) → output_on number on s ≡ Some message → goes_on s on ≡ true
+  may : (on : ℕ) (message : List Bool) → output_on number on s ≡ Some message → link_goes_on s on ≡ true
   may on message h = go (slot_at s.slots on) refl
     where
-      go : (slot : LinkSlot) → slot_at s.slots on ≡ slot → goes_on s on ≡ true
+      go : (slot : LinkSlot) → slot_at s.slots on ≡ slot → link_goes_on s on ≡ true
       go Empty e = ap may_go e
       go (Ready m) e = ap may_go e
       go (Travelling m) e =
@@ -70,7 +70,7 @@ module _ (number : ℕ) (s : PeerState) where
           absurd (cc (h, none))
 
   abbrev Fewer : List ℕ → ℕ × List Bool → Type 0
-  Fewer ons out = count_by (goes_on (after_output out.0 out.1 s)) ons < count_by (goes_on s) ons
+  Fewer ons out = count_by (link_goes_on (after_output out.0 out.1 s)) ons < count_by (link_goes_on s) ons
 
   fewer_in : (ons : List ℕ) (out : ℕ × List Bool) → first_output number ons s ≡ Some out → Fewer ons out
   fewer_in [] out h = let e : ◌≡◌ {A = Option (ℕ × List Bool)} None (Some out) = sym (first_none number s) ∙ h in absurd (cc e)
@@ -82,13 +82,13 @@ module _ (number : ℕ) (s : PeerState) where
       go : (o : Option (List Bool)) → output_on number on s ≡ o → (first_output number ons s ≡ Some out → Fewer ons out) → Fewer (on ∷ ons) out
       go None e behind =
           let rest = behind (first None e) in
-          let here = one_less (goes_on s on) (goes_on (after_output out.0 out.1 s) on) (stays out.0 out.1 on) in
-          rw (count_cons (goes_on s) on ons, count_cons (goes_on (after_output out.0 out.1 s)) on ons) (omega arith)
+          let here = one_less (link_goes_on s on) (link_goes_on (after_output out.0 out.1 s) on) (stays out.0 out.1 on) in
+          rw (count_cons (link_goes_on s) on ons, count_cons (link_goes_on (after_output out.0 out.1 s)) on ons) (omega arith)
       go (Some message) e behind =
           let same : (on, message) ≡ out = let f = first (Some message) e in cc f in
           subst (Fewer (on ∷ ons)) same (
-          let rest = no_more (goes_on s) (goes_on (after_output on message s)) (stays on message) ons in
-          rw (count_cons (goes_on s) on ons, count_cons (goes_on (after_output on message s)) on ons, gone on message, may on message e) (omega arith))
+          let rest = no_more (link_goes_on s) (link_goes_on (after_output on message s)) (stays on message) ons in
+          rw (count_cons (link_goes_on s) on ons, count_cons (link_goes_on (after_output on message s)) on ons, gone on message, may on message e) (omega arith))
 
 -- ---- all peers
 

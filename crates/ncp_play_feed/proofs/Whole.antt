@@ -4,12 +4,12 @@ use Rattle.ncp_transcript.specs.declared.input.Input.{Input}
 use Rattle.ncp_transcript.specs.declared.input.Input.TheVariants as inputs
 use Rattle.ncp_transcript.specs.declared.note.HostNote.{HostNote}
 use Rattle.ncp_transcript.specs.declared.note.HostNote.TheVariants as notes
-use Rattle.ncp_transcript.specs.Alone.{Alone, AreSteps}
+use Rattle.ncp_transcript.specs.Alone.{Alone, AreHostSteps}
 use Rattle.ncp_play_files.specs.declared.file.Direction.{Direction}
 use Rattle.ncp_play_files.specs.declared.file.Direction.TheVariants.{ToImp, FromImp}
 use Rattle.ncp_play_files.specs.declared.file.FileFault.{FileFault}
 use Rattle.ncp_play_files.specs.declared.file.FileFault.TheVariants as file
-use Rattle.ncp_play_files.specs.File.{direction_of, Holds}
+use Rattle.ncp_play_files.specs.File.{direction_of, HoldsMessages}
 use Rattle.ncp_play_files.proofs.Files.{direction_of-short}
 use Rattle.ncp_play_files.proofs.Progress.{behind_header, inside_cut}
 use Rattle.ncp_play_notes.specs.declared.fault.PlayFault.{PlayFault}
@@ -38,7 +38,7 @@ feed_ends bytes window left alone file.WriteFailed h = absurd h
 
 -- ---- messages that came
 
-holds : (bytes : List ℕ) (messages : List (List Bool)) (fault : Option FileFault) → direction_of bytes ≡ Some FromImp → Holds (drop 4 bytes) messages fault → FeedHolds bytes messages fault
+holds : (bytes : List ℕ) (messages : List (List Bool)) (fault : Option FileFault) → direction_of bytes ≡ Some FromImp → HoldsMessages (drop 4 bytes) messages fault → FeedHolds bytes messages fault
 holds bytes messages fault head h = subst (λ (o : Option Direction). HoldsBehind o (drop 4 bytes) messages fault) (sym head) h
 
 module _ (bytes : List ℕ) (head : direction_of bytes ≡ Some FromImp) (before : Alone) where
@@ -59,7 +59,7 @@ module _ (bytes : List ℕ) (head : direction_of bytes ≡ Some FromImp) (before
       let behind = behind_header bytes h.0 h.1 FromImp head h.3 in
       let given = take 4 bytes ++ h.0 in
       let heard = h.6 in
-      let same : Holds (drop 4 given) heard.0 h.2 = subst (λ (xs : List ℕ). Holds xs heard.0 h.2) (sym behind.2) heard.1 in
+      let same : HoldsMessages (drop 4 given) heard.0 h.2 = subst (λ (xs : List ℕ). HoldsMessages xs heard.0 h.2) (sym behind.2) heard.1 in
       (given, h.1, heard.0, h.2, behind.0, h.4, inside_cut given h.2 h.5, holds given heard.0 h.2 behind.1 same, heard.2)
   heard_part left now (Feed file.WriteFailed) h = absurd h
   heard_part left now OutOfMemory h = inl (heard_first now h)
@@ -71,8 +71,8 @@ module _ (bytes : List ℕ) (head : direction_of bytes ≡ Some FromImp) (before
 
 -- ---- and then what went out
 
-steps_append : (some more : List Input) (before between now : Alone) → AreSteps some before between → AreSteps more between now → AreSteps (some ++ more) before now
-steps_append [] more before between now h k = subst (λ (a : Alone). AreSteps more a now) h k
+steps_append : (some more : List Input) (before between now : Alone) → AreHostSteps some before between → AreHostSteps more between now → AreHostSteps (some ++ more) before now
+steps_append [] more before between now h k = subst (λ (a : Alone). AreHostSteps more a now) h k
 steps_append (input ∷ some) more before between now h k = (h.0, h.1, steps_append some more h.0 between now h.2 k)
 
 both : (messages : List (List Bool)) (asked : List HostNote) (before between now : Alone) → Came messages before between → AskedFor asked between now → CameAndAsked messages asked before now

@@ -4,12 +4,12 @@ use Rattle.std.specs.Prelude.{◌≡◌, ◌⊎◌, ℕ, Bool, List, [], ◌∷�
 use Rattle.ncp_transcript.specs.declared.input.Input.TheVariants as inputs
 use Rattle.ncp_transcript.specs.declared.note.HostNote.{HostNote}
 use Rattle.ncp_transcript.specs.declared.note.HostNote.TheVariants as notes
-use Rattle.ncp_transcript.specs.Alone.{Alone, AreSteps}
+use Rattle.ncp_transcript.specs.Alone.{Alone, AreHostSteps}
 use Rattle.ncp_play_files.specs.declared.file.Direction.{Direction}
 use Rattle.ncp_play_files.specs.declared.file.Direction.TheVariants.{ToImp, FromImp}
 use Rattle.ncp_play_files.specs.declared.file.FileFault.{FileFault}
 use Rattle.ncp_play_files.specs.declared.file.FileFault.TheVariants.{BadHeader}
-use Rattle.ncp_play_files.specs.File.{direction_of, Holds, IsCut}
+use Rattle.ncp_play_files.specs.File.{direction_of, HoldsMessages, IsCut}
 use Rattle.ncp_play_files.specs.Results.{MatchFault}
 use Rattle.ncp_play_notes.specs.declared.fault.PlayFault.{PlayFault}
 use Rattle.ncp_play_notes.specs.declared.fault.PlayFault.TheVariants.{BadLine, LineTooLong, BadHosts, Feed, ReadFailed, WriteFailed, OutOfMemory}
@@ -18,7 +18,7 @@ use Rattle.ncp_play_notes.specs.declared.fault.PlayFault.TheVariants.{BadLine, L
 
 -- what bytes behind a header hold: only a file from an IMP is fed
 abbrev pub HoldsBehind : Option Direction → List ℕ → List (List Bool) → Option FileFault → Type 0
-HoldsBehind (Some FromImp) bytes messages fault = Holds bytes messages fault
+HoldsBehind (Some FromImp) bytes messages fault = HoldsMessages bytes messages fault
 HoldsBehind (Some ToImp) bytes messages fault = (messages ≡ []) × (fault ≡ Some BadHeader)
 HoldsBehind None bytes messages fault = (messages ≡ []) × (fault ≡ Some BadHeader)
 
@@ -30,12 +30,12 @@ FeedHolds bytes messages fault = HoldsBehind (direction_of bytes) (drop 4 bytes)
 
 -- these messages came
 abbrev pub Came : List (List Bool) → Alone → Alone → Type 0
-Came messages before now = AreSteps (map inputs.In messages) before now
+Came messages before now = AreHostSteps (map inputs.In messages) before now
 
 -- these messages came, and then the host was asked for output, once for each of these notes, which are the last
 abbrev pub CameAndAsked : List (List Bool) → List HostNote → Alone → Alone → Type 0
 CameAndAsked messages asked before now =
-    AreSteps (map inputs.In messages ++ replicate (length asked) inputs.Out) before now × ((front : List HostNote) × (now.notes ≡ front ++ asked))
+    AreHostSteps (map inputs.In messages ++ replicate (length asked) inputs.Out) before now × ((front : List HostNote) × (now.notes ≡ front ++ asked))
 
 -- the notes of these messages, which went out, and then that no link was ready
 abbrev pub all_output : List (List Bool) → List HostNote

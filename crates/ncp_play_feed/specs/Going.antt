@@ -14,12 +14,12 @@ may_go (Ready message) = true
 may_go (Travelling message) = false
 may_go (Held message) = false
 
-abbrev pub goes_on : PeerState → ℕ → Bool
-goes_on s link = may_go (slot_at s.slots link)
+abbrev pub link_goes_on : PeerState → ℕ → Bool
+link_goes_on s link = may_go (slot_at s.slots link)
 
 abbrev pub links_to_peers : List (ℕ × PeerState) → ℕ
 links_to_peers [] = 0
-links_to_peers (p ∷ ps) = count_by (goes_on p.1) links + links_to_peers ps
+links_to_peers (p ∷ ps) = count_by (link_goes_on p.1) links + links_to_peers ps
 
 abbrev pub open_links : Host → ℕ
 open_links h = links_to_peers h.peers

@@ -3,7 +3,7 @@ use Rattle.std.specs.Prelude.{◌≡◌, ◌⊎◌, ◌+◌, ℕ, Bool, true, fa
 use Rattle.ncp_transcript.specs.declared.input.Input.TheVariants as inputs
 use Rattle.ncp_transcript.specs.declared.note.HostNote.{HostNote}
 use Rattle.ncp_transcript.specs.declared.note.HostNote.TheVariants as notes
-use Rattle.ncp_transcript.specs.Alone.{Alone, IsStep, AreSteps}
+use Rattle.ncp_transcript.specs.Alone.{Alone, IsHostStep, AreHostSteps}
 use Rattle.ncp_play_stream.specs.declared.source.TheConstants.{LEAST_PIECE}
 use Rattle.ncp_play_stream.specs.Pieces.{lost_pieces}
 use Rattle.ncp_play_stream.specs.Streams.{Ahead}
@@ -11,12 +11,12 @@ use Rattle.ncp_play_files.specs.declared.file.Direction.{Direction}
 use Rattle.ncp_play_files.specs.declared.file.Direction.TheVariants.{ToImp, FromImp}
 use Rattle.ncp_play_files.specs.declared.file.FileFault.{FileFault}
 use Rattle.ncp_play_files.specs.declared.file.FileFault.TheVariants.{BadHeader}
-use Rattle.ncp_play_files.specs.File.{direction_of, next_record, Holds}
+use Rattle.ncp_play_files.specs.File.{direction_of, next_record, HoldsMessages}
 use Rattle.ncp_play_files.specs.Results.{MatchFault}
 use Rattle.ncp_play_files.specs.Steps.{CutInHeader, CutOff, IsInside}
 use Rattle.ncp_play_notes.specs.declared.fault.PlayFault.{PlayFault}
 use Rattle.ncp_play_notes.specs.declared.fault.PlayFault.TheVariants.{BadLine, LineTooLong, BadHosts, Feed, ReadFailed, WriteFailed, OutOfMemory}
-use Rattle.ncp_play_notes.specs.Faults.{is_write}
+use Rattle.ncp_play_notes.specs.Faults.{is_play_write}
 use Rattle.ncp_play_feed.specs.Feeds.{Came, all_output}
 
 -- no header of a file from an IMP
@@ -36,12 +36,12 @@ ReadsFeedHeader bytes (Err fault) window left = MatchFault (λ f. (f ≡ BadHead
 -- happened; or the message came, and a write failed
 abbrev pub HearsNext : List ℕ → Alone → Result Bool PlayFault → Alone → List ℕ → Option (List ℕ) → Type 0
 HearsNext bytes before (Ok true) now window left =
-    (message : List Bool) × (rest : List ℕ) × (next_record bytes ≡ Ok (Some (message, rest))) × Ahead window left rest × IsStep (inputs.In message) before now
+    (message : List Bool) × (rest : List ℕ) × (next_record bytes ≡ Ok (Some (message, rest))) × Ahead window left rest × IsHostStep (inputs.In message) before now
 HearsNext bytes before (Ok false) now window left = (next_record bytes ≡ Ok None) × (now ≡ before)
 HearsNext bytes before (Err (Feed fault)) now window left = MatchFault (λ f. next_record bytes ≡ Err f) (CutOff bytes window left) ⊥ fault × (now ≡ before)
 HearsNext bytes before (Err OutOfMemory) now window left = (message : List Bool) × (rest : List ℕ) × (next_record bytes ≡ Ok (Some (message, rest))) × (now ≡ before)
 HearsNext bytes before (Err WriteFailed) now window left =
-    (message : List Bool) × (rest : List ℕ) × (next_record bytes ≡ Ok (Some (message, rest))) × IsStep (inputs.In message) before now
+    (message : List Bool) × (rest : List ℕ) × (next_record bytes ≡ Ok (Some (message, rest))) × IsHostStep (inputs.In message) before now
 HearsNext bytes before (Err ReadFailed) now window left = ⊥
 HearsNext bytes before (Err BadHosts) now window left = ⊥
 HearsNext bytes before (Err (BadLine line)) now window left = ⊥
@@ -49,7 +49,7 @@ HearsNext bytes before (Err (LineTooLong line)) now window left = ⊥
 
 -- these messages came, and then the bytes end, or the fault stands there
 abbrev pub Hears : List ℕ → Option FileFault → Alone → Alone → Type 0
-Hears bytes fault before now = (messages : List (List Bool)) × Holds bytes messages fault × Came messages before now
+Hears bytes fault before now = (messages : List (List Bool)) × HoldsMessages bytes messages fault × Came messages before now
 
 -- of the bytes that were read before a read failed
 abbrev pub HearsCut : List ℕ → Option (List ℕ) → Alone → Alone → Type 0
@@ -59,7 +59,7 @@ HearsCut bytes left before now =
 -- the first of them came
 abbrev pub HearsFirst : List ℕ → Alone → Alone → Type 0
 HearsFirst bytes before now =
-    (messages : List (List Bool)) × (more : List (List Bool)) × (fault : Option FileFault) × Holds bytes (messages ++ more) fault × Came messages before now
+    (messages : List (List Bool)) × (more : List (List Bool)) × (fault : Option FileFault) × HoldsMessages bytes (messages ++ more) fault × Came messages before now
 
 abbrev pub HearsFrom : List ℕ → Alone → Result Unit PlayFault → Alone → Option (List ℕ) → Type 0
 HearsFrom bytes before (Ok done) now left = Hears bytes None before now
@@ -78,28 +78,28 @@ HearsOn bytes before (Ok more) now window left = HearsNext bytes before (Ok more
 HearsOn bytes before (Err fault) now window left = HearsFrom bytes before (Err fault) now left
 
 -- how many bytes may not be paid of what was written: what goes out since more is waited for may be less than a piece
-abbrev pub unpaid_after : Result Bool PlayFault → ℕ
-unpaid_after (Ok true) = 0
-unpaid_after (Ok false) = LEAST_PIECE
-unpaid_after (Err fault) = LEAST_PIECE + lost_pieces (is_write fault)
+abbrev pub unpaid_after_feeding : Result Bool PlayFault → ℕ
+unpaid_after_feeding (Ok true) = 0
+unpaid_after_feeding (Ok false) = LEAST_PIECE
+unpaid_after_feeding (Err fault) = LEAST_PIECE + lost_pieces (is_play_write fault)
 
 -- ---- messages that go out
 
 -- the host was asked for output once, and this was noted
-abbrev pub Asked : HostNote → Alone → Alone → Type 0
-Asked note before now = IsStep inputs.Out before now × (now.notes ≡ before.notes ++ note ∷ [])
+abbrev pub AskedForOutput : HostNote → Alone → Alone → Type 0
+AskedForOutput note before now = IsHostStep inputs.Out before now × (now.notes ≡ before.notes ++ note ∷ [])
 
 -- a message went out
 abbrev pub SentOne : Alone → Alone → Type 0
-SentOne before now = (message : List Bool) × Asked (notes.Out message) before now
+SentOne before now = (message : List Bool) × AskedForOutput (notes.Out message) before now
 
 -- a message went out, or no link was ready; or there was no memory, and nothing has happened; or it was done, and a
 -- write failed
 abbrev pub SendsNext : Alone → Result Bool PlayFault → Alone → Type 0
 SendsNext before (Ok true) now = SentOne before now
-SendsNext before (Ok false) now = Asked notes.Nothing before now
+SendsNext before (Ok false) now = AskedForOutput notes.Nothing before now
 SendsNext before (Err OutOfMemory) now = now ≡ before
-SendsNext before (Err WriteFailed) now = SentOne before now ⊎ Asked notes.Nothing before now
+SendsNext before (Err WriteFailed) now = SentOne before now ⊎ AskedForOutput notes.Nothing before now
 SendsNext before (Err (Feed fault)) now = ⊥
 SendsNext before (Err ReadFailed) now = ⊥
 SendsNext before (Err BadHosts) now = ⊥
@@ -108,7 +108,7 @@ SendsNext before (Err (LineTooLong line)) now = ⊥
 
 -- the host was asked for output, once for each of these notes
 abbrev pub AskedFor : List HostNote → Alone → Alone → Type 0
-AskedFor asked before now = AreSteps (replicate (length asked) inputs.Out) before now × (now.notes ≡ before.notes ++ asked)
+AskedFor asked before now = AreHostSteps (replicate (length asked) inputs.Out) before now × (now.notes ≡ before.notes ++ asked)
 
 -- these messages went out, and then no link was ready
 abbrev pub SentAll : Alone → Alone → Type 0
@@ -131,19 +131,19 @@ SendsFrom before (Err (LineTooLong line)) now = ⊥
 -- ---- what a note says
 
 -- whether it is of a message that went out
-abbrev pub is_out : HostNote → Bool
-is_out (notes.Out message) = true
-is_out (notes.Refused call fault) = false
-is_out (notes.Done call) = false
-is_out (notes.Took peer pair bytes text) = false
-is_out (notes.State peer pair r) = false
-is_out (notes.Phase peer flags) = false
-is_out (notes.Echoed peer byte) = false
-is_out (notes.Errors peer errors) = false
-is_out (notes.Counts peer counts) = false
-is_out (notes.Waiting peer place command) = false
-is_out (notes.Kept peer link message) = false
-is_out (notes.Ignored ignored) = false
-is_out notes.Nothing = false
-is_out (notes.In message received) = false
-is_out (notes.Answered peer link answer received) = false
+abbrev pub is_output_note : HostNote → Bool
+is_output_note (notes.Out message) = true
+is_output_note (notes.Refused call fault) = false
+is_output_note (notes.Done call) = false
+is_output_note (notes.Took peer pair bytes text) = false
+is_output_note (notes.State peer pair r) = false
+is_output_note (notes.Phase peer flags) = false
+is_output_note (notes.Echoed peer byte) = false
+is_output_note (notes.Errors peer errors) = false
+is_output_note (notes.Counts peer counts) = false
+is_output_note (notes.Waiting peer place command) = false
+is_output_note (notes.Kept peer link message) = false
+is_output_note (notes.Ignored ignored) = false
+is_output_note notes.Nothing = false
+is_output_note (notes.In message received) = false
+is_output_note (notes.Answered peer link answer received) = false

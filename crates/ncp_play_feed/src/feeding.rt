@@ -5,7 +5,7 @@ ghost use Rattle.ncp_play_page.specs.Outlets.{SameOutlet, written_by, write_fail
 ghost use Rattle.ncp_play_stream.specs.Pieces.{lost_pieces};
 ghost use Rattle.ncp_play_files.specs.Results.{is_read_failed as is_file_read_failed, is_write_failed as is_file_write_failed};
 ghost use Rattle.ncp_play_files.specs.Steps.{LetsOut};
-ghost use Rattle.ncp_play_notes.specs.Faults.{is_read_failed, is_write_failed};
+ghost use Rattle.ncp_play_notes.specs.Faults.{play_read_failed, play_write_failed};
 ghost use Rattle.ncp_play_notes.specs.Playing.{Tells, TellsAs};
 ghost use Rattle.ncp_play_notes.specs.declared.heading.Heading.{Heading as Beginning};
 ghost use Rattle.ncp_play_feed.specs.Feeds.{FeedDoes};
@@ -64,10 +64,10 @@ fn feed_file<S: BitStore, R: Source, W: Sink>(
     ensures told { (was : List ℕ) (first : Beginning)
         → Tells was first alone.old.notes heading.old out.old.page.now (written_by W.Sink out.old)
         → TellsAs was first alone.new.notes result heading.new out.new.page.now (written_by W.Sink out.new) }
-    ensures source_mark { read_failed R.Source input.new ≡ (read_failed R.Source input.old || is_read_failed result) }
-    ensures sink_mark { write_failed W.Sink out.new ≡ (write_failed W.Sink out.old || is_write_failed result) }
+    ensures source_mark { read_failed R.Source input.new ≡ (read_failed R.Source input.old || play_read_failed result) }
+    ensures sink_mark { write_failed W.Sink out.new ≡ (write_failed W.Sink out.old || play_write_failed result) }
     ensures reads { slack R.Source input.old ≤ slack R.Source input.new + 1 }
-    ensures writes { PaidBy R.Source W.Sink out.old input.old out.new input.new (λ _. lost_pieces (is_write_failed result) + LEAST_PIECE) }
+    ensures writes { PaidBy R.Source W.Sink out.old input.old out.new input.new (λ _. lost_pieces (play_write_failed result) + LEAST_PIECE) }
     ensures same_inlet { SameInlet input.old input.new }
     ensures same_outlet { SameOutlet out.old out.new }
 {
@@ -105,12 +105,12 @@ pub fn feed<S: BitStore, R: Source, W: Sink>(
         → TellsAs was first alone.new.notes result heading.new out.new.page.now (written_by W.Sink out.new) }
 
     // Reading and writing are blamed exactly where they failed.
-    ensures source_mark { read_failed R.Source input.new ≡ (read_failed R.Source input.old || is_read_failed result) }
-    ensures sink_mark { write_failed W.Sink out.new ≡ (write_failed W.Sink out.old || is_write_failed result) }
+    ensures source_mark { read_failed R.Source input.new ≡ (read_failed R.Source input.old || play_read_failed result) }
+    ensures sink_mark { write_failed W.Sink out.new ≡ (write_failed W.Sink out.old || play_write_failed result) }
 
     // Bytes are read, and lines written, in pieces; and lines once more for each read.
     ensures reads { slack R.Source input.old ≤ slack R.Source input.new + 1 }
-    ensures writes { PaidBy R.Source W.Sink out.old input.old out.new input.new (λ _. lost_pieces (is_write_failed result) + 2 * LEAST_PIECE) }
+    ensures writes { PaidBy R.Source W.Sink out.old input.old out.new input.new (λ _. lost_pieces (play_write_failed result) + 2 * LEAST_PIECE) }
     ensures same_inlet { SameInlet input.old input.new }
     ensures same_outlet { SameOutlet out.old out.new }
 {

@@ -3,11 +3,11 @@ ghost use Rattle.std.specs.Prelude.{◌≡◌, ℕ, ◌+◌, ◌<◌, ◌≤◌,
 ghost use Rattle.ncp_play_page.specs.Inlets.{SameInlet, left_in, reads_left, read_failed, slack, work, Brings, PaidBy};
 ghost use Rattle.ncp_play_page.specs.Outlets.{SameOutlet, written_by, write_failed, credit};
 ghost use Rattle.ncp_play_stream.specs.Pieces.{lost_pieces};
-ghost use Rattle.ncp_play_notes.specs.Faults.{is_read_failed, is_write_failed};
+ghost use Rattle.ncp_play_notes.specs.Faults.{play_read_failed, play_write_failed};
 ghost use Rattle.ncp_play_notes.specs.Playing.{Tells, TellsAs};
 ghost use Rattle.ncp_play_notes.specs.declared.heading.Heading.{Heading as Beginning};
 ghost use Rattle.ncp_play_files.specs.Waiting.{lacks_message};
-ghost use Rattle.ncp_play_feed.specs.Steps.{HearsNext, HearsOn, HearsFrom, unpaid_after};
+ghost use Rattle.ncp_play_feed.specs.Steps.{HearsNext, HearsOn, HearsFrom, unpaid_after_feeding};
 
 use ncp_bits::{BitStore, Bits};
 use ncp_play_files::{Direction, Version, let_out, read_record};
@@ -28,15 +28,15 @@ fn hear_next<S: BitStore, R: Source, W: Sink>(
     ensures told { (was : List ℕ) (first : Beginning)
         → Tells was first alone.old.notes heading.old out.old.page.now (written_by W.Sink out.old)
         → TellsAs was first alone.new.notes result heading.new out.new.page.now (written_by W.Sink out.new) }
-    ensures source_mark { read_failed R.Source input.new ≡ (read_failed R.Source input.old || is_read_failed result) }
-    ensures sink_mark { write_failed W.Sink out.new ≡ (write_failed W.Sink out.old || is_write_failed result) }
+    ensures source_mark { read_failed R.Source input.new ≡ (read_failed R.Source input.old || play_read_failed result) }
+    ensures sink_mark { write_failed W.Sink out.new ≡ (write_failed W.Sink out.old || play_write_failed result) }
     ensures reads { slack R.Source input.old ≤ slack R.Source input.new + 1 }
     ensures taken { IfOk result (λ more. more ≡ true → slack R.Source input.old ≤ slack R.Source input.new) }
     ensures effort { IfOk result (λ more. more ≡ true → work R.Source input.new < work R.Source input.old) }
     ensures lowers { reads_left R.Source input.new ≤ reads_left R.Source input.old }
     ensures waited { IfOk result (λ more. more ≡ true
         → lacks_message 0 input.old.window.now ≡ true → reads_left R.Source input.new < reads_left R.Source input.old) }
-    ensures writes { credit W.Sink out.old ≤ credit W.Sink out.new + lost_pieces (is_write_failed result) }
+    ensures writes { credit W.Sink out.old ≤ credit W.Sink out.new + lost_pieces (play_write_failed result) }
     ensures same_inlet { SameInlet input.old input.new }
     ensures same_outlet { SameOutlet out.old out.new }
 {
@@ -64,12 +64,12 @@ fn hear_on<S: BitStore, R: Source, W: Sink>(
     ensures told { (was : List ℕ) (first : Beginning)
         → Tells was first alone.old.notes heading.old out.old.page.now (written_by W.Sink out.old)
         → TellsAs was first alone.new.notes result heading.new out.new.page.now (written_by W.Sink out.new) }
-    ensures source_mark { read_failed R.Source input.new ≡ (read_failed R.Source input.old || is_read_failed result) }
-    ensures sink_mark { write_failed W.Sink out.new ≡ (write_failed W.Sink out.old || is_write_failed result) }
+    ensures source_mark { read_failed R.Source input.new ≡ (read_failed R.Source input.old || play_read_failed result) }
+    ensures sink_mark { write_failed W.Sink out.new ≡ (write_failed W.Sink out.old || play_write_failed result) }
     ensures reads { slack R.Source input.old ≤ slack R.Source input.new + 1 }
     ensures taken { IfOk result (λ more. more ≡ true → slack R.Source input.old ≤ slack R.Source input.new) }
     ensures effort { IfOk result (λ more. more ≡ true → work R.Source input.new < work R.Source input.old) }
-    ensures writes { PaidBy R.Source W.Sink out.old input.old out.new input.new (λ _. unpaid_after result) }
+    ensures writes { PaidBy R.Source W.Sink out.old input.old out.new input.new (λ _. unpaid_after_feeding result) }
     ensures same_inlet { SameInlet input.old input.new }
     ensures same_outlet { SameOutlet out.old out.new }
 {
@@ -95,10 +95,10 @@ pub(crate) fn hear_all<S: BitStore, R: Source, W: Sink>(
     ensures told { (was : List ℕ) (first : Beginning)
         → Tells was first alone.old.notes heading.old out.old.page.now (written_by W.Sink out.old)
         → TellsAs was first alone.new.notes result heading.new out.new.page.now (written_by W.Sink out.new) }
-    ensures source_mark { read_failed R.Source input.new ≡ (read_failed R.Source input.old || is_read_failed result) }
-    ensures sink_mark { write_failed W.Sink out.new ≡ (write_failed W.Sink out.old || is_write_failed result) }
+    ensures source_mark { read_failed R.Source input.new ≡ (read_failed R.Source input.old || play_read_failed result) }
+    ensures sink_mark { write_failed W.Sink out.new ≡ (write_failed W.Sink out.old || play_write_failed result) }
     ensures reads { slack R.Source input.old ≤ slack R.Source input.new + 1 }
-    ensures writes { PaidBy R.Source W.Sink out.old input.old out.new input.new (λ _. lost_pieces (is_write_failed result) + LEAST_PIECE) }
+    ensures writes { PaidBy R.Source W.Sink out.old input.old out.new input.new (λ _. lost_pieces (play_write_failed result) + LEAST_PIECE) }
     ensures same_inlet { SameInlet input.old input.new }
     ensures same_outlet { SameOutlet out.old out.new }
 {

@@ -3,9 +3,9 @@ ghost use Rattle.std.specs.Prelude.{◌≡◌, ◌↔◌, ℕ, List, [], ◌∷�
 ghost use Rattle.ncp_numbers.specs.Bytes.{bits_of_bytes};
 ghost use Rattle.ncp_play_files.specs.declared.file.FileFault.{FileFault as Fault};
 ghost use Rattle.ncp_play_files.specs.declared.file.FileFault.TheVariants.{BadHeader, Truncated};
-ghost use Rattle.ncp_play_files.specs.File.{Holds};
+ghost use Rattle.ncp_play_files.specs.File.{HoldsMessages};
 ghost use Rattle.ncp_play_feed.specs.Feeds.{FeedHolds};
-ghost use Rattle.ncp_play_feed.specs.Examples.{first_feed, rst, stray};
+ghost use Rattle.ncp_play_feed.specs.Examples.{first_feed, rst_message, rfnm_from_2};
 
 /// Bytes are a feed in exactly one way: these messages, and then its end or this fault.
 pub fn feeds_have_one_reading()
@@ -18,7 +18,7 @@ pub fn feeds_have_one_reading()
 /// IMP has a bad header, and so has one that ends inside of it.
 pub fn feeds_are_files_from_an_imp()
     ensures from_imp { (bytes : List ℕ) (messages : List (List Bool)) (fault : Option Fault)
-        → FeedHolds (codes "NCPI" ++ bytes) messages fault ↔ Holds bytes messages fault }
+        → FeedHolds (codes "NCPI" ++ bytes) messages fault ↔ HoldsMessages bytes messages fault }
     ensures to_imp { (bytes : List ℕ) → FeedHolds (codes "NCPH" ++ bytes) [] (Some BadHeader) }
     ensures short { FeedHolds (codes "NCP") [] (Some BadHeader) }
 {}
@@ -26,6 +26,6 @@ pub fn feeds_are_files_from_an_imp()
 /// The worked feed: RST from host 2, and an RFNM to no message. With a byte more it is cut off behind
 /// both messages.
 pub fn worked_feed()
-    ensures whole { FeedHolds first_feed (rst ∷ stray ∷ []) None }
-    ensures cut { FeedHolds (first_feed ++ 0 ∷ []) (rst ∷ stray ∷ []) (Some Truncated) }
+    ensures whole { FeedHolds first_feed (rst_message ∷ rfnm_from_2 ∷ []) None }
+    ensures cut { FeedHolds (first_feed ++ 0 ∷ []) (rst_message ∷ rfnm_from_2 ∷ []) (Some Truncated) }
 {}

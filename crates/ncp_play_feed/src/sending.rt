@@ -3,10 +3,10 @@ ghost use Rattle.std.specs.Prelude.{◌≡◌, ℕ, ◌+◌, ◌<◌, ◌≤◌,
 ghost use Rattle.ncp_play_page.specs.Outlets.{SameOutlet, written_by, write_failed, credit};
 ghost use Rattle.ncp_play_stream.specs.Pieces.{lost_pieces};
 ghost use Rattle.ncp_transcript.specs.declared.note.HostNote.{HostNote as Note};
-ghost use Rattle.ncp_play_notes.specs.Faults.{is_write_failed};
+ghost use Rattle.ncp_play_notes.specs.Faults.{play_write_failed};
 ghost use Rattle.ncp_play_notes.specs.Playing.{Tells, TellsAs};
 ghost use Rattle.ncp_play_notes.specs.declared.heading.Heading.{Heading as Beginning};
-ghost use Rattle.ncp_play_feed.specs.Steps.{SendsNext, SendsFrom, is_out};
+ghost use Rattle.ncp_play_feed.specs.Steps.{SendsNext, SendsFrom, is_output_note};
 ghost use Rattle.ncp_play_feed.specs.Going.{open_links};
 
 use ncp_bits::BitStore;
@@ -17,7 +17,7 @@ use ncp_transcript::{Alone, HostNote, Input};
 
 // Whether a note is of a message that went out.
 fn is_out(note: &HostNote) -> bool
-    ensures { result ≡ is_out note.now }
+    ensures { result ≡ is_output_note note.now }
 {
     matches!(note, HostNote::Out { .. })
 }
@@ -34,8 +34,8 @@ fn send_next<S: BitStore, W: Sink>(
         → Tells was first alone.old.notes heading.old out.old.page.now (written_by W.Sink out.old)
         → TellsAs was first alone.new.notes result heading.new out.new.page.now (written_by W.Sink out.new) }
     ensures fewer { IfOk result (λ more. more ≡ true → open_links alone.new.host < open_links alone.old.host) }
-    ensures sink_mark { write_failed W.Sink out.new ≡ (write_failed W.Sink out.old || is_write_failed result) }
-    ensures writes { credit W.Sink out.old ≤ credit W.Sink out.new + lost_pieces (is_write_failed result) }
+    ensures sink_mark { write_failed W.Sink out.new ≡ (write_failed W.Sink out.old || play_write_failed result) }
+    ensures writes { credit W.Sink out.old ≤ credit W.Sink out.new + lost_pieces (play_write_failed result) }
     ensures same_outlet { SameOutlet out.old out.new }
 {
     play_input(alone, &Input::Out, heading, out)?;
@@ -54,8 +54,8 @@ pub(crate) fn send_all<S: BitStore, W: Sink>(
     ensures told { (was : List ℕ) (first : Beginning)
         → Tells was first alone.old.notes heading.old out.old.page.now (written_by W.Sink out.old)
         → TellsAs was first alone.new.notes result heading.new out.new.page.now (written_by W.Sink out.new) }
-    ensures sink_mark { write_failed W.Sink out.new ≡ (write_failed W.Sink out.old || is_write_failed result) }
-    ensures writes { credit W.Sink out.old ≤ credit W.Sink out.new + lost_pieces (is_write_failed result) }
+    ensures sink_mark { write_failed W.Sink out.new ≡ (write_failed W.Sink out.old || play_write_failed result) }
+    ensures writes { credit W.Sink out.old ≤ credit W.Sink out.new + lost_pieces (play_write_failed result) }
     ensures same_outlet { SameOutlet out.old out.new }
 {
     while send_next(alone, heading, out)? {}

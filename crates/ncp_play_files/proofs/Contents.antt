@@ -12,7 +12,7 @@ use Rattle.ncp_bits.specs.declared.bits.BitsFault.TheVariants as bits
 use Rattle.ncp_bits.proofs.Enough.{read_bytes-append}
 use Rattle.ncp_bits.proofs.Joins.{length-bytes_of, read_bytes-bytes_of}
 use Rattle.ncp_play_files.specs.declared.file.FileFault.{FileFault}
-use Rattle.ncp_play_files.specs.File.{next_record, record_of, ending, HoldsBy, Holds, record_bytes}
+use Rattle.ncp_play_files.specs.File.{next_record, next_of_record, ending, HoldsBy, HoldsMessages, record_bytes}
 use Rattle.ncp_play_files.specs.Steps.{Reader}
 use Rattle.ncp_play_files.proofs.Files.{next_read, next_whole, behind_record}
 
@@ -31,7 +31,7 @@ not_short false true d x m h = let e : ⊥ = cc in absurd e
 pub read_fits : (bytes : List ℕ) (len : ℕ) (message : List Bool) → read_bytes bytes len ≡ Ok message → bytes_for len ≤ length bytes
 read_fits bytes len message h = ltb-false _ _ (not_short (ltb 8192 len) (ltb (length bytes) (bytes_for len)) _ _ message h)
 
-pub record_read : (len : ℕ) (bytes rest : List ℕ) (message : List Bool) (r : Result (List Bool) BitsFault) → record_of len bytes r ≡ Ok (Some (message, rest)) → (r ≡ Ok message) × (rest ≡ drop (bytes_for len) bytes)
+pub record_read : (len : ℕ) (bytes rest : List ℕ) (message : List Bool) (r : Result (List Bool) BitsFault) → next_of_record len bytes r ≡ Ok (Some (message, rest)) → (r ≡ Ok message) × (rest ≡ drop (bytes_for len) bytes)
 record_read len bytes rest message (Ok m) h =
     let pair : ◌≡◌ {A = List Bool × List ℕ} (m, drop (bytes_for len) bytes) (message, rest) = cc in
     (ap (λ p. Ok p.0) pair, sym (ap (λ p. p.1) pair))
@@ -56,7 +56,7 @@ next_record-front bytes rest message h =
       front,
       whole,
       (λ tail.
-          next_whole front tail len (omega arith) number (omega arith) ∙ ap (record_of len (drop 2 (front ++ tail))) again.0
+          next_whole front tail len (omega arith) number (omega arith) ∙ ap (next_of_record len (drop 2 (front ++ tail))) again.0
           ∙ ap (λ xs. Ok (Some (message, xs))) (behind_record front tail len (omega arith) ∙ ap (λ xs. xs ++ tail) (drop_of_length-le front (omega arith)))),
       omega arith,
     )
@@ -99,7 +99,7 @@ module _ {X : Type 0} (next : Reader X) (front : IsFront next) where
       let f = front given h.0 first h.1 in
       (longer.0, longer.1, (h.0 ++ rest, ap (λ xs. next (xs ++ rest)) f.1 ∙ ap next (append_assoc f.0 h.0 rest) ∙ f.2 (h.0 ++ rest), longer.2))
 
-pub holds_some : (bytes : List ℕ) → (messages : List (List Bool)) × (fault : Option FileFault) × Holds bytes messages fault
+pub holds_some : (bytes : List ℕ) → (messages : List (List Bool)) × (fault : Option FileFault) × HoldsMessages bytes messages fault
 holds_some bytes = by_some next_record record_front bytes
 
 -- ---- one reading
@@ -132,7 +132,7 @@ module _ {X : Type 0} (next : Reader X) where
       let rest = by_once h.0 records others fault other h.2 (subst (λ xs. HoldsBy next xs others other) (sym same.1) k.2) in
       (ap (λ m. m ∷ records) same.0 ∙ ap (λ ms. second ∷ ms) rest.0, rest.1)
 
-pub holds_once : (bytes : List ℕ) (messages others : List (List Bool)) (fault other : Option FileFault) → Holds bytes messages fault → Holds bytes others other → (messages ≡ others) × (fault ≡ other)
+pub holds_once : (bytes : List ℕ) (messages others : List (List Bool)) (fault other : Option FileFault) → HoldsMessages bytes messages fault → HoldsMessages bytes others other → (messages ≡ others) × (fault ≡ other)
 holds_once bytes messages others fault other h k = by_once next_record bytes messages others fault other h k
 
 -- ---- written files
@@ -149,7 +149,7 @@ next_record-written message rest h =
     let number : big_number 2 bytes ≡ len = ap (big_number 2) (append_assoc (big_bytes 2 len) (bytes_of message) rest) ∙ big_number-reads_back 2 len (bytes_of message ++ rest) (omega arith) in
     let behind : drop 2 bytes ≡ bytes_of message ++ rest = ap (drop 2) (append_assoc (big_bytes 2 len) (bytes_of message) rest) ∙ drop_at (big_bytes 2 len) (bytes_of message ++ rest) 2 refl in
     next_read bytes (omega (arith, length-record message rest))
-    ∙ ap (λ n. record_of n (drop 2 bytes) (read_bytes (drop 2 bytes) n)) number
-    ∙ ap (λ xs. record_of len xs (read_bytes xs len)) behind
-    ∙ ap (record_of len (bytes_of message ++ rest)) (read_bytes-append (bytes_of message) rest len long ∙ read_bytes-bytes_of message h)
+    ∙ ap (λ n. next_of_record n (drop 2 bytes) (read_bytes (drop 2 bytes) n)) number
+    ∙ ap (λ xs. next_of_record len xs (read_bytes xs len)) behind
+    ∙ ap (next_of_record len (bytes_of message ++ rest)) (read_bytes-append (bytes_of message) rest len long ∙ read_bytes-bytes_of message h)
     ∙ ap (λ xs. Ok (Some (message, xs))) (drop_at (bytes_of message) rest (bytes_for len) long)

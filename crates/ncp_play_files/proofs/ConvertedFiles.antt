@@ -8,9 +8,9 @@ use Rattle.ncp_play_files.specs.declared.version.Version.{Version}
 use Rattle.ncp_play_files.specs.declared.version.Version.TheVariants.{One, Two}
 use Rattle.ncp_play_files.specs.declared.version.Passage.{Passage}
 use Rattle.ncp_play_files.specs.File.{version_of, HoldsBy}
-use Rattle.ncp_play_files.specs.Versions.{header_of, bytes_at}
-use Rattle.ncp_play_files.specs.Converted.{direction_behind, other_version, passage_in, next_at, HoldsAt, all_at, file_to, converted, ConvertedAs, ConvertedCut}
-use Rattle.ncp_play_files.specs.Steps.{ReadsVersion, SaysFile, Says}
+use Rattle.ncp_play_files.specs.Versions.{header_of, bytes_with_passage}
+use Rattle.ncp_play_files.specs.Converted.{direction_behind, other_version, passage_in, next_at, HoldsAt, bytes_of_all_at, file_to, converted, ConvertedAs, ConvertedCut}
+use Rattle.ncp_play_files.specs.Steps.{ReadsVersion, SaysFile, SaysOfFile}
 use Rattle.ncp_play_files.specs.Turning.{FindsDirection, SaysMessages, SaysTurned}
 use Rattle.ncp_play_stream.specs.Streams.{SaidSoFar}
 use Rattle.ncp_play_files.proofs.Files.{version_of-short}
@@ -23,7 +23,7 @@ module _ (host : ℕ) where
   -- ---- a header that was not read
 
   pub turns_nothing : (bytes was window page : List ℕ) (left written : Option (List ℕ)) (fault : FileFault) → ReadsVersion bytes (Err fault) window left → SaidSoFar was page written []
-      → Says (ConvertedAs host) (ConvertedCut host) bytes was (Err fault) left page written
+      → SaysOfFile (ConvertedAs host) (ConvertedCut host) bytes was (Err fault) left page written
   turns_nothing bytes was window page left written BadHeader h k = ([], (let e : version_of bytes ≡ None = h.1 in rw e (refl, refl)), k)
   turns_nothing bytes was window page left written Truncated h k = let e : ⊥ = cc (h.0) in absurd e
   turns_nothing bytes was window page left written TooLong h k = let e : ⊥ = cc (h.0) in absurd e
@@ -41,7 +41,7 @@ module _ (host : ℕ) where
   nothing_at version passage body e = ap (next_at version passage) e ∙ ends_at passage None _ (ends_nowhere version)
 
   pub turns_no_more : (bytes was window page : List ℕ) (left written : Option (List ℕ)) (version : Version) (fault : FileFault) → version_of bytes ≡ Some version → FindsDirection version (drop 4 bytes) (Err fault) window left
-      → SaidSoFar was page written [] → Says (ConvertedAs host) (ConvertedCut host) bytes was (Err fault) left page written
+      → SaidSoFar was page written [] → SaysOfFile (ConvertedAs host) (ConvertedCut host) bytes was (Err fault) left page written
   turns_no_more bytes was window page left written version BadHeader h d k = absurd d
   turns_no_more bytes was window page left written version Truncated h d k = absurd d
   turns_no_more bytes was window page left written version TooLong h d k = absurd d
@@ -82,7 +82,7 @@ module _ (host : ℕ) where
     pub file_turned : (r : Result Unit FileFault) (left : Option (List ℕ)) (page : List ℕ) (written : Option (List ℕ))
         → (let direction = direction_behind version (drop 4 bytes) in let to = other_version version direction in
         SaysTurned to (passage_in to direction host) (next_at version (passage_in version direction host)) (drop 4 bytes) was r left page written)
-        → Says (ConvertedAs host) (ConvertedCut host) bytes was r left page written
+        → SaysOfFile (ConvertedAs host) (ConvertedCut host) bytes was r left page written
     file_turned (Ok done) left page written k = all page written None k
     file_turned (Err BadHeader) left page written k = all page written _ k
     file_turned (Err Truncated) left page written k = all page written _ k
@@ -119,8 +119,8 @@ module _ (host : ℕ) where
   file_longer : (to : Version) (passage : Passage) (messages more : List (List Bool)) (last : Option FileFault) → (rest : List ℕ) × (file_to to passage messages (Some ReadFailed) ++ rest ≡ file_to to passage (messages ++ more) last)
   file_longer to passage [] more last = (file_to to passage more last, refl)
   file_longer to passage (message ∷ messages) more last = (
-    all_at passage more,
-    append_assoc (header_of to) (all_at passage (message ∷ messages)) (all_at passage more) ∙ ap (λ xs. header_of to ++ xs) (sym (flat_map-append (bytes_at passage) (message ∷ messages) more)),
+    bytes_of_all_at passage more,
+    append_assoc (header_of to) (bytes_of_all_at passage (message ∷ messages)) (bytes_of_all_at passage more) ∙ ap (λ xs. header_of to ++ xs) (sym (flat_map-append (bytes_with_passage passage) (message ∷ messages) more)),
   )
 
   body_longer : (version : Version) (body rest : List ℕ) (messages : List (List Bool)) (fault : Option FileFault) → HoldsAt version host body messages fault

@@ -16,7 +16,7 @@ use Rattle.ncp_play_files.specs.File.{version_of, HoldsBy}
 use Rattle.ncp_play_files.specs.Versions.{Recorded, next_in}
 use Rattle.ncp_play_files.specs.Steps.{ReadsVersion, Stops}
 use Rattle.ncp_play_files.specs.Checked.{verdict_of_message, verdict_behind, capped, count_of, verdict_of_record, is_short, is_of_type_0, is_faulty, is_bad, tally_of}
-use Rattle.ncp_play_files.specs.Tallies.{one_more, tally_with, tally_from, TalliesFrom, no_messages, TalliesFile}
+use Rattle.ncp_play_files.specs.Tallies.{one_more_where, tally_with, tally_from, TalliesFrom, no_messages, TalliesFile}
 use Rattle.ncp_play_files.proofs.Files.{version_of-short}
 use Rattle.ncp_play_files.proofs.Placing.{in_front}
 use Rattle.ncp_play_files.proofs.Progress.{behind_version, inside_cut}
@@ -34,18 +34,18 @@ other_judged message leader h = let other : eqb leader.kind 0 ≡ false = ne_eqb
 -- what a count becomes over records
 abbrev count_from : (Verdict → Bool) → ℕ → List Recorded → ℕ
 count_from test number [] = number
-count_from test number (found ∷ records) = count_from test (one_more (test (verdict_of_record found)) number) records
+count_from test number (found ∷ records) = count_from test (one_more_where (test (verdict_of_record found)) number) records
 
 -- how many records pass
 abbrev passing : (Recorded → Bool) → List Recorded → ℕ
 passing test [] = 0
 passing test (found ∷ records) = cond (test found) (1 + passing test records) (passing test records)
 
-capped_more : (b : Bool) (number n : ℕ) → capped (one_more b number + n) ≡ capped (number + cond b (1 + n) n)
+capped_more : (b : Bool) (number n : ℕ) → capped (one_more_where b number + n) ≡ capped (number + cond b (1 + n) n)
 capped_more true number n = omega arith
 capped_more false number n = refl
 
-stays_capped : (b : Bool) (number : ℕ) → number ≤ 4294967295 → one_more b number ≤ 4294967295
+stays_capped : (b : Bool) (number : ℕ) → number ≤ 4294967295 → one_more_where b number ≤ 4294967295
 stays_capped true number h = omega arith
 stays_capped false number h = h
 
@@ -53,7 +53,7 @@ count_from_is : (test : Verdict → Bool) (number : ℕ) (records : List Recorde
 count_from_is test number [] h = omega arith
 count_from_is test number (found ∷ records) h =
     let b = test (verdict_of_record found) in
-    count_from_is test (one_more b number) records (stays_capped b number h) ∙ capped_more b number (passing (λ found. test (verdict_of_record found)) records)
+    count_from_is test (one_more_where b number) records (stays_capped b number h) ∙ capped_more b number (passing (λ found. test (verdict_of_record found)) records)
 
 passing_all : (records : List Recorded) → passing (λ found. true) records ≡ length records
 passing_all [] = refl

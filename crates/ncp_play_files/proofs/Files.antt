@@ -14,7 +14,7 @@ use Rattle.ncp_bits.specs.declared.bits.BitsFault.TheVariants as bits
 use Rattle.ncp_bits.proofs.Enough.{read_bytes-append}
 use Rattle.ncp_play_files.specs.declared.file.FileFault.{FileFault}
 use Rattle.ncp_play_files.specs.declared.file.FileFault.TheVariants.{BadHeader, Truncated, TooLong, SpareNotZero, ReadFailed, WriteFailed, BadDirection, Mixed}
-use Rattle.ncp_play_files.specs.File.{version_of, one_direction, direction_of, next_record, record_of, fault_of_bits}
+use Rattle.ncp_play_files.specs.File.{version_of, one_direction, direction_of, next_record, next_of_record, fault_of_bits}
 use Rattle.ncp_play_page.specs.Windows.{effort}
 use Rattle.ncp_play_stream.specs.Streams.{Ahead}
 use Rattle.ncp_play_files.specs.Steps.{CutOff, StandsWhole, HasFaultInFront, ReadsRecord}
@@ -62,7 +62,7 @@ version_of-append bytes rest h = rw (take-append-le 4 bytes rest h) refl
 -- ---- records
 
 -- a record's bytes are read behind its length
-pub next_read : (bytes : List ℕ) → 2 ≤ length bytes → next_record bytes ≡ record_of (big_number 2 bytes) (drop 2 bytes) (read_bytes (drop 2 bytes) (big_number 2 bytes))
+pub next_read : (bytes : List ℕ) → 2 ≤ length bytes → next_record bytes ≡ next_of_record (big_number 2 bytes) (drop 2 bytes) (read_bytes (drop 2 bytes) (big_number 2 bytes))
 next_read bytes h =
     let none : eqb (length bytes) 0 ≡ false = ne_eqb _ 0 (λ z. omega arith) in
     let short : ltb (length bytes) 2 ≡ false = le-ltb _ _ h in
@@ -90,7 +90,7 @@ next_short bytes len h e small k =
 
 -- the first bytes of a record, and what stands behind them
 pub next_whole : (bytes rest : List ℕ) (len : ℕ) → 2 ≤ length bytes → len ≡ big_number 2 bytes → 2 + bytes_for len ≤ length bytes
-    → next_record (bytes ++ rest) ≡ record_of len (drop 2 (bytes ++ rest)) (read_bytes (slice_range bytes 2 (2 + bytes_for len)) len)
+    → next_record (bytes ++ rest) ≡ next_of_record len (drop 2 (bytes ++ rest)) (read_bytes (slice_range bytes 2 (2 + bytes_for len)) len)
 next_whole bytes rest len h e k =
     let used = bytes_for len in
     let front : length (take used (drop 2 bytes)) ≡ used = length-take-le used (drop 2 bytes) (simp length-drop (omega arith)) in
@@ -99,9 +99,9 @@ next_whole bytes rest len h e k =
     drop-append-le 2 bytes rest h ∙ ap (λ xs. xs ++ rest) (sym (take-append-drop used (drop 2 bytes))) ∙ append_assoc (take used (drop 2 bytes)) (drop used (drop 2 bytes)) rest in
     let range : slice_range bytes 2 (2 + used) ≡ take used (drop 2 bytes) = ap (λ n. take n (drop 2 bytes)) (omega arith) in
     next_read (bytes ++ rest) (simp length-append (omega arith))
-    ∙ ap (λ n. record_of n (drop 2 (bytes ++ rest)) (read_bytes (drop 2 (bytes ++ rest)) n)) number
-    ∙ ap (λ xs. record_of len (drop 2 (bytes ++ rest)) (read_bytes xs len)) behind
-    ∙ ap (record_of len (drop 2 (bytes ++ rest))) (read_bytes-append (take used (drop 2 bytes)) (drop used (drop 2 bytes) ++ rest) len front ∙ ap (λ xs. read_bytes xs len) (sym range))
+    ∙ ap (λ n. next_of_record n (drop 2 (bytes ++ rest)) (read_bytes (drop 2 (bytes ++ rest)) n)) number
+    ∙ ap (λ xs. next_of_record len (drop 2 (bytes ++ rest)) (read_bytes xs len)) behind
+    ∙ ap (next_of_record len (drop 2 (bytes ++ rest))) (read_bytes-append (take used (drop 2 bytes)) (drop used (drop 2 bytes) ++ rest) len front ∙ ap (λ xs. read_bytes xs len) (sym range))
 
 -- what a record that was read leaves
 pub behind_record : (bytes rest : List ℕ) (len : ℕ) → 2 + bytes_for len ≤ length bytes → drop (bytes_for len) (drop 2 (bytes ++ rest)) ≡ drop (2 + bytes_for len) bytes ++ rest
@@ -124,11 +124,11 @@ number_grows was more now e h = ap (big_number 2) e ∙ big_from-append 2 was mo
 
 -- a record that stands in a window is the next one, as its message's bytes are read
 pub record_told : (window piece bytes : List ℕ) (left : Option (List ℕ)) (len : ℕ) (read : Result (List Bool) BitsFault) → StandsWhole window len → Ahead window left bytes → piece ≡ slice_range window 2 (2 + bytes_for len)
-    → read ≡ read_bytes piece len → next_record bytes ≡ record_of len (drop 2 bytes) read
+    → read ≡ read_bytes piece len → next_record bytes ≡ next_of_record len (drop 2 bytes) read
 record_told window piece bytes left len read h a p r =
     ap next_record (sym a.2) ∙ next_whole window a.0 len (omega (arith, h.inside)) h.number h.inside
-    ∙ ap (λ xs. record_of len (drop 2 xs) (read_bytes (slice_range window 2 (2 + bytes_for len)) len)) a.2
-    ∙ ap (record_of len (drop 2 bytes)) (sym (r ∙ ap (λ xs. read_bytes xs len) p))
+    ∙ ap (λ xs. next_of_record len (drop 2 xs) (read_bytes (slice_range window 2 (2 + bytes_for len)) len)) a.2
+    ∙ ap (next_of_record len (drop 2 bytes)) (sym (r ∙ ap (λ xs. read_bytes xs len) p))
 
 -- and what stands behind it
 pub record_behind : (window skipped bytes : List ℕ) (left : Option (List ℕ)) (len : ℕ) → StandsWhole window len → skipped ≡ drop (2 + bytes_for len) window → Ahead window left bytes → Ahead skipped left (drop (bytes_for len) (drop 2 bytes))

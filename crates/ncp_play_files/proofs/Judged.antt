@@ -8,7 +8,7 @@ use Rattle.ncp_play_files.specs.declared.version.Version.TheVariants.{Two}
 use Rattle.ncp_play_files.specs.declared.version.Passage.{Passage}
 use Rattle.ncp_play_files.specs.File.{Next, next_record}
 use Rattle.ncp_play_files.specs.Versions.{placed, recorded, passage_toward, behind_passage, next_in}
-use Rattle.ncp_play_files.specs.Reasons.{first_of, reasons_at, names_none, placed_reasons_at}
+use Rattle.ncp_play_files.specs.Reasons.{first_fault_of, reasons_at, names_none, placed_reasons_at}
 use Rattle.ncp_play_files.proofs.Files.{next_none}
 use Rattle.ncp_play_files.proofs.Written.{record_ends, record_judged}
 
@@ -22,8 +22,8 @@ begins : (byte : ℕ) (rest : List ℕ) → next_record (byte ∷ rest) ≡ Ok N
 begins byte rest h = let e : byte ∷ rest ≡ [] = (record_ends (byte ∷ rest)).0 h in cc
 
 -- behind a passage a message has to stand
-message_judged : (passage : Passage) (bytes : List ℕ) (fault : FileFault) → (recorded passage (Err Truncated) (next_record bytes) ≡ Err fault) ↔ (first_of (reasons_at bytes) ≡ Some fault)
-message_judged passage [] fault = subst (λ next. (recorded passage (Err Truncated) next ≡ Err fault) ↔ (first_of (reasons_at []) ≡ Some fault)) (sym (next_none [] refl)) (λ h. cc, λ h. cc)
+message_judged : (passage : Passage) (bytes : List ℕ) (fault : FileFault) → (recorded passage (Err Truncated) (next_record bytes) ≡ Err fault) ↔ (first_fault_of (reasons_at bytes) ≡ Some fault)
+message_judged passage [] fault = subst (λ next. (recorded passage (Err Truncated) next ≡ Err fault) ↔ (first_fault_of (reasons_at []) ≡ Some fault)) (sym (next_none [] refl)) (λ h. cc, λ h. cc)
 message_judged passage (byte ∷ rest) fault =
     let same = passed passage (next_record (byte ∷ rest)) fault (begins byte rest) in
     let judged = record_judged (byte ∷ rest) fault (omega arith) in
@@ -31,21 +31,21 @@ message_judged passage (byte ∷ rest) fault =
 
 -- a direction alone
 direction_judged : (b c : Bool) (fault : FileFault)
-    → (behind_passage (passage_toward (cond b (Some ToImp) (cond c (Some FromImp) None)) []) ≡ Err fault) ↔ (first_of ((BadDirection, not (b || c)) ∷ (Truncated, true) ∷ reasons_at []) ≡ Some fault)
+    → (behind_passage (passage_toward (cond b (Some ToImp) (cond c (Some FromImp) None)) []) ≡ Err fault) ↔ (first_fault_of ((BadDirection, not (b || c)) ∷ (Truncated, true) ∷ reasons_at []) ≡ Some fault)
 direction_judged true c fault = (λ h. cc, λ h. cc)
 direction_judged false true fault = (λ h. cc, λ h. cc)
 direction_judged false false fault = (λ h. cc, λ h. cc)
 
 -- a direction and a host
 placed_judged : (b c : Bool) (host : ℕ) (bytes : List ℕ) (fault : FileFault)
-    → (behind_passage (passage_toward (cond b (Some ToImp) (cond c (Some FromImp) None)) (host ∷ bytes)) ≡ Err fault) ↔ (first_of ((BadDirection, not (b || c)) ∷ (Truncated, false) ∷ reasons_at bytes) ≡ Some fault)
+    → (behind_passage (passage_toward (cond b (Some ToImp) (cond c (Some FromImp) None)) (host ∷ bytes)) ≡ Err fault) ↔ (first_fault_of ((BadDirection, not (b || c)) ∷ (Truncated, false) ∷ reasons_at bytes) ≡ Some fault)
 placed_judged true c host bytes fault = message_judged (placed ToImp host) bytes fault
 placed_judged false true host bytes fault = message_judged (placed FromImp host) bytes fault
 placed_judged false false host bytes fault = (λ h. cc, λ h. cc)
 
-pub record_at_judged : (bytes : List ℕ) (fault : FileFault) → 0 < length bytes → (next_in Two bytes ≡ Err fault) ↔ (first_of (placed_reasons_at bytes) ≡ Some fault)
+pub record_at_judged : (bytes : List ℕ) (fault : FileFault) → 0 < length bytes → (next_in Two bytes ≡ Err fault) ↔ (first_fault_of (placed_reasons_at bytes) ≡ Some fault)
 record_at_judged [] fault h = absurd (omega arith)
 record_at_judged (byte ∷ []) fault h = direction_judged (eqb byte 72) (eqb byte 73) fault
 record_at_judged (byte ∷ host ∷ bytes) fault h =
-    subst (λ short. (next_in Two (byte ∷ host ∷ bytes) ≡ Err fault) ↔ (first_of ((BadDirection, names_none (byte ∷ host ∷ bytes)) ∷ (Truncated, short) ∷ reasons_at bytes) ≡ Some fault))
+    subst (λ short. (next_in Two (byte ∷ host ∷ bytes) ≡ Err fault) ↔ (first_fault_of ((BadDirection, names_none (byte ∷ host ∷ bytes)) ∷ (Truncated, short) ∷ reasons_at bytes) ≡ Some fault))
     (sym (le-ltb (length (byte ∷ host ∷ bytes)) 2 (omega arith))) (placed_judged (eqb byte 72) (eqb byte 73) host bytes fault)

@@ -8,7 +8,7 @@ use Rattle.ncp_play_files.specs.declared.version.Version.{Version}
 use Rattle.ncp_play_files.specs.declared.version.Version.TheVariants.{One, Two}
 use Rattle.ncp_play_files.specs.declared.version.Passage.{Passage}
 use Rattle.ncp_play_files.specs.File.{Next, next_record, ending, one_direction}
-use Rattle.ncp_play_files.specs.Versions.{Recorded, NextRecorded, plain, placed, recorded, direction_by, passage_toward, next_passage, behind_passage, next_in}
+use Rattle.ncp_play_files.specs.Versions.{Recorded, NextRecorded, passage_without_host, placed, recorded, direction_by, passage_toward, next_passage, behind_passage, next_in}
 use Rattle.ncp_play_files.specs.Steps.{IsInside, ReadsHeader, ReadsVersion, FindsRecord, HasFaultInFront, Stops}
 use Rattle.ncp_play_files.proofs.Contents.{IsFront, next_record-front}
 
@@ -50,9 +50,9 @@ behind_some (Err fault) found rest h = let e : ⊥ = cc in absurd e
 -- a record of either version is its own bytes, whatever follows
 pub in_front : (version : Version) → IsFront (next_in version)
 in_front (One direction) bytes rest found h =
-    let one = recorded_some (plain direction) (Ok None) (next_record bytes) found rest (not_ended found rest) h in
+    let one = recorded_some (passage_without_host direction) (Ok None) (next_record bytes) found rest (not_ended found rest) h in
     let front = next_record-front bytes rest one.0 one.1 in
-    (front.0, front.1, λ tail. ap (recorded (plain direction) (Ok None)) (front.2 tail) ∙ ap (λ f. Ok (Some (f, tail))) one.2, omega (arith, front.3))
+    (front.0, front.1, λ tail. ap (recorded (passage_without_host direction) (Ok None)) (front.2 tail) ∙ ap (λ f. Ok (Some (f, tail))) one.2, omega (arith, front.3))
 in_front Two bytes rest found h =
     let two = behind_some (next_passage bytes) found rest h in
     let passed = passage_front bytes two.1 two.0 two.2 in
@@ -102,13 +102,13 @@ ends_one passage (Some fault) r h = ap (recorded passage (Ok None)) h
 
 -- in version 1
 pub one_stops : (direction : Direction) (bytes window : List ℕ) (left : Option (List ℕ)) (fault : FileFault) → FindsRecord bytes (Err fault) window left → Stops (next_in (One direction)) bytes left fault
-one_stops direction bytes window left BadHeader h = ap (recorded (plain direction) (Ok None)) h
-one_stops direction bytes window left Truncated h = ap (recorded (plain direction) (Ok None)) h
-one_stops direction bytes window left TooLong h = ap (recorded (plain direction) (Ok None)) h
-one_stops direction bytes window left SpareNotZero h = ap (recorded (plain direction) (Ok None)) h
-one_stops direction bytes window left BadDirection h = ap (recorded (plain direction) (Ok None)) h
-one_stops direction bytes window left Mixed h = ap (recorded (plain direction) (Ok None)) h
-one_stops direction bytes window left ReadFailed h = (window, h.3.0, h.0, sym h.3.2, h.3.1, h.1, ends_one (plain direction) h.0 (next_record window) h.2)
+one_stops direction bytes window left BadHeader h = ap (recorded (passage_without_host direction) (Ok None)) h
+one_stops direction bytes window left Truncated h = ap (recorded (passage_without_host direction) (Ok None)) h
+one_stops direction bytes window left TooLong h = ap (recorded (passage_without_host direction) (Ok None)) h
+one_stops direction bytes window left SpareNotZero h = ap (recorded (passage_without_host direction) (Ok None)) h
+one_stops direction bytes window left BadDirection h = ap (recorded (passage_without_host direction) (Ok None)) h
+one_stops direction bytes window left Mixed h = ap (recorded (passage_without_host direction) (Ok None)) h
+one_stops direction bytes window left ReadFailed h = (window, h.3.0, h.0, sym h.3.2, h.3.1, h.1, ends_one (passage_without_host direction) h.0 (next_record window) h.2)
 one_stops direction bytes window left WriteFailed h = absurd h
 
 ends_behind : (fault : Option FileFault) (r : Result (Option (Passage × List ℕ)) FileFault) → r ≡ ending fault → behind_passage r ≡ ending fault

@@ -7,17 +7,17 @@ use Rattle.ncp_play_files.specs.declared.file.FileFault.TheVariants.{BadHeader, 
 use Rattle.ncp_play_files.specs.declared.version.Version.{Version}
 use Rattle.ncp_play_files.specs.File.{version_of, one_direction, direction_of, ending, IsCut}
 use Rattle.ncp_play_page.specs.Lines.{number_after}
-use Rattle.ncp_play_files.specs.Lines.{told_from}
+use Rattle.ncp_play_files.specs.Lines.{lines_told_from}
 use Rattle.ncp_play_files.specs.Results.{is_write_failed}
 use Rattle.ncp_play_stream.specs.Streams.{SaidSoFar, SaysText, SaysBeginning}
-use Rattle.ncp_play_files.specs.Writing.{Told, ToldCut, WritesAll, WritesRead, WritesBeginning, Writes}
-use Rattle.ncp_play_files.specs.Steps.{Reader, Telling, IsInside, Stops, SaysNext, SaysLines, SaysFrom, SaysOn, SaysFile, Says}
+use Rattle.ncp_play_files.specs.Writing.{TextTold, ToldCut, WritesAll, WritesRead, WritesBeginning, Writes}
+use Rattle.ncp_play_files.specs.Steps.{Reader, RecordTelling, IsInside, Stops, SaysNext, SaysLines, SaysFrom, SaysOn, SaysFile, SaysOfFile}
 use Rattle.ncp_play_files.proofs.Files.{version_of-short, version_of-take, version_of-append}
 use Rattle.ncp_play_files.proofs.Contents.{IsFront, by_some}
 
 -- ---- records from a number on
 
-module _ {X : Type 0} (next : Reader X) (front : IsFront next) (lines : Telling X) where
+module _ {X : Type 0} (next : Reader X) (front : IsFront next) (lines : RecordTelling X) where
   -- where nothing was said for lack of a record
   pub from_end : (number : ℕ) (bytes was said window page : List ℕ) (left written : Option (List ℕ)) → SaysNext next lines number bytes was said (Ok false) window left page written
       → SaysFrom next lines number bytes was said (Ok tt) left page written
@@ -32,7 +32,7 @@ module _ {X : Type 0} (next : Reader X) (front : IsFront next) (lines : Telling 
       → SaidSoFar was lost written (said ++ lines number first) → (fault : Option FileFault) × (lost : List ℕ) × SaysLines next lines number bytes was said fault lost written
   from_broken number bytes was said written first rest lost h k =
       let behind = by_some next front rest in
-      let more = told_from lines (number_after number) behind.0 in (
+      let more = lines_told_from lines (number_after number) behind.0 in (
         behind.1,
         lost ++ more,
         (
@@ -63,7 +63,7 @@ module _ {X : Type 0} (next : Reader X) (front : IsFront next) (lines : Telling 
   pub from_lost : (number : ℕ) (bytes was said lost page : List ℕ) (left written : Option (List ℕ)) → SaidSoFar was lost written said → SaysFrom next lines number bytes was said (Err WriteFailed) left page written
   from_lost number bytes was said lost page left written k =
       let all = by_some next front bytes in
-      let more = told_from lines number all.0 in
+      let more = lines_told_from lines number all.0 in
       (all.1, lost ++ more, (all.0, all.2, (k.0, k.1, sym (append_assoc k.0 lost more) ∙ ap (λ xs. xs ++ more) k.2)))
 
   pub says_on : (number : ℕ) (bytes was said window page : List ℕ) (left written : Option (List ℕ)) (r : Result Bool FileFault) → SaysNext next lines number bytes was said r window left page written
@@ -76,7 +76,7 @@ module _ {X : Type 0} (next : Reader X) (front : IsFront next) (lines : Telling 
   more_lines number bytes rest was said page written first fault h k = (
     first ∷ k.0,
     (rest, h, k.1),
-    (k.2.0, k.2.1, k.2.2 ∙ append_assoc said (lines number first) (told_from lines (number_after number) k.0)),
+    (k.2.0, k.2.1, k.2.2 ∙ append_assoc said (lines number first) (lines_told_from lines (number_after number) k.0)),
   )
 
   -- a record in front of others
@@ -102,7 +102,7 @@ module _ {X : Type 0} (next : Reader X) (front : IsFront next) (lines : Telling 
   from_more number bytes rest was said page left written first (Err WriteFailed) h k = (k.0, k.1, more_lines number bytes rest was said k.1 written first k.0 h k.2)
 
 -- nothing was read of which something could be told
-pub next_ends : {X : Type 0} (next : Reader X) (lines : Telling X) (number : ℕ) (bytes was said window page : List ℕ) (left written : Option (List ℕ)) (fault : FileFault)
+pub next_ends : {X : Type 0} (next : Reader X) (lines : RecordTelling X) (number : ℕ) (bytes was said window page : List ℕ) (left written : Option (List ℕ)) (fault : FileFault)
     → Stops next bytes left fault → SaidSoFar was page written said → SaysNext next lines number bytes was said (Err fault) window left page written
 next_ends next lines number bytes was said window page left written BadHeader h k = (h, k)
 next_ends next lines number bytes was said window page left written Truncated h k = (h, k)
@@ -158,7 +158,7 @@ longer_header given rest version h =
 
 -- ---- what was written
 
-module _ (told : Told) (cut : ToldCut)
+module _ (told : TextTold) (cut : ToldCut)
     (longer : (given rest text : List ℕ) → cut given text → (more : List ℕ) × (last : Option FileFault) × told (given ++ rest) (text ++ more) last) where
   writes_all : (bytes was page last : List ℕ) (written now : Option (List ℕ)) (fault : Option FileFault) → SaysFile told bytes was fault page written → (last ≡ []) × SaysText page written [] last now → WritesAll told bytes was now fault
   writes_all bytes was page last written now fault h k =
@@ -194,7 +194,7 @@ module _ (told : Told) (cut : ToldCut)
       )
 
   -- the page could not be written
-  pub wrote_broken : (bytes was page : List ℕ) (left written now : Option (List ℕ)) (r : Result Unit FileFault) → Says told cut bytes was r left page written → SaysBeginning page written [] now → is_write_failed r ≡ false
+  pub wrote_broken : (bytes was page : List ℕ) (left written now : Option (List ℕ)) (r : Result Unit FileFault) → SaysOfFile told cut bytes was r left page written → SaysBeginning page written [] now → is_write_failed r ≡ false
       → WritesBeginning told bytes was now
   wrote_broken bytes was page left written now (Ok done) h k n = beginning bytes was page written now _ h k
   wrote_broken bytes was page left written now (Err BadHeader) h k n = beginning bytes was page written now _ h k
@@ -208,7 +208,7 @@ module _ (told : Told) (cut : ToldCut)
   wrote_broken bytes was page left written now (Err WriteFailed) h k n = absurd (let e : ⊥ = cc in e)
 
   -- the page was written
-  pub wrote_flushed : (bytes was page last : List ℕ) (left written now : Option (List ℕ)) (r : Result Unit FileFault) → Says told cut bytes was r left page written → (last ≡ []) × SaysText page written [] last now → is_write_failed r ≡ false
+  pub wrote_flushed : (bytes was page last : List ℕ) (left written now : Option (List ℕ)) (r : Result Unit FileFault) → SaysOfFile told cut bytes was r left page written → (last ≡ []) × SaysText page written [] last now → is_write_failed r ≡ false
       → Writes told cut bytes was left now r
   wrote_flushed bytes was page last left written now (Ok done) h k n = writes_all bytes was page last written now _ h k
   wrote_flushed bytes was page last left written now (Err BadHeader) h k n = writes_all bytes was page last written now _ h k
@@ -221,7 +221,7 @@ module _ (told : Told) (cut : ToldCut)
   wrote_flushed bytes was page last left written now (Err WriteFailed) h k n = absurd (let e : ⊥ = cc in e)
 
   -- a text could not be written
-  pub wrote_failed : (bytes was page : List ℕ) (left written : Option (List ℕ)) (r : Result Unit FileFault) → Says told cut bytes was r left page written → is_write_failed r ≡ true → Writes told cut bytes was left written r
+  pub wrote_failed : (bytes was page : List ℕ) (left written : Option (List ℕ)) (r : Result Unit FileFault) → SaysOfFile told cut bytes was r left page written → is_write_failed r ≡ true → Writes told cut bytes was left written r
   wrote_failed bytes was page left written (Ok done) h n = absurd (let e : ⊥ = cc in e)
   wrote_failed bytes was page left written (Err BadHeader) h n = absurd (let e : ⊥ = cc in e)
   wrote_failed bytes was page left written (Err Truncated) h n = absurd (let e : ⊥ = cc in e)

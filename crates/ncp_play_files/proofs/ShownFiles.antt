@@ -7,10 +7,10 @@ use Rattle.ncp_play_files.specs.declared.version.Version.{Version}
 use Rattle.ncp_play_files.specs.File.{version_of}
 use Rattle.ncp_play_files.specs.Versions.{next_in}
 use Rattle.ncp_play_page.specs.Lines.{number_after}
-use Rattle.ncp_play_files.specs.Lines.{told_from, record_lines, lines_from}
+use Rattle.ncp_play_files.specs.Lines.{lines_told_from, record_lines, record_lines_from}
 use Rattle.ncp_play_stream.specs.Streams.{SaidSoFar}
 use Rattle.ncp_play_files.specs.Shown.{ShownAs, ShownCut}
-use Rattle.ncp_play_files.specs.Steps.{Telling, ReadsVersion, SaysLines, SaysFrom, SaysFile, Says}
+use Rattle.ncp_play_files.specs.Steps.{RecordTelling, ReadsVersion, SaysLines, SaysFrom, SaysFile, SaysOfFile}
 use Rattle.ncp_play_files.proofs.Files.{version_of-short}
 use Rattle.ncp_play_files.proofs.Contents.{by_some, by_longer}
 use Rattle.ncp_play_files.proofs.Placing.{in_front}
@@ -21,7 +21,7 @@ no_header bytes was page written h k = ([], (let e : version_of bytes ≡ None =
 
 -- a header that was not read
 pub file_ends : (bytes was window page : List ℕ) (left written : Option (List ℕ)) (fault : FileFault) → ReadsVersion bytes (Err fault) window left → SaidSoFar was page written []
-    → Says ShownAs ShownCut bytes was (Err fault) left page written
+    → SaysOfFile ShownAs ShownCut bytes was (Err fault) left page written
 file_ends bytes was window page left written BadHeader h k = no_header bytes was page written h.1 k
 file_ends bytes was window page left written Truncated h k = let e : ⊥ = cc (h.0) in absurd e
 file_ends bytes was window page left written TooLong h k = let e : ⊥ = cc (h.0) in absurd e
@@ -35,11 +35,11 @@ file_ends bytes was window page left written WriteFailed h k = absurd h
 
 says_file : (bytes was page : List ℕ) (written : Option (List ℕ)) (version : Version) (fault : Option FileFault) → version_of bytes ≡ Some version
     → SaysLines (next_in version) record_lines 1 (drop 4 bytes) was [] fault page written → SaysFile ShownAs bytes was fault page written
-says_file bytes was page written version fault h k = (lines_from 1 k.0, rw h (k.0, k.1, refl), k.2)
+says_file bytes was page written version fault h k = (record_lines_from 1 k.0, rw h (k.0, k.1, refl), k.2)
 
 -- the records behind a header
 pub file_shown : (bytes was page : List ℕ) (left written : Option (List ℕ)) (version : Version) (r : Result Unit FileFault) → version_of bytes ≡ Some version
-    → SaysFrom (next_in version) record_lines 1 (drop 4 bytes) was [] r left page written → Says ShownAs ShownCut bytes was r left page written
+    → SaysFrom (next_in version) record_lines 1 (drop 4 bytes) was [] r left page written → SaysOfFile ShownAs ShownCut bytes was r left page written
 file_shown bytes was page left written version (Ok done) h k = says_file bytes was page written version _ h k
 file_shown bytes was page left written version (Err BadHeader) h k = says_file bytes was page written version _ h k
 file_shown bytes was page left written version (Err Truncated) h k = says_file bytes was page written version _ h k
@@ -63,15 +63,15 @@ file_shown bytes was page left written version (Err WriteFailed) h k = (k.0, k.1
 
 -- ---- lines of the bytes that came are a beginning of the lines of all bytes
 
-pub told_longer : {X : Type 0} (lines : Telling X) (number : ℕ) (records more : List X) → (rest : List ℕ) × (told_from lines number (records ++ more) ≡ told_from lines number records ++ rest)
-told_longer lines number [] more = (told_from lines number more, refl)
+pub told_longer : {X : Type 0} (lines : RecordTelling X) (number : ℕ) (records more : List X) → (rest : List ℕ) × (lines_told_from lines number (records ++ more) ≡ lines_told_from lines number records ++ rest)
+told_longer lines number [] more = (lines_told_from lines number more, refl)
 told_longer lines number (first ∷ records) more =
     let longer = told_longer lines (number_after number) records more in
     (longer.0, ap (λ xs. lines number first ++ xs) longer.1 ∙ sym (append_assoc (lines number first) _ longer.0))
 
 shown_some : (bytes : List ℕ) (o : Option Version) → version_of bytes ≡ o → (text : List ℕ) × (fault : Option FileFault) × ShownAs bytes text fault
 shown_some bytes None h = ([], Some BadHeader, rw h (refl, refl))
-shown_some bytes (Some version) h = let held = by_some (next_in version) (in_front version) (drop 4 bytes) in (lines_from 1 held.0, held.1, rw h (held.0, held.2, refl))
+shown_some bytes (Some version) h = let held = by_some (next_in version) (in_front version) (drop 4 bytes) in (record_lines_from 1 held.0, held.1, rw h (held.0, held.2, refl))
 
 longer_by : (given rest text : List ℕ) (fault : Option FileFault) (o : Option Version) → version_of given ≡ o → ShownAs given text fault → (more : List ℕ) × (last : Option FileFault) × ShownAs (given ++ rest) (text ++ more) last
 longer_by given rest text fault None e h =

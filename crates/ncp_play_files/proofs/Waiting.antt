@@ -8,7 +8,7 @@ use Rattle.ncp_numbers.specs.Bytes.{bytes_for}
 use Rattle.ncp_play_stream.specs.Pieces.{bytes_and_writes, lost_pieces, unpaid, Paid}
 use Rattle.ncp_play_files.specs.declared.file.FileFault.{FileFault}
 use Rattle.ncp_play_files.specs.Results.{is_write, is_write_failed}
-use Rattle.ncp_play_files.specs.Steps.{StandsWhole, says_nothing, unpaid_after, unpaid_out}
+use Rattle.ncp_play_files.specs.Steps.{StandsWhole, said_nothing, unpaid_after, unpaid_out}
 use Rattle.ncp_play_files.specs.Waiting.{lacks_message}
 
 -- ---- what is lacking
@@ -56,7 +56,7 @@ module _ (full : Bool) (w0 w1 w2 : ℕ) (a b c : Option (List ℕ)) (r0 r1 : ℕ
 
   -- something went out before more was waited for, and then this was said
   pub paid_on : (waits : Bool) (r : Result Bool FileFault) → bytes_and_writes full w0 a ≤ bytes_and_writes full w1 b + unpaid_out (Ok tt) waits → bytes_and_writes full w1 b ≤ bytes_and_writes full w2 c + lost_pieces (is_write_failed r) → r1 ≤ r0
-      → (waits ≡ true → page1 ≡ []) → (says_nothing r ≡ false → waits ≡ true → r1 < r0) → (says_nothing r ≡ true → page2 ≡ page1) → Paid full w0 a r0 w2 c r1 (unpaid_after r page2)
+      → (waits ≡ true → page1 ≡ []) → (said_nothing r ≡ false → waits ≡ true → r1 < r0) → (said_nothing r ≡ true → page2 ≡ page1) → Paid full w0 a r0 w2 c r1 (unpaid_after r page2)
   paid_on true (Ok true) h k l out waited kept = omega (arith, h, k, waited refl refl)
   paid_on false (Ok true) h k l out waited kept = omega (arith, h, k, l)
   paid_on true (Ok false) h k l out waited kept = let none : unpaid false page2 ≡ 4096 = ap (unpaid false) (kept refl ∙ out refl) in omega (arith, h, k, l, none)

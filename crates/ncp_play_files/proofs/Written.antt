@@ -17,8 +17,8 @@ use Rattle.ncp_numbers.proofs.Bytes.{length-bits_of_bytes, byte_of-fits}
 use Rattle.ncp_bits.proofs.Joins.{length-bytes_of, read_bytes-bytes_of}
 use Rattle.ncp_play_files.specs.declared.file.FileFault.{FileFault}
 use Rattle.ncp_play_files.specs.declared.file.FileFault.TheVariants.{Truncated, TooLong, SpareNotZero}
-use Rattle.ncp_play_files.specs.File.{next_record, record_of, record_bytes}
-use Rattle.ncp_play_files.specs.Reasons.{first_of, reasons_at}
+use Rattle.ncp_play_files.specs.File.{next_record, next_of_record, record_bytes}
+use Rattle.ncp_play_files.specs.Reasons.{first_fault_of, reasons_at}
 use Rattle.ncp_play_files.proofs.Files.{next_none, next_read}
 use Rattle.ncp_play_files.proofs.Contents.{two_at_least, read_fits, record_read, next_record-written}
 
@@ -134,10 +134,10 @@ record_exactly bytes rest message fit = (record_is_written bytes rest message fi
 -- ---- where none begins
 
 next_some : (bytes : List ℕ) → 0 < length bytes
-    → next_record bytes ≡ cond (ltb (length bytes) 2) (Err Truncated) (record_of (big_number 2 bytes) (drop 2 bytes) (read_bytes (drop 2 bytes) (big_number 2 bytes)))
+    → next_record bytes ≡ cond (ltb (length bytes) 2) (Err Truncated) (next_of_record (big_number 2 bytes) (drop 2 bytes) (read_bytes (drop 2 bytes) (big_number 2 bytes)))
 next_some bytes h = let none : eqb (length bytes) 0 ≡ false = ne_eqb _ 0 (λ z. omega arith) in rw none refl
 
-never_none : (b : Bool) (len : ℕ) (bytes : List ℕ) (r : Result (List Bool) BitsFault) → cond b (Err Truncated) (record_of len bytes r) ≡ Ok None → ⊥
+never_none : (b : Bool) (len : ℕ) (bytes : List ℕ) (r : Result (List Bool) BitsFault) → cond b (Err Truncated) (next_of_record len bytes r) ≡ Ok None → ⊥
 never_none true len bytes r h = let e : ⊥ = cc in e
 never_none false len bytes (Ok m) h = let e : ⊥ = cc in e
 never_none false len bytes (Err fault) h = let e : ⊥ = cc in e
@@ -150,17 +150,17 @@ record_ends (a ∷ bytes) = (
 )
 
 judged : (a b c d : Bool) (len : ℕ) (bytes : List ℕ) (m : List Bool) (fault : FileFault)
-    → (cond a (Err Truncated) (record_of len bytes (cond b (Err bits.TooLong) (cond c (Err bits.ShortBytes) (cond d (Err bits.SpareNotZero) (Ok m))))) ≡ Err fault)
-    ↔ (first_of ((Truncated, a) ∷ (TooLong, b) ∷ (Truncated, c) ∷ (SpareNotZero, d) ∷ []) ≡ Some fault)
+    → (cond a (Err Truncated) (next_of_record len bytes (cond b (Err bits.TooLong) (cond c (Err bits.ShortBytes) (cond d (Err bits.SpareNotZero) (Ok m))))) ≡ Err fault)
+    ↔ (first_fault_of ((Truncated, a) ∷ (TooLong, b) ∷ (Truncated, c) ∷ (SpareNotZero, d) ∷ []) ≡ Some fault)
 judged true b c d len bytes m fault = (λ h. cc, λ h. cc)
 judged false true c d len bytes m fault = (λ h. cc, λ h. cc)
 judged false false true d len bytes m fault = (λ h. cc, λ h. cc)
 judged false false false true len bytes m fault = (λ h. cc, λ h. cc)
 judged false false false false len bytes m fault = (λ h. absurd (let e : ⊥ = cc in e), λ h. absurd (let e : ⊥ = cc in e))
 
-pub record_judged : (bytes : List ℕ) (fault : FileFault) → 0 < length bytes → (next_record bytes ≡ Err fault) ↔ (first_of (reasons_at bytes) ≡ Some fault)
+pub record_judged : (bytes : List ℕ) (fault : FileFault) → 0 < length bytes → (next_record bytes ≡ Err fault) ↔ (first_fault_of (reasons_at bytes) ≡ Some fault)
 record_judged bytes fault h =
     let behind = drop 2 bytes in
     let len = big_number 2 bytes in
-    subst (λ next. (next ≡ Err fault) ↔ (first_of (reasons_at bytes) ≡ Some fault)) (sym (next_some bytes h))
+    subst (λ next. (next ≡ Err fault) ↔ (first_fault_of (reasons_at bytes) ≡ Some fault)) (sym (next_some bytes h))
     (judged (ltb (length bytes) 2) (ltb 8192 len) (ltb (length behind) (bytes_for len)) (list_any (λ bit. bit) (spare_bits behind len)) len behind (take len (bits_of_bytes behind)) fault)

@@ -10,7 +10,7 @@ use Rattle.ncp_play_files.specs.declared.version.Version.{Version}
 use Rattle.ncp_play_files.specs.declared.version.Version.TheVariants.{One, Two}
 use Rattle.ncp_play_files.specs.declared.version.Passage.{Passage}
 use Rattle.ncp_play_files.specs.File.{Next, version_of, HoldsBy, IsCut}
-use Rattle.ncp_play_files.specs.Versions.{NextRecorded, plain, placed, direction_by, next_in, header_of, bytes_at}
+use Rattle.ncp_play_files.specs.Versions.{NextRecorded, passage_without_host, placed, direction_by, next_in, header_of, bytes_with_passage}
 use Rattle.ncp_play_files.specs.Writing.{Writes}
 
 -- ---- the two versions
@@ -33,7 +33,7 @@ other_version Two direction = One direction
 
 -- the passage that a message has in a file of this version, if the file has this direction and its host is given
 abbrev pub passage_in : Version → Direction → ℕ → Passage
-passage_in (One from) direction host = plain direction
+passage_in (One from) direction host = passage_without_host direction
 passage_in Two direction host = placed direction host
 
 -- ---- the messages that are converted
@@ -54,15 +54,15 @@ abbrev pub same_passage : Passage → Passage → Bool
 same_passage one other = same_direction one.direction other.direction && same_host one.at other.at
 
 -- the message of a record, if it has this passage
-abbrev pub message_at : Passage → Result NextRecorded FileFault → Result Next FileFault
-message_at passage (Ok None) = Ok None
-message_at passage (Ok (Some (found, rest))) = if same_passage found.passage passage then Ok (Some (found.message, rest)) else Err Mixed
-message_at passage (Err fault) = Err fault
+abbrev pub next_of_passage : Passage → Result NextRecorded FileFault → Result Next FileFault
+next_of_passage passage (Ok None) = Ok None
+next_of_passage passage (Ok (Some (found, rest))) = if same_passage found.passage passage then Ok (Some (found.message, rest)) else Err Mixed
+next_of_passage passage (Err fault) = Err fault
 
 -- the message at the front of bytes, or the fault that stands there: a record that has no other fault, but another
 -- passage, is one too many
 abbrev pub next_at : Version → Passage → List ℕ → Result Next FileFault
-next_at version passage bytes = message_at passage (next_in version bytes)
+next_at version passage bytes = next_of_passage passage (next_in version bytes)
 
 -- the messages behind a header that are converted, and the fault behind them, if there is one
 abbrev pub HoldsAt : Version → ℕ → List ℕ → List (List Bool) → Option FileFault → Type 0
@@ -72,15 +72,15 @@ HoldsAt version host bytes messages fault =
 -- ---- the file that is written
 
 -- the records of messages that all have this passage
-abbrev pub all_at : Passage → List (List Bool) → List ℕ
-all_at passage messages = flat_map (bytes_at passage) messages
+abbrev pub bytes_of_all_at : Passage → List (List Bool) → List ℕ
+bytes_of_all_at passage messages = flat_map (bytes_with_passage passage) messages
 
 -- a file of these messages, which has its header with the first of them, or at the end; nothing stands in front of a fault
 -- at the first record
 abbrev pub file_to : Version → Passage → List (List Bool) → Option FileFault → List ℕ
 file_to version passage [] None = header_of version
 file_to version passage [] (Some fault) = []
-file_to version passage (message ∷ messages) fault = header_of version ++ all_at passage (message ∷ messages)
+file_to version passage (message ∷ messages) fault = header_of version ++ bytes_of_all_at passage (message ∷ messages)
 
 -- the messages of a file of one version as one of the other
 abbrev pub converted : Version → Direction → ℕ → List (List Bool) → Option FileFault → List ℕ

@@ -43,16 +43,16 @@ abbrev pub Next : Type 0
 Next = Option (List Bool × List ℕ)
 
 -- the record that these bytes are, behind their length, with what stands behind it
-abbrev pub record_of : ℕ → List ℕ → Result (List Bool) BitsFault → Result Next FileFault
-record_of len bytes (Ok message) = Ok (Some (message, drop (bytes_for len) bytes))
-record_of len bytes (Err fault) = Err (fault_of_bits fault)
+abbrev pub next_of_record : ℕ → List ℕ → Result (List Bool) BitsFault → Result Next FileFault
+next_of_record len bytes (Ok message) = Ok (Some (message, drop (bytes_for len) bytes))
+next_of_record len bytes (Err fault) = Err (fault_of_bits fault)
 
 -- the record at the front of bytes, or the fault that stands there
 abbrev pub next_record : List ℕ → Result Next FileFault
 next_record bytes =
     if length bytes == 0 then Ok None
     else if nat_lt (length bytes) 2 then Err Truncated
-    else record_of (big_number 2 bytes) (drop 2 bytes) (read_bytes (drop 2 bytes) (big_number 2 bytes))
+    else next_of_record (big_number 2 bytes) (drop 2 bytes) (read_bytes (drop 2 bytes) (big_number 2 bytes))
 
 -- how a file ends
 abbrev pub ending : {A : Type 0} → Option FileFault → Result (Option A) FileFault
@@ -67,8 +67,8 @@ HoldsBy next bytes (first ∷ more) fault =
     (rest : List ℕ) × (next bytes ≡ Ok (Some (first, rest))) × HoldsBy next rest more fault
 
 -- bytes behind a header of version 1 hold these messages, and then end, or the fault stands there
-abbrev pub Holds : List ℕ → List (List Bool) → Option FileFault → Type 0
-Holds bytes messages fault = HoldsBy next_record bytes messages fault
+abbrev pub HoldsMessages : List ℕ → List (List Bool) → Option FileFault → Type 0
+HoldsMessages bytes messages fault = HoldsBy next_record bytes messages fault
 
 -- bytes end between records, or inside their header or a record, and have no other fault
 abbrev pub IsCut : List ℕ → Option FileFault → Type 0

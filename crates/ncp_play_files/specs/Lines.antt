@@ -7,7 +7,7 @@ use Rattle.ncp_leader.specs.declared.leader.Leader.{Leader}
 use Rattle.ncp_leader.specs.declared.leader.Short.{Short}
 use Rattle.ncp_leader.specs.declared.fault.MessageFault.{MessageFault}
 use Rattle.ncp_leader.specs.Leader.{leader_in}
-use Rattle.ncp_leader.specs.Fault.{name_of}
+use Rattle.ncp_leader.specs.Fault.{name_of_message_fault}
 use Rattle.ncp_leader.specs.Message.{Message, message_in}
 use Rattle.ncp_terms.specs.declared.command.Command.{Command}
 use Rattle.ncp_terms.specs.declared.command.Command.TheVariants.{Nop, Rts, Str, Cls, All as Allocate, Gvb, Ret, Inr, Ins, Eco, Erp, Err, Rst, Rrp}
@@ -66,8 +66,8 @@ abbrev pub passage_words : Passage → List ℕ
 passage_words passage = way_words passage.direction passage.at
 
 -- the first line of the record with this number
-abbrev pub first_line : Passage → ℕ → List Bool → List ℕ
-first_line passage number message = decimal number ++ passage_words passage ++ summary passage.direction (leader_in message)
+abbrev pub record_first_line : Passage → ℕ → List Bool → List ℕ
+record_first_line passage number message = decimal number ++ passage_words passage ++ summary passage.direction (leader_in message)
 
 -- ---- the detail lines of a regular message
 
@@ -125,32 +125,32 @@ text_lines message = if is_control message then control_lines (bytes_of message.
 abbrev pub size_line : Message → List ℕ
 size_line message = field (codes "  size=") message.size ++ field (codes " count=") message.count ++ codes "\n"
 
-abbrev pub fault_line : MessageFault → List ℕ
-fault_line fault = codes "  fault " ++ name_of fault ++ codes "\n"
+abbrev pub message_fault_line : MessageFault → List ℕ
+message_fault_line fault = codes "  fault " ++ name_of_message_fault fault ++ codes "\n"
 
 abbrev pub message_lines : Result Message MessageFault → List ℕ
-message_lines (Fault fault) = fault_line fault
+message_lines (Fault fault) = message_fault_line fault
 message_lines (Ok message) = size_line message ++ text_lines message
 
 -- ---- records
 
 -- a message of type 0
-abbrev pub is_regular : Result Leader Short → Bool
-is_regular (Fault short) = false
-is_regular (Ok leader) = leader.kind == 0
+abbrev pub is_regular_leader : Result Leader Short → Bool
+is_regular_leader (Fault short) = false
+is_regular_leader (Ok leader) = leader.kind == 0
 
 abbrev pub details : List Bool → List ℕ
-details message = if is_regular (leader_in message) then message_lines (message_in message) else []
+details message = if is_regular_leader (leader_in message) then message_lines (message_in message) else []
 
 -- the lines of the record with this number
 abbrev pub record_lines : ℕ → Recorded → List ℕ
-record_lines number shown = first_line shown.passage number shown.message ++ details shown.message
+record_lines number shown = record_first_line shown.passage number shown.message ++ details shown.message
 
 -- what is told of each record, one after the other, from this number on
-abbrev pub told_from : {X : Type 0} → (ℕ → X → List ℕ) → ℕ → List X → List ℕ
-told_from lines number [] = []
-told_from lines number (first ∷ more) = lines number first ++ told_from lines (number_after number) more
+abbrev pub lines_told_from : {X : Type 0} → (ℕ → X → List ℕ) → ℕ → List X → List ℕ
+lines_told_from lines number [] = []
+lines_told_from lines number (first ∷ more) = lines number first ++ lines_told_from lines (number_after number) more
 
 -- the lines of records from this number on
-abbrev pub lines_from : ℕ → List Recorded → List ℕ
-lines_from number records = told_from record_lines number records
+abbrev pub record_lines_from : ℕ → List Recorded → List ℕ
+record_lines_from number records = lines_told_from record_lines number records

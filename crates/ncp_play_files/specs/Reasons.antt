@@ -13,9 +13,9 @@ abbrev pub Reason : Type 0
 Reason = FileFault × Bool
 
 -- the first fault whose reason holds
-abbrev pub first_of : List Reason → Option FileFault
-first_of [] = None
-first_of (reason ∷ reasons) = if reason.1 then Some reason.0 else first_of reasons
+abbrev pub first_fault_of : List Reason → Option FileFault
+first_fault_of [] = None
+first_fault_of (reason ∷ reasons) = if reason.1 then Some reason.0 else first_fault_of reasons
 
 -- in version 1: no two bytes of a length; a length over the limit; fewer bytes behind it than it says; a spare bit that is set
 abbrev pub reasons_at : List ℕ → List Reason

@@ -4,14 +4,14 @@ use Rattle.ncp_play_files.specs.declared.file.FileFault.{FileFault}
 use Rattle.ncp_play_files.specs.declared.file.FileFault.TheVariants.{BadHeader}
 use Rattle.ncp_play_files.specs.File.{version_of, HoldsBy, IsCut}
 use Rattle.ncp_play_files.specs.Versions.{Recorded, next_in}
-use Rattle.ncp_play_files.specs.Lines.{lines_from}
+use Rattle.ncp_play_files.specs.Lines.{record_lines_from}
 use Rattle.ncp_play_files.specs.Writing.{Writes}
 
 -- the lines of a file's records before its first fault, and that fault, if there is one
 abbrev pub ShownAs : List ℕ → List ℕ → Option FileFault → Type 0
 ShownAs bytes text fault =
     MatchOption (version_of bytes) ((text ≡ []) × (fault ≡ Some BadHeader)) (λ version.
-    (records : List Recorded) × HoldsBy (next_in version) (drop 4 bytes) records fault × (text ≡ lines_from 1 records))
+    (records : List Recorded) × HoldsBy (next_in version) (drop 4 bytes) records fault × (text ≡ record_lines_from 1 records))
 
 -- the lines of those records that are whole in bytes that came before a failed read
 abbrev pub ShownCut : List ℕ → List ℕ → Type 0

@@ -12,8 +12,8 @@ use Rattle.ncp_play_files.specs.declared.version.Passage.{Passage}
 use Rattle.ncp_play_files.specs.declared.version.Found.{Found}
 use Rattle.ncp_play_files.specs.File.{direction_of, version_of, next_record, ending, HoldsBy}
 use Rattle.ncp_play_files.specs.Versions.{NextRecorded, recorded, next_in}
-use Rattle.ncp_play_files.specs.Lines.{told_from}
-use Rattle.ncp_play_files.specs.Writing.{Told, ToldCut}
+use Rattle.ncp_play_files.specs.Lines.{lines_told_from}
+use Rattle.ncp_play_files.specs.Writing.{TextTold, ToldCut}
 use Rattle.ncp_play_stream.specs.declared.source.TheConstants.{LEAST_PIECE}
 use Rattle.ncp_play_stream.specs.Pieces.{lost_pieces, unpaid}
 use Rattle.ncp_play_stream.specs.Streams.{Ahead, SaidSoFar}
@@ -84,8 +84,8 @@ ReadsRecord bytes (Err fault) message window left = MatchFault (λ f. next_recor
 abbrev pub Reader : Type 0 → Type 0
 Reader X = List ℕ → Result (Option (X × List ℕ)) FileFault
 
-abbrev pub Telling : Type 0 → Type 0
-Telling X = ℕ → X → List ℕ
+abbrev pub RecordTelling : Type 0 → Type 0
+RecordTelling X = ℕ → X → List ℕ
 
 -- a read failed: no byte is lost, and those that came are no whole record
 abbrev pub StopsShort : {X : Type 0} → Reader X → List ℕ → Option (List ℕ) → Type 0
@@ -122,19 +122,19 @@ abbrev pub EndsWith : {X : Type 0} → Reader X → List ℕ → Option FileFaul
 EndsWith next bytes fault was said page written = (next bytes ≡ ending fault) × SaidSoFar was page written said
 
 -- what is told of the next record was said
-abbrev pub SaysRecord : {X : Type 0} → Reader X → Telling X → ℕ → List ℕ → List ℕ → List ℕ → List ℕ → Option (List ℕ) → List ℕ → Option (List ℕ) → Type 0
+abbrev pub SaysRecord : {X : Type 0} → Reader X → RecordTelling X → ℕ → List ℕ → List ℕ → List ℕ → List ℕ → Option (List ℕ) → List ℕ → Option (List ℕ) → Type 0
 SaysRecord {X} next lines number bytes was said window left page written =
     (first : X) × (rest : List ℕ) × (next bytes ≡ Ok (Some (first, rest))) × Ahead window left rest
     × SaidSoFar was page written (said ++ lines number first)
 
 -- a beginning of it was said
-abbrev pub BreaksRecord : {X : Type 0} → Reader X → Telling X → ℕ → List ℕ → List ℕ → List ℕ → Option (List ℕ) → Type 0
+abbrev pub BreaksRecord : {X : Type 0} → Reader X → RecordTelling X → ℕ → List ℕ → List ℕ → List ℕ → Option (List ℕ) → Type 0
 BreaksRecord {X} next lines number bytes was said written =
     (first : X) × (rest : List ℕ) × (lost : List ℕ) × (next bytes ≡ Ok (Some (first, rest)))
     × SaidSoFar was lost written (said ++ lines number first)
 
 -- what is told of the next record was said, or there is none, or a fault stands there
-abbrev pub SaysNext : {X : Type 0} → Reader X → Telling X → ℕ → List ℕ → List ℕ → List ℕ → Result Bool FileFault → List ℕ → Option (List ℕ) → List ℕ → Option (List ℕ) → Type 0
+abbrev pub SaysNext : {X : Type 0} → Reader X → RecordTelling X → ℕ → List ℕ → List ℕ → List ℕ → Result Bool FileFault → List ℕ → Option (List ℕ) → List ℕ → Option (List ℕ) → Type 0
 SaysNext next lines number bytes was said (Ok true) window left page written = SaysRecord next lines number bytes was said window left page written
 SaysNext next lines number bytes was said (Ok false) window left page written = EndsWith next bytes None was said page written
 SaysNext next lines number bytes was said (Err fault) window left page written =
@@ -142,23 +142,23 @@ SaysNext next lines number bytes was said (Err fault) window left page written =
     (BreaksRecord next lines number bytes was said written) fault
 
 -- it was said of all records, and then the bytes end, or the fault stands there
-abbrev pub SaysLines : {X : Type 0} → Reader X → Telling X → ℕ → List ℕ → List ℕ → List ℕ → Option FileFault → List ℕ → Option (List ℕ) → Type 0
+abbrev pub SaysLines : {X : Type 0} → Reader X → RecordTelling X → ℕ → List ℕ → List ℕ → List ℕ → Option FileFault → List ℕ → Option (List ℕ) → Type 0
 SaysLines {X} next lines number bytes was said fault page written =
-    (records : List X) × HoldsBy next bytes records fault × SaidSoFar was page written (said ++ told_from lines number records)
+    (records : List X) × HoldsBy next bytes records fault × SaidSoFar was page written (said ++ lines_told_from lines number records)
 
 -- it was said of those records that came whole before a read failed
-abbrev pub SaysCut : {X : Type 0} → Reader X → Telling X → ℕ → List ℕ → List ℕ → List ℕ → Option (List ℕ) → List ℕ → Option (List ℕ) → Type 0
+abbrev pub SaysCut : {X : Type 0} → Reader X → RecordTelling X → ℕ → List ℕ → List ℕ → List ℕ → Option (List ℕ) → List ℕ → Option (List ℕ) → Type 0
 SaysCut next lines number bytes was said left page written =
     (given : List ℕ) × (rest : List ℕ) × (fault : Option FileFault) × (bytes ≡ given ++ rest) × (left ≡ Some rest) × IsInside fault
     × SaysLines next lines number given was said fault page written
 
 -- a beginning was said
-abbrev pub BreaksLines : {X : Type 0} → Reader X → Telling X → ℕ → List ℕ → List ℕ → List ℕ → Option (List ℕ) → Type 0
+abbrev pub BreaksLines : {X : Type 0} → Reader X → RecordTelling X → ℕ → List ℕ → List ℕ → List ℕ → Option (List ℕ) → Type 0
 BreaksLines next lines number bytes was said written =
     (fault : Option FileFault) × (lost : List ℕ) × SaysLines next lines number bytes was said fault lost written
 
 -- what was said of records from this number on, and what is answered
-abbrev pub SaysFrom : {X : Type 0} → Reader X → Telling X → ℕ → List ℕ → List ℕ → List ℕ → Result Unit FileFault → Option (List ℕ) → List ℕ → Option (List ℕ) → Type 0
+abbrev pub SaysFrom : {X : Type 0} → Reader X → RecordTelling X → ℕ → List ℕ → List ℕ → List ℕ → Result Unit FileFault → Option (List ℕ) → List ℕ → Option (List ℕ) → Type 0
 SaysFrom next lines number bytes was said (Ok done) left page written = SaysLines next lines number bytes was said None page written
 SaysFrom next lines number bytes was said (Err fault) left page written =
     MatchFault (λ f. SaysLines next lines number bytes was said (Some f) page written) (SaysCut next lines number bytes was said left page written)
@@ -174,14 +174,14 @@ LetsOut page written (Err fault) page' written' =
 
 -- what is told of the next record was said, or there is none; or with it all ends, since a fault stands there or a write
 -- failed
-abbrev pub SaysOn : {X : Type 0} → Reader X → Telling X → ℕ → List ℕ → List ℕ → List ℕ → Result Bool FileFault → List ℕ → Option (List ℕ) → List ℕ → Option (List ℕ) → Type 0
+abbrev pub SaysOn : {X : Type 0} → Reader X → RecordTelling X → ℕ → List ℕ → List ℕ → List ℕ → Result Bool FileFault → List ℕ → Option (List ℕ) → List ℕ → Option (List ℕ) → Type 0
 SaysOn next lines number bytes was said (Ok more) window left page written = SaysNext next lines number bytes was said (Ok more) window left page written
 SaysOn next lines number bytes was said (Err fault) window left page written = SaysFrom next lines number bytes was said (Err fault) left page written
 
 -- whether nothing was said, since there is no record, or a fault stands there
-abbrev pub says_nothing : Result Bool FileFault → Bool
-says_nothing (Ok more) = not more
-says_nothing (Err fault) = not (is_write fault)
+abbrev pub said_nothing : Result Bool FileFault → Bool
+said_nothing (Ok more) = not more
+said_nothing (Err fault) = not (is_write fault)
 
 -- how many bytes may not be paid of what was written
 abbrev pub unpaid_after : Result Bool FileFault → List ℕ → ℕ
@@ -198,7 +198,7 @@ unpaid_out (Err fault) waits = lost_pieces true
 -- ---- files
 
 -- all that is told of a file was said
-abbrev pub SaysFile : Told → List ℕ → List ℕ → Option FileFault → List ℕ → Option (List ℕ) → Type 0
+abbrev pub SaysFile : TextTold → List ℕ → List ℕ → Option FileFault → List ℕ → Option (List ℕ) → Type 0
 SaysFile told bytes was fault page written = (text : List ℕ) × told bytes text fault × SaidSoFar was page written text
 
 -- what is told of the bytes that came before a failed read was said
@@ -207,11 +207,11 @@ SaysCutFile cut bytes was left page written =
     (given : List ℕ) × (rest : List ℕ) × (text : List ℕ) × (bytes ≡ given ++ rest) × (left ≡ Some rest) × cut given text × SaidSoFar was page written text
 
 -- a beginning of what is told of a file was said
-abbrev pub BreaksFile : Told → List ℕ → List ℕ → Option (List ℕ) → Type 0
+abbrev pub BreaksFile : TextTold → List ℕ → List ℕ → Option (List ℕ) → Type 0
 BreaksFile told bytes was written = (fault : Option FileFault) × (lost : List ℕ) × SaysFile told bytes was fault lost written
 
 -- what was said of a file, and what is answered
-abbrev pub Says : Told → ToldCut → List ℕ → List ℕ → Result Unit FileFault → Option (List ℕ) → List ℕ → Option (List ℕ) → Type 0
-Says told cut bytes was (Ok done) left page written = SaysFile told bytes was None page written
-Says told cut bytes was (Err fault) left page written =
+abbrev pub SaysOfFile : TextTold → ToldCut → List ℕ → List ℕ → Result Unit FileFault → Option (List ℕ) → List ℕ → Option (List ℕ) → Type 0
+SaysOfFile told cut bytes was (Ok done) left page written = SaysFile told bytes was None page written
+SaysOfFile told cut bytes was (Err fault) left page written =
     MatchFault (λ f. SaysFile told bytes was (Some f) page written) (SaysCutFile cut bytes was left page written) (BreaksFile told bytes was written) fault

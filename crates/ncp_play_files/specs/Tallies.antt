@@ -31,17 +31,17 @@ JudgesNext version bytes (Err fault) window left = Stops (next_in version) bytes
 -- ---- the counts
 
 -- one more, where a test passes
-abbrev pub one_more : Bool → ℕ → ℕ
-one_more passes number = if passes then number_after number else number
+abbrev pub one_more_where : Bool → ℕ → ℕ
+one_more_where passes number = if passes then number_after number else number
 
 -- the counts with one message more
 abbrev pub tally_with : Tally → Verdict → Tally
 tally_with tally verdict = record {
   messages = number_after tally.messages;
-  short = one_more (is_short verdict) tally.short;
-  regular = one_more (is_of_type_0 verdict) tally.regular;
-  faults = one_more (is_faulty verdict) tally.faults;
-  bad = one_more (is_bad verdict) tally.bad;
+  short = one_more_where (is_short verdict) tally.short;
+  regular = one_more_where (is_of_type_0 verdict) tally.regular;
+  faults = one_more_where (is_faulty verdict) tally.faults;
+  bad = one_more_where (is_bad verdict) tally.bad;
 }
 
 -- what so many messages of each verdict are together

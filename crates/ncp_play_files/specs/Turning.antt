@@ -7,7 +7,7 @@ use Rattle.ncp_play_files.specs.declared.version.Version.{Version}
 use Rattle.ncp_play_files.specs.declared.version.Passage.{Passage}
 use Rattle.ncp_play_files.specs.Results.{MatchFault}
 use Rattle.ncp_play_files.specs.File.{HoldsBy}
-use Rattle.ncp_play_files.specs.Versions.{bytes_at}
+use Rattle.ncp_play_files.specs.Versions.{bytes_with_passage}
 use Rattle.ncp_play_files.specs.Converted.{direction_behind, file_to}
 use Rattle.ncp_play_files.specs.Steps.{Reader, Stops, IsInside}
 use Rattle.ncp_play_stream.specs.Streams.{Ahead, SaidSoFar}
@@ -25,7 +25,7 @@ FindsDirection version bytes (Err fault) window left = MatchFault (λ f. ⊥) (l
 
 -- what is told of a message: its record with this passage
 abbrev pub message_told : Passage → ℕ → List Bool → List ℕ
-message_told passage number message = bytes_at passage message
+message_told passage number message = bytes_with_passage passage message
 
 -- the file of these messages was said
 abbrev pub SaysMessages : Version → Passage → Reader (List Bool) → List ℕ → List ℕ → Option FileFault → Option FileFault → List ℕ → Option (List ℕ) → Type 0

@@ -18,8 +18,8 @@ pub record Recorded : Type 0 where
   pub message : List Bool
 
 -- the passage of each message of a file of version 1, which names no host
-abbrev pub plain : Direction → Passage
-plain direction = record { direction = direction; at = None }
+abbrev pub passage_without_host : Direction → Passage
+passage_without_host direction = record { direction = direction; at = None }
 
 -- a passage at the interface of a host
 abbrev pub placed : Direction → ℕ → Passage
@@ -28,9 +28,9 @@ placed direction host = record { direction = direction; at = Some host }
 -- ---- reading
 
 -- the byte of a direction: the last of its header in version 1
-abbrev pub byte_of : Direction → ℕ
-byte_of ToImp = 72
-byte_of FromImp = 73
+abbrev pub byte_of_direction : Direction → ℕ
+byte_of_direction ToImp = 72
+byte_of_direction FromImp = 73
 
 -- the direction that a byte names, if it names one
 abbrev pub direction_by : ℕ → Option Direction
@@ -68,7 +68,7 @@ behind_passage (Err fault) = Err fault
 
 -- the record at the front of bytes, or the fault that stands there
 abbrev pub next_in : Version → List ℕ → Result NextRecorded FileFault
-next_in (One direction) bytes = recorded (plain direction) (Ok None) (next_record bytes)
+next_in (One direction) bytes = recorded (passage_without_host direction) (Ok None) (next_record bytes)
 next_in Two bytes = behind_passage (next_passage bytes)
 
 -- ---- written files
@@ -81,18 +81,18 @@ header_of Two = codes "NCPJ"
 -- what stands in front of a message: its direction and its host, if the host is named
 abbrev pub passage_bytes : Direction → Option ℕ → List ℕ
 passage_bytes direction None = []
-passage_bytes direction (Some host) = byte_of direction ∷ host ∷ []
+passage_bytes direction (Some host) = byte_of_direction direction ∷ host ∷ []
 
-abbrev pub bytes_at : Passage → List Bool → List ℕ
-bytes_at passage message = passage_bytes passage.direction passage.at ++ record_bytes message
+abbrev pub bytes_with_passage : Passage → List Bool → List ℕ
+bytes_with_passage passage message = passage_bytes passage.direction passage.at ++ record_bytes message
 
 abbrev pub bytes_of_record : Recorded → List ℕ
-bytes_of_record written = bytes_at written.passage written.message
+bytes_of_record written = bytes_with_passage written.passage written.message
 
 -- a record that a file of a version can have: in version 1 it has the direction of the file and names no host, in
 -- version 2 it names one
 abbrev pub IsOf : Version → Recorded → Type 0
-IsOf (One direction) written = (written.passage ≡ plain direction) × (length written.message ≤ MAX_BITS)
+IsOf (One direction) written = (written.passage ≡ passage_without_host direction) × (length written.message ≤ MAX_BITS)
 IsOf Two written = (host : ℕ) × (written.passage ≡ placed written.passage.direction host) × (length written.message ≤ MAX_BITS)
 
 -- a file of these records

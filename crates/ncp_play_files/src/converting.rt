@@ -5,7 +5,7 @@ ghost use Rattle.ncp_play_page.specs.Outlets.{SameOutlet, written_by, write_fail
 ghost use Rattle.ncp_play_stream.specs.Pieces.{reads_for, lost_pieces, unpaid};
 ghost use Rattle.ncp_play_files.specs.Results.{is_read_failed, is_write_failed};
 ghost use Rattle.ncp_play_files.specs.Waiting.{is_waiting};
-ghost use Rattle.ncp_play_files.specs.Steps.{SaysNext, SaysOn, SaysFrom, Says, says_nothing, unpaid_after};
+ghost use Rattle.ncp_play_files.specs.Steps.{SaysNext, SaysOn, SaysFrom, SaysOfFile, said_nothing, unpaid_after};
 ghost use Rattle.ncp_play_files.specs.Converted.{other_version, passage_in, next_at, ConvertedAs, ConvertedCut, Converted};
 ghost use Rattle.ncp_play_files.specs.Turning.{ReadsMessage, FindsDirection, message_told, SaysTurned};
 
@@ -189,9 +189,9 @@ fn convert_next<S: Source, W: Sink>(
     ensures taken { IfOk result (λ more. more ≡ true → slack S.Source input.old ≤ slack S.Source input.new) }
     ensures effort { IfOk result (λ more. more ≡ true → work S.Source input.new < work S.Source input.old) }
     ensures lowers { reads_left S.Source input.new ≤ reads_left S.Source input.old }
-    ensures waited { says_nothing result ≡ false
+    ensures waited { said_nothing result ≡ false
         → is_waiting turn.from input.old.window.now ≡ true → reads_left S.Source input.new < reads_left S.Source input.old }
-    ensures kept { says_nothing result ≡ true → out.new.page.now ≡ out.old.page.now }
+    ensures kept { said_nothing result ≡ true → out.new.page.now ≡ out.old.page.now }
     ensures same_inlet { SameInlet input.old input.new }
     ensures same_outlet { SameOutlet out.old out.new }
 {
@@ -292,7 +292,7 @@ fn convert_file<S: Source, W: Sink>(
     requires page { out.old.page.now ≡ [] }
     ensures told { (bytes : List ℕ) (was : List ℕ)
         → left_in S.Source input.old ≡ Some bytes → written_by W.Sink out.old ≡ Some was
-        → Says (ConvertedAs at) (ConvertedCut at) bytes was result (left_in S.Source input.new) out.new.page.now (written_by W.Sink out.new) }
+        → SaysOfFile (ConvertedAs at) (ConvertedCut at) bytes was result (left_in S.Source input.new) out.new.page.now (written_by W.Sink out.new) }
     ensures source_mark { read_failed S.Source input.new ≡ (read_failed S.Source input.old || is_read_failed result) }
     ensures writes { PaidBy S.Source W.Sink out.old input.old out.new input.new (unpaid (is_write_failed result)) }
     ensures sink_mark { write_failed W.Sink out.new ≡ (write_failed W.Sink out.old || is_write_failed result) }

@@ -4,7 +4,7 @@ ghost use Rattle.ncp_play_page.specs.Outlets.{SameOutlet, write_failed, credit, 
 ghost use Rattle.ncp_numbers.specs.Bytes.{bytes_of};
 ghost use Rattle.ncp_leader.specs.Message.{message_in};
 ghost use Rattle.ncp_play_page.specs.Lines.{field, hex_of};
-ghost use Rattle.ncp_play_files.specs.Lines.{command_words, item_line, control_lines, text_word, text_line, size_line, fault_line, text_lines, message_lines};
+ghost use Rattle.ncp_play_files.specs.Lines.{command_words, item_line, control_lines, text_word, text_line, size_line, message_fault_line, text_lines, message_lines};
 ghost use Rattle.ncp_play_stream.specs.Pieces.{lost_pieces};
 
 use crate::control::is_of_control;
@@ -229,7 +229,7 @@ fn push_size(page: &mut Page, message: &Regular<'_>)
 // Appends the line of a message's fault.
 fn push_fault(page: &mut Page, fault: MessageFault)
     requires { length page.old + LONGEST_LINE ≤ PAGE_SIZE }
-    ensures { page.new ≡ page.old ++ fault_line fault }
+    ensures { page.new ≡ page.old ++ message_fault_line fault }
 {
     page.push_text(b"  fault ");
     page.push_text(fault.name().as_bytes());
@@ -262,7 +262,7 @@ fn say_size<W: Sink>(out: &mut Outlet<'_, W>, message: &Regular<'_>) -> Result<(
 
 // Says the line of a message's fault.
 fn say_fault<W: Sink>(out: &mut Outlet<'_, W>, fault: MessageFault) -> Result<(), Failed>
-    ensures told { SaysOrBreaks W.Sink out.old (fault_line fault) result out.new }
+    ensures told { SaysOrBreaks W.Sink out.old (message_fault_line fault) result out.new }
     ensures writes { credit W.Sink out.old ≤ credit W.Sink out.new + lost_pieces (is_err result) }
     ensures mark { write_failed W.Sink out.new ≡ (write_failed W.Sink out.old || is_err result) }
     ensures same_outlet { SameOutlet out.old out.new }

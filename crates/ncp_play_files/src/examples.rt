@@ -3,7 +3,7 @@ ghost use Rattle.std.specs.Prelude.{◌≡◌, ℕ, true, false, [], ◌∷◌, 
 ghost use Rattle.ncp_numbers.specs.Bytes.{bits_of_bytes};
 ghost use Rattle.ncp_play_files.specs.Checked.{verdict_of, is_sound, tally_line};
 ghost use Rattle.ncp_play_files.specs.Converted.{same_passage};
-ghost use Rattle.ncp_play_files.specs.Versions.{plain, placed};
+ghost use Rattle.ncp_play_files.specs.Versions.{passage_without_host, placed};
 ghost use Rattle.ncp_play_files.specs.declared.file.Direction.TheVariants.{ToImp, FromImp};
 ghost use Rattle.ncp_play_files.specs.declared.tally.Verdict.TheVariants as is;
 
@@ -38,6 +38,6 @@ pub fn passages_are_told_apart()
     ensures same { same_passage (placed ToImp 1) (placed ToImp 1) ≡ true }
     ensures host { same_passage (placed ToImp 1) (placed ToImp 2) ≡ false }
     ensures direction { same_passage (placed ToImp 1) (placed FromImp 1) ≡ false }
-    ensures plain { same_passage (plain FromImp) (plain FromImp) ≡ true }
-    ensures placed { same_passage (plain ToImp) (placed ToImp 0) ≡ false }
+    ensures plain { same_passage (passage_without_host FromImp) (passage_without_host FromImp) ≡ true }
+    ensures placed { same_passage (passage_without_host ToImp) (placed ToImp 0) ≡ false }
 {}

@@ -1,9 +1,9 @@
 //! Laws about message files, each the contract of a function that does nothing.
 ghost use Rattle.std.specs.Prelude.{◌≡◌, ◌≤◌, ◌<◌, ◌↔◌, ℕ, List, [], ◌∷◌, ◌++◌, length, All, Bool, true, false, IsTrue, Option, Some, None, Ok, Err};
 ghost use Rattle.ncp_play_files.specs.File.{HoldsBy, next_record, version_of, record_bytes};
-ghost use Rattle.ncp_play_files.specs.Versions.{Recorded, plain, next_in, IsOf, bytes_of_record, file_bytes};
+ghost use Rattle.ncp_play_files.specs.Versions.{Recorded, passage_without_host, next_in, IsOf, bytes_of_record, file_bytes};
 ghost use Rattle.ncp_play_files.specs.Converted.{ConvertedAs, file_to};
-ghost use Rattle.ncp_play_files.specs.Reasons.{first_of, reasons_at, placed_reasons_at};
+ghost use Rattle.ncp_play_files.specs.Reasons.{first_fault_of, reasons_at, placed_reasons_at};
 ghost use Rattle.ncp_play_files.specs.Checked.{FileHolds};
 ghost use Rattle.ncp_play_files.specs.Waiting.{is_waiting};
 
@@ -40,9 +40,9 @@ pub fn records_are_told_apart()
         → (next_record bytes ≡ Ok (Some (message, rest))) ↔ ((length message ≤ MAX_BITS) × (bytes ≡ record_bytes message ++ rest)) }
     ensures end { (bytes : List ℕ) → (next_record bytes ≡ Ok None) ↔ (bytes ≡ []) }
     ensures fault { (bytes : List ℕ) (fault : FileFault) → 0 < length bytes
-        → (next_record bytes ≡ Err fault) ↔ (first_of (reasons_at bytes) ≡ Some fault) }
+        → (next_record bytes ≡ Err fault) ↔ (first_fault_of (reasons_at bytes) ≡ Some fault) }
     ensures placed { (bytes : List ℕ) (fault : FileFault) → 0 < length bytes
-        → (next_in Version.Two bytes ≡ Err fault) ↔ (first_of (placed_reasons_at bytes) ≡ Some fault) }
+        → (next_in Version.Two bytes ≡ Err fault) ↔ (first_fault_of (placed_reasons_at bytes) ≡ Some fault) }
 {}
 
 /// A file of version 1 with at least one message, turned into one of version 2 and back with the same
@@ -50,8 +50,8 @@ pub fn records_are_told_apart()
 pub fn files_return()
     ensures { (direction : Direction) (host : ℕ) (message : List Bool) (messages : List (List Bool)) (there back : List ℕ) (fault other : Option FileFault)
         → All (λ m. length m ≤ MAX_BITS) (message ∷ messages)
-        → ConvertedAs host (file_to (Version.One direction) (plain direction) (message ∷ messages) None) there fault → ConvertedAs host there back other
-        → (fault ≡ None) × (other ≡ None) × (back ≡ file_to (Version.One direction) (plain direction) (message ∷ messages) None) }
+        → ConvertedAs host (file_to (Version.One direction) (passage_without_host direction) (message ∷ messages) None) there fault → ConvertedAs host there back other
+        → (fault ≡ None) × (other ≡ None) × (back ≡ file_to (Version.One direction) (passage_without_host direction) (message ∷ messages) None) }
 {}
 
 /// For a record is waited, worked: in front of it, inside its length and inside its message, and no more where its last

@@ -1,7 +1,7 @@
 //! The lines of a record.
 ghost use Rattle.std.specs.Prelude.{◌≡◌, ◌+◌, ◌≤◌, ◌||◌, ◌++◌, decimal, is_err};
 ghost use Rattle.ncp_play_page.specs.Outlets.{SameOutlet, write_failed, credit, SaysOrBreaks};
-ghost use Rattle.ncp_play_files.specs.Lines.{passage_words, summary, is_regular, record_lines};
+ghost use Rattle.ncp_play_files.specs.Lines.{passage_words, summary, is_regular_leader, record_lines};
 ghost use Rattle.ncp_play_stream.specs.Pieces.{lost_pieces};
 
 use crate::detail::say_details_in;
@@ -32,7 +32,7 @@ fn say_first_line<W: Sink>(
 
 // Whether a message is of the type that has details.
 fn has_details(leader: &Result<Leader, Short>) -> bool
-    ensures { result ≡ is_regular leader.now }
+    ensures { result ≡ is_regular_leader leader.now }
 {
     match leader {
         Ok(leader) => leader.kind == REGULAR,

@@ -7,7 +7,7 @@ ghost use Rattle.ncp_play_files.specs.Results.{is_read_failed, is_write_failed};
 ghost use Rattle.ncp_play_files.specs.Versions.{next_in};
 ghost use Rattle.ncp_play_files.specs.Lines.{record_lines};
 ghost use Rattle.ncp_play_files.specs.Waiting.{is_waiting};
-ghost use Rattle.ncp_play_files.specs.Steps.{SaysNext, SaysOn, SaysFrom, Says, says_nothing, unpaid_after};
+ghost use Rattle.ncp_play_files.specs.Steps.{SaysNext, SaysOn, SaysFrom, SaysOfFile, said_nothing, unpaid_after};
 ghost use Rattle.ncp_play_files.specs.Shown.{ShownAs, ShownCut, Shown};
 
 use crate::file::{FileFault, message_of, skip_record};
@@ -34,9 +34,9 @@ fn show_next<S: Source, W: Sink, R: Records>(
     ensures taken { IfOk result (λ more. more ≡ true → slack S.Source input.old ≤ slack S.Source input.new) }
     ensures effort { IfOk result (λ more. more ≡ true → work S.Source input.new < work S.Source input.old) }
     ensures lowers { reads_left S.Source input.new ≤ reads_left S.Source input.old }
-    ensures waited { says_nothing result ≡ false
+    ensures waited { said_nothing result ≡ false
         → is_waiting (R.version records) input.old.window.now ≡ true → reads_left S.Source input.new < reads_left S.Source input.old }
-    ensures kept { says_nothing result ≡ true → out.new.page.now ≡ out.old.page.now }
+    ensures kept { said_nothing result ≡ true → out.new.page.now ≡ out.old.page.now }
     ensures same_inlet { SameInlet input.old input.new }
     ensures same_outlet { SameOutlet out.old out.new }
 {
@@ -116,7 +116,7 @@ fn show_file<S: Source, W: Sink>(
     requires page { out.old.page.now ≡ [] }
     ensures told { (bytes : List ℕ) (was : List ℕ)
         → left_in S.Source input.old ≡ Some bytes → written_by W.Sink out.old ≡ Some was
-        → Says ShownAs ShownCut bytes was result (left_in S.Source input.new) out.new.page.now (written_by W.Sink out.new) }
+        → SaysOfFile ShownAs ShownCut bytes was result (left_in S.Source input.new) out.new.page.now (written_by W.Sink out.new) }
     ensures source_mark { read_failed S.Source input.new ≡ (read_failed S.Source input.old || is_read_failed result) }
     ensures writes { PaidBy S.Source W.Sink out.old input.old out.new input.new (unpaid (is_write_failed result)) }
     ensures sink_mark { write_failed W.Sink out.new ≡ (write_failed W.Sink out.old || is_write_failed result) }

@@ -4,7 +4,7 @@ ghost use Rattle.ncp_play_page.specs.Outlets.{SameOutlet, write_failed, credit, 
 ghost use Rattle.ncp_numbers.specs.Bytes.{bytes_of};
 ghost use Rattle.ncp_play_stream.specs.Pieces.{lost_pieces};
 ghost use Rattle.ncp_play_files.specs.File.{record_bytes};
-ghost use Rattle.ncp_play_files.specs.Versions.{byte_of, header_of, passage_bytes, bytes_at};
+ghost use Rattle.ncp_play_files.specs.Versions.{byte_of_direction, header_of, passage_bytes, bytes_with_passage};
 
 use crate::file::Direction;
 use crate::version::{HEADER, Passage, Version};
@@ -37,7 +37,7 @@ pub fn push_header(page: &mut Page, version: Version)
 
 // The byte of a direction.
 fn byte_of(direction: Direction) -> u8
-    ensures { result ≡ byte_of direction }
+    ensures { result ≡ byte_of_direction direction }
 {
     match direction {
         Direction::ToImp => b'H',
@@ -82,7 +82,7 @@ fn push_passage(page: &mut Page, passage: Passage)
 // Appends the record of a message: of version 2 where its passage names a host, else of version 1.
 fn push_message(page: &mut Page, passage: Passage, message: &Bits)
     requires { length page.old + LONGEST_PLACED ≤ PAGE_SIZE }
-    ensures { page.new ≡ page.old ++ bytes_at passage message.now }
+    ensures { page.new ≡ page.old ++ bytes_with_passage passage message.now }
 {
     push_passage(page, passage);
     push_record(page, message);
@@ -97,7 +97,7 @@ pub fn say_message<W: Sink>(
     passage: Passage,
     message: &Bits,
 ) -> Result<(), Failed>
-    ensures told { SaysOrBreaks W.Sink out.old (bytes_at passage message.now) result out.new }
+    ensures told { SaysOrBreaks W.Sink out.old (bytes_with_passage passage message.now) result out.new }
     ensures writes { credit W.Sink out.old ≤ credit W.Sink out.new + lost_pieces (is_err result) }
     ensures mark { write_failed W.Sink out.new ≡ (write_failed W.Sink out.old || is_err result) }
     ensures same_outlet { SameOutlet out.old out.new }

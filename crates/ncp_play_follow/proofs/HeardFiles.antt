@@ -20,17 +20,17 @@ use Rattle.ncp_play_stream.proofs.Saying.{says_more, says_beginning_after}
 use Rattle.ncp_follow.specs.declared.follower.Follower.{Follower}
 use Rattle.ncp_play_follow.specs.ConnectionLines.{follow_lines}
 use Rattle.ncp_play_follow.specs.FollowedFiles.{after_seen, ShowsIn, Follows, FollowsBeginning}
-use Rattle.ncp_play_follow.specs.FollowSteps.{HearsThem, HearsFrom, HearsFile}
+use Rattle.ncp_play_follow.specs.FollowSteps.{HearsThem, FollowsFrom, HearsFile}
 
 -- ---- records from a number on
 
 module _ (follower : Follower) (number : ℕ) (bytes : List ℕ) where
   -- there is none
-  pub hears_end : (after : Follower) (left : Option (List ℕ)) → next_in Two bytes ≡ Ok None → after ≡ follower → HearsFrom follower number bytes (Ok tt) after left
+  pub hears_end : (after : Follower) (left : Option (List ℕ)) → next_in Two bytes ≡ Ok None → after ≡ follower → FollowsFrom follower number bytes (Ok tt) after left
   hears_end after left h a = ([], h, a)
 
   -- a fault stands there, or a read failed
-  pub hears_fault : (after : Follower) (left : Option (List ℕ)) (fault : FileFault) → Stops (next_in Two) bytes left fault → after ≡ follower → HearsFrom follower number bytes (Err fault) after left
+  pub hears_fault : (after : Follower) (left : Option (List ℕ)) (fault : FileFault) → Stops (next_in Two) bytes left fault → after ≡ follower → FollowsFrom follower number bytes (Err fault) after left
   hears_fault after left BadHeader h a = ([], h, a)
   hears_fault after left Truncated h a = ([], h, a)
   hears_fault after left TooLong h a = ([], h, a)
@@ -42,7 +42,7 @@ module _ (follower : Follower) (number : ℕ) (bytes : List ℕ) where
 
   -- a record in front of others
   pub hears_more : (after : Follower) (left : Option (List ℕ)) (seen : Recorded) (rest : List ℕ) (r : Result Unit FileFault) → next_in Two bytes ≡ Ok (Some (seen, rest))
-      → HearsFrom (after_seen follower number seen) (number_after number) rest r after left → HearsFrom follower number bytes r after left
+      → FollowsFrom (after_seen follower number seen) (number_after number) rest r after left → FollowsFrom follower number bytes r after left
   hears_more after left seen rest (Ok done) h k = (seen ∷ k.0, (rest, h, k.1), k.2)
   hears_more after left seen rest (Err BadHeader) h k = (seen ∷ k.0, (rest, h, k.1), k.2)
   hears_more after left seen rest (Err Truncated) h k = (seen ∷ k.0, (rest, h, k.1), k.2)
@@ -83,7 +83,7 @@ module _ (follower after : Follower) (bytes : List ℕ) where
   file_plain left direction h a = subst (ShowsIn follower bytes (Some BadHeader) after) (sym h) (a, refl)
 
   -- the records behind a header of version 2
-  pub file_heard : (left : Option (List ℕ)) (r : Result Unit FileFault) → version_of bytes ≡ Some Two → HearsFrom follower 1 (drop 4 bytes) r after left → HearsFile follower bytes r after left
+  pub file_heard : (left : Option (List ℕ)) (r : Result Unit FileFault) → version_of bytes ≡ Some Two → FollowsFrom follower 1 (drop 4 bytes) r after left → HearsFile follower bytes r after left
   file_heard left (Ok done) h k = subst (ShowsIn follower bytes None after) (sym h) k
   file_heard left (Err BadHeader) h k = subst (ShowsIn follower bytes (Some BadHeader) after) (sym h) k
   file_heard left (Err Truncated) h k = subst (ShowsIn follower bytes (Some Truncated) after) (sym h) k

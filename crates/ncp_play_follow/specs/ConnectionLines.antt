@@ -11,8 +11,8 @@ use Rattle.ncp_follow.specs.declared.session.Session.{Session}
 use Rattle.ncp_follow.specs.declared.follower.Follower.{Follower}
 
 -- numbers of messages and of bits behind their name
-unfoldable pub amount_words : List ℕ → Amount → List ℕ
-amount_words name amount = field name amount.messages ++ field (codes "/") amount.bits
+unfoldable pub followed_amount_words : List ℕ → Amount → List ℕ
+followed_amount_words name amount = field name amount.messages ++ field (codes "/") amount.bits
 
 -- the host sends from an odd socket
 abbrev pub way_word : ℕ → List ℕ
@@ -53,7 +53,7 @@ unfoldable pub life_words : Connection → List ℕ
 life_words connection = which_words connection ++ socket_words connection ++ end_words connection ++ said_words connection
 
 unfoldable pub allocation_words : Connection → List ℕ
-allocation_words connection = amount_words (codes " granted=") connection.granted ++ amount_words (codes " returned=") connection.returned
+allocation_words connection = followed_amount_words (codes " granted=") connection.granted ++ followed_amount_words (codes " returned=") connection.returned
 
 abbrev pub connection_line : Connection → List ℕ
 connection_line connection = life_words connection ++ allocation_words connection ++ codes "\n"
@@ -75,16 +75,16 @@ unfoldable pub connection_lines : Connection → List ℕ
 connection_lines connection = connection_line connection ++ said_line connection
 
 -- no text was outside of connections
-abbrev pub is_quiet : Session → Bool
-is_quiet session = session.sent.messages == 0 && session.came.messages == 0
+abbrev pub is_session_quiet : Session → Bool
+is_session_quiet session = session.sent.messages == 0 && session.came.messages == 0
 
 abbrev pub stray_words : Session → List ℕ
 stray_words session =
-    field (codes "- at=") session.at ++ field (codes " host=") session.peer ++ amount_words (codes " sent=") session.sent
-    ++ amount_words (codes " came=") session.came ++ codes "\n"
+    field (codes "- at=") session.at ++ field (codes " host=") session.peer ++ followed_amount_words (codes " sent=") session.sent
+    ++ followed_amount_words (codes " came=") session.came ++ codes "\n"
 
 unfoldable pub stray_line : Session → List ℕ
-stray_line session = if is_quiet session then [] else stray_words session
+stray_line session = if is_session_quiet session then [] else stray_words session
 
 -- those of all connections, in the order of opening, and then of what belongs to none
 abbrev pub follow_lines : Follower → List ℕ

@@ -3,5 +3,5 @@ use Rattle.std.specs.Prelude.{ℕ, List, map}
 use Rattle.ncp_play_follow.specs.declared.ends.TheConstants.{ENDS}
 
 -- each word with the text beside it
-abbrev pub ends : List (List ℕ × List ℕ)
-ends = map (λ entry. (entry.0.now, entry.1.now)) ENDS.now
+abbrev pub ends_by_word : List (List ℕ × List ℕ)
+ends_by_word = map (λ entry. (entry.0.now, entry.1.now)) ENDS.now

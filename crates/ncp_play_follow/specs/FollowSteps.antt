@@ -11,11 +11,11 @@ use Rattle.ncp_follow.specs.declared.follower.Follower.{Follower}
 use Rattle.ncp_play_follow.specs.FollowedFiles.{after_seen, after_all, ShowsFile}
 
 -- the next record was heard, or there is none, or a fault stands there
-abbrev pub HearsNext : Follower → ℕ → List ℕ → Result Bool FileFault → Follower → List ℕ → Option (List ℕ) → Type 0
-HearsNext follower number bytes (Ok true) after window left =
+abbrev pub FollowsNext : Follower → ℕ → List ℕ → Result Bool FileFault → Follower → List ℕ → Option (List ℕ) → Type 0
+FollowsNext follower number bytes (Ok true) after window left =
     (seen : Recorded) × (rest : List ℕ) × (next_in Two bytes ≡ Ok (Some (seen, rest))) × Ahead window left rest × (after ≡ after_seen follower number seen)
-HearsNext follower number bytes (Ok false) after window left = (next_in Two bytes ≡ Ok None) × (after ≡ follower)
-HearsNext follower number bytes (Err fault) after window left = Stops (next_in Two) bytes left fault × (after ≡ follower)
+FollowsNext follower number bytes (Ok false) after window left = (next_in Two bytes ≡ Ok None) × (after ≡ follower)
+FollowsNext follower number bytes (Err fault) after window left = Stops (next_in Two) bytes left fault × (after ≡ follower)
 
 -- the records from a number on were heard, and then the bytes end, or a fault stands there
 abbrev pub HearsThem : Follower → ℕ → List ℕ → Option FileFault → Follower → Type 0
@@ -27,9 +27,9 @@ HearsSome follower number bytes after left =
     (given : List ℕ) × (rest : List ℕ) × (ends : Option FileFault) × (bytes ≡ given ++ rest) × (left ≡ Some rest) × IsInside ends
     × HearsThem follower number given ends after
 
-abbrev pub HearsFrom : Follower → ℕ → List ℕ → Result Unit FileFault → Follower → Option (List ℕ) → Type 0
-HearsFrom follower number bytes (Ok done) after left = HearsThem follower number bytes None after
-HearsFrom follower number bytes (Err fault) after left =
+abbrev pub FollowsFrom : Follower → ℕ → List ℕ → Result Unit FileFault → Follower → Option (List ℕ) → Type 0
+FollowsFrom follower number bytes (Ok done) after left = HearsThem follower number bytes None after
+FollowsFrom follower number bytes (Err fault) after left =
     MatchFault (λ f. HearsThem follower number bytes (Some f) after) (HearsSome follower number bytes after left) ⊥ fault
 
 -- a file was heard

@@ -13,7 +13,7 @@ use Rattle.ncp_play_files.specs.Versions.{Recorded, next_in}
 use Rattle.ncp_play_files.specs.Writing.{Wrote, WritesAll, WritesRead}
 use Rattle.ncp_play_page.specs.Lines.{number_after}
 use Rattle.ncp_follow.specs.declared.follower.Follower.{Follower}
-use Rattle.ncp_follow.specs.Followed.{after_record}
+use Rattle.ncp_follow.specs.Followed.{follower_after_record}
 use Rattle.ncp_play_follow.specs.ConnectionLines.{follow_lines}
 
 -- the host at whose interface a record is; each record of version 2 names one
@@ -28,7 +28,7 @@ is_sent FromImp = false
 
 -- after a record with this number, and after records from this number on
 abbrev pub after_seen : Follower → ℕ → Recorded → Follower
-after_seen follower number seen = after_record number (is_sent seen.passage.direction) (host_of seen.passage.at) seen.message follower
+after_seen follower number seen = follower_after_record number (is_sent seen.passage.direction) (host_of seen.passage.at) seen.message follower
 
 abbrev pub after_all : Follower → ℕ → List Recorded → Follower
 after_all follower number [] = follower

@@ -12,7 +12,7 @@ use Rattle.ncp_play_files.specs.Versions.{Recorded, next_in}
 use Rattle.ncp_play_files.specs.Writing.{Wrote, WritesAll, WritesRead}
 use Rattle.ncp_play_page.specs.Lines.{number_after}
 use Rattle.ncp_follow.specs.declared.follower.Follower.{Follower}
-use Rattle.ncp_follow.specs.Connections.{place_of, numbered, text_in}
+use Rattle.ncp_follow.specs.Connections.{place_numbered, numbered, connection_text}
 use Rattle.ncp_follow.specs.Followed.{silent}
 use Rattle.ncp_play_follow.specs.FollowedFiles.{after_seen}
 
@@ -22,7 +22,7 @@ heard_alone wanted follower number seen = after_seen (silent wanted follower) nu
 
 -- what a record says on that connection: what stands in its text then; where there is no such connection, nothing
 abbrev pub said_by : ℕ → Follower → ℕ → Recorded → List Bool
-said_by wanted follower number seen = text_in (numbered (heard_alone wanted follower number seen).tables.told (place_of wanted))
+said_by wanted follower number seen = connection_text (numbered (heard_alone wanted follower number seen).tables.told (place_numbered wanted))
 
 -- what records from this number on say on it, joined
 abbrev pub said_in : ℕ → Follower → ℕ → List Recorded → List Bool

@@ -1,6 +1,6 @@
 //! What the words behind `by=` mean.
 ghost use Rattle.std.specs.Prelude.{◌≢◌, All, AllPairs, Contains, IfNone, IfSome};
-ghost use Rattle.ncp_play_follow.specs.Ends.{ends};
+ghost use Rattle.ncp_play_follow.specs.Ends.{ends_by_word};
 
 use ncp_play_faults::text_beside;
 
@@ -38,13 +38,13 @@ pub const ENDS: &[(&str, &str)] = &[
 
 /// What a word behind `by=` means, if it is one.
 pub fn end_meaning(name: &str) -> Option<&'static str>
-    ensures known { IfSome result (λ text. Contains ends (name.now, text.now)) }
-    ensures unknown { IfNone result (All (λ entry. entry.0 ≢ name.now) ends) }
+    ensures known { IfSome result (λ text. Contains ends_by_word (name.now, text.now)) }
+    ensures unknown { IfNone result (All (λ entry. entry.0 ≢ name.now) ends_by_word) }
 {
     text_beside(ENDS, name)
 }
 
 /// Each word behind `by=` stands in the table once, so it has one meaning.
 pub fn each_end_has_one_meaning()
-    ensures { AllPairs (λ one other. one.0 ≢ other.0) ends }
+    ensures { AllPairs (λ one other. one.0 ≢ other.0) ends_by_word }
 {}

@@ -6,7 +6,7 @@ ghost use Rattle.ncp_play_page.specs.Outlets.{SameOutlet, write_failed, credit, 
 ghost use Rattle.ncp_play_files.specs.Results.{is_read_failed, is_write_failed};
 ghost use Rattle.ncp_play_follow.specs.ConnectionLines.{follow_lines};
 ghost use Rattle.ncp_play_follow.specs.FollowedFiles.{host_of, is_sent, Follows};
-ghost use Rattle.ncp_play_follow.specs.FollowSteps.{HearsNext, HearsFrom, HearsFile};
+ghost use Rattle.ncp_play_follow.specs.FollowSteps.{FollowsNext, FollowsFrom, HearsFile};
 
 use crate::connection_line::say_connections;
 use crate::stray_line::say_strays;
@@ -41,7 +41,7 @@ fn hear_next<S: Source>(
     number: u32,
 ) -> Result<bool, FileFault>
     ensures told { (bytes : List ℕ) → Brings S.Source input.old bytes
-        → HearsNext follower.old number bytes result follower.new input.new.window.now (left_in S.Source input.new) }
+        → FollowsNext follower.old number bytes result follower.new input.new.window.now (left_in S.Source input.new) }
     ensures mark { read_failed S.Source input.new ≡ (read_failed S.Source input.old || is_read_failed result) }
     ensures other { is_write_failed result ≡ false }
     ensures reads { slack S.Source input.old ≤ slack S.Source input.new + 1 }
@@ -69,7 +69,7 @@ pub(crate) fn hear_on<S: Source>(
     number: u32,
 ) -> Result<bool, FileFault>
     ensures told { (bytes : List ℕ) → Brings S.Source input.old bytes
-        → HearsNext follower.old number bytes result follower.new input.new.window.now (left_in S.Source input.new) }
+        → FollowsNext follower.old number bytes result follower.new input.new.window.now (left_in S.Source input.new) }
     ensures mark { read_failed S.Source input.new ≡ (read_failed S.Source input.old || is_read_failed result) }
     ensures other { is_write_failed result ≡ false }
     ensures reads { slack S.Source input.old ≤ slack S.Source input.new + 1 }
@@ -93,7 +93,7 @@ fn hear_records<S: Source>(
     follower: &mut Follower,
 ) -> Result<(), FileFault>
     ensures told { (bytes : List ℕ) → Brings S.Source input.old bytes
-        → HearsFrom follower.old 1 bytes result follower.new (left_in S.Source input.new) }
+        → FollowsFrom follower.old 1 bytes result follower.new (left_in S.Source input.new) }
     ensures mark { read_failed S.Source input.new ≡ (read_failed S.Source input.old || is_read_failed result) }
     ensures other { is_write_failed result ≡ false }
     ensures reads { slack S.Source input.old ≤ slack S.Source input.new + 1 }

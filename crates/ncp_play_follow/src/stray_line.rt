@@ -1,7 +1,7 @@
 //! The lines of the texts that belong to no connection.
 ghost use Rattle.std.specs.Prelude.{◌≡◌, ◌+◌, ◌≤◌, ◌||◌, ◌++◌, length, is_err};
 ghost use Rattle.std.specs.List.{flat_map};
-ghost use Rattle.ncp_play_follow.specs.ConnectionLines.{is_quiet, stray_words, stray_line};
+ghost use Rattle.ncp_play_follow.specs.ConnectionLines.{is_session_quiet, stray_words, stray_line};
 ghost use Rattle.ncp_play_stream.specs.Pieces.{lost_pieces};
 ghost use Rattle.ncp_play_page.specs.Outlets.{SameOutlet, write_failed, credit, SaysOrBreaks};
 
@@ -15,7 +15,7 @@ const LONGEST_STRAY: usize = 96;
 
 // Whether no text was outside of connections.
 fn is_quiet(session: &Session) -> bool
-    ensures { result ≡ is_quiet session.now }
+    ensures { result ≡ is_session_quiet session.now }
 {
     session.sent.messages == 0 && session.came.messages == 0
 }

@@ -1,7 +1,7 @@
 //! `follow_text`: what was said on one connection of a file, as bytes.
 ghost use Rattle.std.specs.Prelude.{◌≡◌, ℕ, ◌+◌, ◌-◌, ◌*◌, ◌/◌, ◌%◌, ◌<◌, ◌≤◌, ◌||◌, ◌++◌, [], List, Bool, Option, Some, true, false, length, is_err, option_map, IfOk};
 ghost use Rattle.ncp_numbers.specs.Bytes.{bytes_of};
-ghost use Rattle.ncp_follow.specs.Connections.{text_in};
+ghost use Rattle.ncp_follow.specs.Connections.{connection_text};
 ghost use Rattle.ncp_play_stream.specs.Pieces.{reads_for, lost_pieces};
 ghost use Rattle.ncp_play_page.specs.Inlets.{SameInlet, left_in, read_failed, slack, work, Brings};
 ghost use Rattle.ncp_play_page.specs.Outlets.{SameOutlet, written_by, write_failed, credit, WritesOrBreaks};
@@ -93,7 +93,7 @@ fn say_text<W: Sink>(
     requires { length spare.old < BYTE }
     ensures said { (was : List ℕ) (bits : List Bool)
         → SaidBits was out.old.page.now (written_by W.Sink out.old) spare.old bits
-        → SaysBits result was out.new.page.now (written_by W.Sink out.new) spare.new bits (text_in (option_map (λ one. one.now) connection.entry)) }
+        → SaysBits result was out.new.page.now (written_by W.Sink out.new) spare.new bits (connection_text (option_map (λ one. one.now) connection.entry)) }
     ensures few { length spare.new < BYTE }
     ensures writes { credit W.Sink out.old ≤ credit W.Sink out.new + lost_pieces (is_err result) }
     ensures mark { write_failed W.Sink out.new ≡ (write_failed W.Sink out.old || is_err result) }

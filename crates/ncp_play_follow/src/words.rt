@@ -1,6 +1,6 @@
 //! Words of lines.
 ghost use Rattle.std.specs.Prelude.{◌≡◌, ◌+◌, ◌≤◌, ◌++◌, length};
-ghost use Rattle.ncp_play_follow.specs.ConnectionLines.{amount_words};
+ghost use Rattle.ncp_play_follow.specs.ConnectionLines.{followed_amount_words};
 
 use ncp_follow::Amount;
 use ncp_play_page::{PAGE_SIZE, Page, push_field};
@@ -9,11 +9,11 @@ use ncp_play_page::{PAGE_SIZE, Page, push_field};
 pub(crate) const LONGEST_AMOUNT: usize = 31;
 
 /// Appends numbers of messages and of bits behind their name.
-#[tactic(auto, unfolding(crate::specs::ConnectionLines::amount_words))]
+#[tactic(auto, unfolding(crate::specs::ConnectionLines::followed_amount_words))]
 pub(crate) fn push_amount(page: &mut Page, name: &[u8], amount: Amount)
     requires name { length name.now ≤ 10 }
     requires room { length page.old + LONGEST_AMOUNT ≤ PAGE_SIZE }
-    ensures bytes { page.new ≡ page.old ++ amount_words name.now amount }
+    ensures bytes { page.new ≡ page.old ++ followed_amount_words name.now amount }
     ensures len { length page.new ≤ length page.old + LONGEST_AMOUNT }
 {
     push_field(page, name, amount.messages);

@@ -3,42 +3,42 @@ use Rattle.std.specs.Result.{IfOk}
 use Rattle.std.proofs.Common.{◌≡◌, ℕ, Bool, true, List, Option, Some, None, Result, Ok, Err, sym, ap, ◌∙◌, subst}
 use Rattle.ncp_play_script.specs.declared.line_buffer.LineKind.{LineKind}
 use Rattle.ncp_play_script.specs.declared.line_buffer.LineKind.TheVariants as kinds
-use Rattle.ncp_play_script.specs.Lines.{text_of, kind_of}
+use Rattle.ncp_play_script.specs.Lines.{text_of_line, line_kind}
 use Rattle.ncp_play_script.specs.Words.{words_of}
 use Rattle.ncp_play_script.specs.Calls.{NamesGive}
 use Rattle.ncp_play_script.specs.Scripts as scripts
-use Rattle.ncp_play_script.specs.Scripts.{Line, Asked, Course, lines_of, said, ends, Faulty, Fed, judged, played, number_behind}
+use Rattle.ncp_play_script.specs.Scripts.{Line, AskedByLine, Course, lines_of, said, course_ends, Faulty, Fed, course_of_line, played, number_behind}
 use Rattle.ncp_transcript.specs.declared.input.Input.{Input}
 use Rattle.ncp_play_reader.specs.declared.lines.Lines.{Lines}
 use Rattle.ncp_play_reader.specs.declared.lines.NextLine.TheVariants as nexts
-use Rattle.ncp_play_reader.specs.NextLines.{Numbered, next_from, ended_lines, IsNext, ReadsNext}
+use Rattle.ncp_play_reader.specs.NextLines.{Numbered, next_from, ended_lines, IsNextLine, ReadsNextLine}
 use Rattle.ncp_play_reader.proofs.Nexts.{came_behind, last_behind}
 use Rattle.ncp_play_reader.proofs.Courses.{course_at, course_next}
 use Rattle.ncp_play_notes.specs.declared.fault.PlayFault.{PlayFault}
 use Rattle.ncp_play_notes.specs.declared.fault.PlayFault.TheVariants.{BadLine, LineTooLong, BadHosts, Feed, ReadFailed, WriteFailed, OutOfMemory}
 use Rattle.ncp_play_host.specs.declared.asking.NextAsked.{NextAsked}
 use Rattle.ncp_play_host.specs.declared.asking.NextAsked.TheVariants.{Over, FeedBehind, Does}
-use Rattle.ncp_play_host.specs.Asking.{asked_of, course_of, in_front, IsPlayedAs, IsBehind, AsksNext, goes_on}
+use Rattle.ncp_play_host.specs.Asking.{asked_of, course_of, in_front, IsPlayedAs, IsBehind, AsksNext, has_more_behind}
 
 -- what lines ask for, where the next is found
 course_found : (first : ℕ) (lines : List Line) (found : Option Numbered) → next_from first lines ≡ found → course_of first lines ≡ course_at asked_of found
 course_found first lines found e = course_next asked_of first lines ∙ ap (λ (f : Option Numbered). course_at asked_of f) e
 
 -- where it is of this kind
-course_kind : (first : ℕ) (lines : List Line) (number : ℕ) (line : Line) (behind : List Line) (kind : LineKind) → next_from first lines ≡ Some (number, line, behind) → kind_of (said line) ≡ kind
-    → course_of first lines ≡ judged number line kind (asked_of (words_of (said line))) (course_of (number_behind number) behind)
+course_kind : (first : ℕ) (lines : List Line) (number : ℕ) (line : Line) (behind : List Line) (kind : LineKind) → next_from first lines ≡ Some (number, line, behind) → line_kind (said line) ≡ kind
+    → course_of first lines ≡ course_of_line number line kind (asked_of (words_of (said line))) (course_of (number_behind number) behind)
 course_kind first lines number line behind kind found is =
-    course_found first lines (Some (number, line, behind)) found ∙ ap (λ k. judged number line k (asked_of (words_of (said line))) (course_of (number_behind number) behind)) is
+    course_found first lines (Some (number, line, behind)) found ∙ ap (λ k. course_of_line number line k (asked_of (words_of (said line))) (course_of (number_behind number) behind)) is
 
-pub asks_none : (first : ℕ) (lines : List Line) → next_from first lines ≡ None → course_of first lines ≡ ends scripts.Over
+pub asks_none : (first : ℕ) (lines : List Line) → next_from first lines ≡ None → course_of first lines ≡ course_ends scripts.Over
 asks_none first lines e = course_found first lines None e
 
-pub asks_too_long : (first : ℕ) (bytes : List ℕ) (number : ℕ) (now : Lines) (left : Option (List ℕ)) → ReadsNext first bytes (Ok (nexts.TooLong number)) now left → course_of first (lines_of bytes) ≡ ends (Faulty (scripts.LineTooLong number))
+pub asks_too_long : (first : ℕ) (bytes : List ℕ) (number : ℕ) (now : Lines) (left : Option (List ℕ)) → ReadsNextLine first bytes (Ok (nexts.TooLong number)) now left → course_of first (lines_of bytes) ≡ course_ends (Faulty (scripts.LineTooLong number))
 asks_too_long first bytes number now left read = let next = read.1 in course_kind first (lines_of bytes) number read.0 (lines_of read.0.behind) kinds.TooLong next.0 next.1
 
-module _ (first : ℕ) (bytes : List ℕ) (number : ℕ) (ended : Bool) (now : Lines) (left : Option (List ℕ)) (line : Line) (next : IsNext first bytes kinds.Played number line now.number now.window left) (is : line.ended ≡ ended) (text : text_of ended now.line ≡ said line) where
+module _ (first : ℕ) (bytes : List ℕ) (number : ℕ) (ended : Bool) (now : Lines) (left : Option (List ℕ)) (line : Line) (next : IsNextLine first bytes kinds.Played number line now.number now.window left) (is : line.ended ≡ ended) (text : text_of_line ended now.line ≡ said line) where
   abbrev words : List (List ℕ)
-  words = words_of (text_of ended now.line)
+  words = words_of (text_of_line ended now.line)
 
   abbrev behind : Course Input
   behind = course_of now.number (lines_of line.behind)
@@ -82,11 +82,11 @@ module _ (first : ℕ) (bytes : List ℕ) (number : ℕ) (ended : Bool) (now : L
   asks_as (Err ReadFailed) asks = absurd (asks line behind is)
   asks_as (Err WriteFailed) asks = absurd (asks line behind is)
 
-pub asks_played : (first : ℕ) (bytes : List ℕ) (number : ℕ) (ended : Bool) (now : Lines) (left : Option (List ℕ)) → ReadsNext first bytes (Ok (nexts.Played number ended)) now left → (parted : List (List ℕ)) → parted ≡ words_of (text_of ended now.line)
+pub asks_played : (first : ℕ) (bytes : List ℕ) (number : ℕ) (ended : Bool) (now : Lines) (left : Option (List ℕ)) → ReadsNextLine first bytes (Ok (nexts.Played number ended)) now left → (parted : List (List ℕ)) → parted ≡ words_of (text_of_line ended now.line)
     → (r : Result NextAsked PlayFault) → ((l : Line) (course : Course Input) → l.ended ≡ ended → IsPlayedAs number l parted course r) → AsksNext first bytes r now left
 asks_played first bytes number ended now left read parted e r asks =
     asks_as first bytes number ended now left read.0 read.1 read.2 read.3 r (subst (λ (w : List (List ℕ)). (l : Line) (course : Course Input) → l.ended ≡ ended → IsPlayedAs number l w course r) e asks)
 
-pub less_where_it_goes_on : (r : Result NextAsked PlayFault) (ended : Bool) (Less : Type 0) → IfOk r (λ next. goes_on next ≡ true → ended ≡ true) → (ended ≡ true → Less) → IfOk r (λ next. goes_on next ≡ true → Less)
+pub less_where_it_goes_on : (r : Result NextAsked PlayFault) (ended : Bool) (Less : Type 0) → IfOk r (λ next. has_more_behind next ≡ true → ended ≡ true) → (ended ≡ true → Less) → IfOk r (λ next. has_more_behind next ≡ true → Less)
 less_where_it_goes_on (Ok next) ended Less e less = λ on. less (e on)
 less_where_it_goes_on (Err fault) ended Less e less = tt

@@ -8,21 +8,21 @@ use Rattle.ncp_host.specs.declared.fault.HostFault.TheVariants.{BadPeers}
 use Rattle.ncp_host.specs.declared.fault.HostFault.TheVariants as faults
 use Rattle.ncp_transcript.specs.declared.note.HostNote.{HostNote}
 use Rattle.ncp_transcript.specs.Alone.{Alone}
-use Rattle.ncp_play_script.specs.Lines.{text_of, kind_of}
+use Rattle.ncp_play_script.specs.Lines.{text_of_line, line_kind}
 use Rattle.ncp_play_script.specs.Words.{words_of}
 use Rattle.ncp_play_script.specs.FirstLines.{Named, host_named, if_peers, first_of_host}
 use Rattle.ncp_play_script.specs.HostScripts.{host_script}
 use Rattle.ncp_play_script.specs.Scripts as scripts
-use Rattle.ncp_play_script.specs.Scripts.{Line, Course, Script, NoHosts, Plays, lines_of, said, begun, first_judged, script_from, number_behind}
+use Rattle.ncp_play_script.specs.Scripts.{Line, Course, Script, NoHosts, Plays, lines_of, said, script_begun, first_judged, script_from, number_behind}
 use Rattle.ncp_play_reader.specs.declared.lines.Lines.{Lines}
 use Rattle.ncp_play_reader.specs.declared.lines.NextLine.TheVariants as nexts
-use Rattle.ncp_play_reader.specs.NextLines.{Numbered, next_from, ended_lines, CameBefore, IsNext, ReadsNext}
+use Rattle.ncp_play_reader.specs.NextLines.{Numbered, next_from, ended_lines, CameBefore, IsNextLine, ReadsNextLine}
 use Rattle.ncp_play_reader.proofs.Nexts.{came_behind, last_behind}
 use Rattle.ncp_play_reader.proofs.Courses.{script_at, script_next}
 use Rattle.ncp_play_notes.specs.declared.fault.PlayFault.{PlayFault}
 use Rattle.ncp_play_notes.specs.declared.fault.PlayFault.TheVariants.{BadLine, LineTooLong, BadHosts, Feed, ReadFailed, WriteFailed, OutOfMemory}
 use Rattle.ncp_play_host.specs.Asking.{asked_of, course_of, script_of_lines}
-use Rattle.ncp_play_host.specs.Beginning.{begun_by, IsHostOf, IsBegun, Begins}
+use Rattle.ncp_play_host.specs.Beginning.{begun_by, IsHostOf, IsBegun, HostBegins}
 use Rattle.ncp_play_host.proofs.Named.{named_new}
 
 -- the script that lines are, where the first that is not skipped is found
@@ -30,7 +30,7 @@ script_found : (lines : List Line) (found : Option Numbered) → next_from 1 lin
 script_found lines found e = script_next first_of_host (λ hosts. asked_of) 1 lines ∙ ap (λ (f : Option Numbered). script_at first_of_host (λ hosts. asked_of) f) e
 
 -- where it is of this kind
-script_kind : (lines : List Line) (number : ℕ) (line : Line) (behind : List Line) (kind : LineKind) → next_from 1 lines ≡ Some (number, line, behind) → kind_of (said line) ≡ kind
+script_kind : (lines : List Line) (number : ℕ) (line : Line) (behind : List Line) (kind : LineKind) → next_from 1 lines ≡ Some (number, line, behind) → line_kind (said line) ≡ kind
     → script_of_lines lines ≡ first_judged number kind (first_of_host (words_of (said line))) (λ h. course_of (number_behind number) behind) (script_from first_of_host (λ hosts. asked_of) (number_behind number) behind)
 script_kind lines number line behind kind found is =
     script_found lines (Some (number, line, behind)) found
@@ -39,23 +39,23 @@ script_kind lines number line behind kind found is =
 pub begins_none : (lines : List Line) → next_from 1 lines ≡ None → script_of_lines lines ≡ NoHosts scripts.BadHosts
 begins_none lines e = script_found lines None e
 
-pub begins_too_long : (first : ℕ) (bytes : List ℕ) (number : ℕ) (now : Lines) (left : Option (List ℕ)) → first ≡ 1 → ReadsNext first bytes (Ok (nexts.TooLong number)) now left → host_script bytes ≡ NoHosts (scripts.LineTooLong number)
+pub begins_too_long : (first : ℕ) (bytes : List ℕ) (number : ℕ) (now : Lines) (left : Option (List ℕ)) → first ≡ 1 → ReadsNextLine first bytes (Ok (nexts.TooLong number)) now left → host_script bytes ≡ NoHosts (scripts.LineTooLong number)
 begins_too_long first bytes number now left one read =
     let next = read.1 in script_kind (lines_of bytes) number read.0 (lines_of read.0.behind) kinds.TooLong (ap (λ n. next_from n (lines_of bytes)) (sym one) ∙ next.0) next.1
 
-module _ (bytes : List ℕ) (number : ℕ) (ended : Bool) (now : Lines) (left : Option (List ℕ)) (line : Line) (next : IsNext 1 bytes kinds.Played number line now.number now.window left) (is : line.ended ≡ ended) (text : text_of ended now.line ≡ said line) where
+module _ (bytes : List ℕ) (number : ℕ) (ended : Bool) (now : Lines) (left : Option (List ℕ)) (line : Line) (next : IsNextLine 1 bytes kinds.Played number line now.number now.window left) (is : line.ended ≡ ended) (text : text_of_line ended now.line ≡ said line) where
   abbrev words : List (List ℕ)
-  words = words_of (text_of ended now.line)
+  words = words_of (text_of_line ended now.line)
 
-  script_is : host_script bytes ≡ begun (first_of_host words) (λ h. course_of now.number (lines_of line.behind))
+  script_is : host_script bytes ≡ script_begun (first_of_host words) (λ h. course_of now.number (lines_of line.behind))
   script_is =
       script_kind (lines_of bytes) number line (lines_of line.behind) kinds.Played next.0 next.1
-      ∙ ap (λ t. begun (first_of_host (words_of t)) (λ h. course_of (number_behind number) (lines_of line.behind))) (sym text)
-      ∙ ap (λ n. begun (first_of_host words) (λ h. course_of n (lines_of line.behind))) (sym next.2)
+      ∙ ap (λ t. script_begun (first_of_host (words_of t)) (λ h. course_of (number_behind number) (lines_of line.behind))) (sym text)
+      ∙ ap (λ n. script_begun (first_of_host words) (λ h. course_of n (lines_of line.behind))) (sym next.2)
 
   -- the line names this host
   script_of_named : (named : Named) → first_of_host words ≡ Some named → host_script bytes ≡ Plays named (course_of now.number (lines_of line.behind))
-  script_of_named named e = script_is ∙ ap (λ (h : Option Named). begun h (λ h. course_of now.number (lines_of line.behind))) e
+  script_of_named named e = script_is ∙ ap (λ (h : Option Named). script_begun h (λ h. course_of now.number (lines_of line.behind))) e
 
   -- a read fails behind the line
   came_of_named : (named : Named) → first_of_host words ≡ Some named → line.ended ≡ true → (left' : Option (List ℕ)) (given : List ℕ) → CameBefore line.behind left' given
@@ -67,9 +67,9 @@ module _ (bytes : List ℕ) (number : ℕ) (ended : Bool) (now : Lines) (left : 
         came.0,
         came.1,
         script_kind (ended_lines (lines_of came.0)) number here rest kinds.Played came.2 next.1
-            ∙ ap (λ t. begun (first_of_host (words_of t)) (λ h. course_of (number_behind number) rest)) (sym text)
-            ∙ ap (λ n. begun (first_of_host words) (λ h. course_of n rest)) (sym next.2)
-            ∙ ap (λ (h : Option Named). begun h (λ h. course_of now.number rest)) e,
+            ∙ ap (λ t. script_begun (first_of_host (words_of t)) (λ h. course_of (number_behind number) rest)) (sym text)
+            ∙ ap (λ n. script_begun (first_of_host words) (λ h. course_of n rest)) (sym next.2)
+            ∙ ap (λ (h : Option Named). script_begun h (λ h. course_of now.number rest)) e,
       )
 
   begun_as : (alone : Alone) → IsHostOf words (Ok alone) → IsBegun bytes alone ended now left
@@ -83,8 +83,8 @@ module _ (bytes : List ℕ) (number : ℕ) (ended : Bool) (now : Lines) (left : 
     λ some left' given before. came_of_named host.0 host.1 (is ∙ some) left' given before,
   )
 
-  begun_not : (fault : PlayFault) → IsHostOf words (Err fault) → Begins bytes (Err fault) now left
-  begun_not BadHosts host = script_is ∙ ap (λ (h : Option Named). begun h (λ h. course_of now.number (lines_of line.behind))) host
+  begun_not : (fault : PlayFault) → IsHostOf words (Err fault) → HostBegins bytes (Err fault) now left
+  begun_not BadHosts host = script_is ∙ ap (λ (h : Option Named). script_begun h (λ h. course_of now.number (lines_of line.behind))) host
   begun_not OutOfMemory host = (host.0, course_of now.number (lines_of line.behind), script_of_named host.0 host.1, named_new words host.0 host.1)
   begun_not (BadLine number) host = absurd host
   begun_not (LineTooLong number) host = absurd host
@@ -95,16 +95,16 @@ module _ (bytes : List ℕ) (number : ℕ) (ended : Bool) (now : Lines) (left : 
 -- ---- in the words of the code
 
 abbrev IsRead : ℕ → List ℕ → ℕ → Bool → Lines → Option (List ℕ) → Type 0
-IsRead first bytes number ended now left = ReadsNext first bytes (Ok (nexts.Played number ended)) now left
+IsRead first bytes number ended now left = ReadsNextLine first bytes (Ok (nexts.Played number ended)) now left
 
-pub begins : (first : ℕ) (bytes : List ℕ) (number : ℕ) (ended : Bool) (now : Lines) (left : Option (List ℕ)) → first ≡ 1 → ReadsNext first bytes (Ok (nexts.Played number ended)) now left → (parted : List (List ℕ)) → parted ≡ words_of (text_of ended now.line)
+pub begins : (first : ℕ) (bytes : List ℕ) (number : ℕ) (ended : Bool) (now : Lines) (left : Option (List ℕ)) → first ≡ 1 → ReadsNextLine first bytes (Ok (nexts.Played number ended)) now left → (parted : List (List ℕ)) → parted ≡ words_of (text_of_line ended now.line)
     → (alone : Alone) → IsHostOf parted (Ok alone) → IsBegun bytes alone ended now left
 begins first bytes number ended now left one read parted e alone host =
     let read' = subst (λ (n : ℕ). IsRead n bytes number ended now left) one read in
     begun_as bytes number ended now left read'.0 read'.1 read'.2 read'.3 alone (subst (λ (w : List (List ℕ)). IsHostOf w (Ok alone)) e host)
 
-pub begins_not : (first : ℕ) (bytes : List ℕ) (number : ℕ) (ended : Bool) (now : Lines) (left : Option (List ℕ)) → first ≡ 1 → ReadsNext first bytes (Ok (nexts.Played number ended)) now left → (parted : List (List ℕ)) → parted ≡ words_of (text_of ended now.line)
-    → (fault : PlayFault) → IsHostOf parted (Err fault) → Begins bytes (Err fault) now left
+pub begins_not : (first : ℕ) (bytes : List ℕ) (number : ℕ) (ended : Bool) (now : Lines) (left : Option (List ℕ)) → first ≡ 1 → ReadsNextLine first bytes (Ok (nexts.Played number ended)) now left → (parted : List (List ℕ)) → parted ≡ words_of (text_of_line ended now.line)
+    → (fault : PlayFault) → IsHostOf parted (Err fault) → HostBegins bytes (Err fault) now left
 begins_not first bytes number ended now left one read parted e fault host =
     let read' = subst (λ (n : ℕ). IsRead n bytes number ended now left) one read in
     begun_not bytes number ended now left read'.0 read'.1 read'.2 read'.3 fault (subst (λ (w : List (List ℕ)). IsHostOf w (Err fault)) e host)

@@ -1,9 +1,9 @@
 -- What lines do, by what they ask for.
 use Rattle.std.proofs.Common.{◌≡◌, ℕ, Bool, true, false, List, [], ◌∷◌, Option, Some, None, Result, Ok, Err, refl, sym, ap, ◌∙◌, subst}
 use Rattle.ncp_transcript.specs.declared.input.Input.{Input}
-use Rattle.ncp_transcript.specs.Alone.{Alone, IsStep, AreSteps}
+use Rattle.ncp_transcript.specs.Alone.{Alone, IsHostStep, AreHostSteps}
 use Rattle.ncp_play_script.specs.Scripts as scripts
-use Rattle.ncp_play_script.specs.Scripts.{Course, Ending, lines_of, ends}
+use Rattle.ncp_play_script.specs.Scripts.{Course, Ending, lines_of, course_ends}
 use Rattle.ncp_play_reader.specs.declared.lines.Lines.{Lines}
 use Rattle.ncp_play_reader.specs.NextLines.{ended_lines}
 use Rattle.ncp_play_notes.specs.declared.fault.PlayFault.{PlayFault}
@@ -16,8 +16,8 @@ use Rattle.ncp_play_host.specs.Doing.{DoesAll, DoesFirst, LinesDo, NextDoes}
 
 -- ---- nothing is asked for
 
-pub does_none : (course : Course Input) (ending : Ending) (alone : Alone) → course ≡ ends ending → DoesAll course ending alone alone
-does_none course ending alone e = (ap (λ (c : Course Input). c.ending) e, subst (λ (c : Course Input). AreSteps c.events alone alone) (sym e) refl)
+pub does_none : (course : Course Input) (ending : Ending) (alone : Alone) → course ≡ course_ends ending → DoesAll course ending alone alone
+does_none course ending alone e = (ap (λ (c : Course Input). c.ending) e, subst (λ (c : Course Input). AreHostSteps c.events alone alone) (sym e) refl)
 
 pub does_not : (course : Course Input) (before now : Alone) → now ≡ before → DoesFirst course before now
 does_not course before now e = ([], course.events, refl, e)
@@ -33,11 +33,11 @@ asked_fault first bytes alone (Feed fault) now left asks = absurd asks
 
 -- ---- an input is asked for, and is done
 
-does_more : (course rest : Course Input) (input : Input) (ending : Ending) (before mid now : Alone) → course ≡ in_front input rest → IsStep input before mid → DoesAll rest ending mid now → DoesAll course ending before now
+does_more : (course rest : Course Input) (input : Input) (ending : Ending) (before mid now : Alone) → course ≡ in_front input rest → IsHostStep input before mid → DoesAll rest ending mid now → DoesAll course ending before now
 does_more course rest input ending before mid now e step all =
-    (ap (λ (c : Course Input). c.ending) e ∙ all.0, subst (λ (c : Course Input). AreSteps c.events before now) (sym e) (mid, step, all.1))
+    (ap (λ (c : Course Input). c.ending) e ∙ all.0, subst (λ (c : Course Input). AreHostSteps c.events before now) (sym e) (mid, step, all.1))
 
-does_first : (course rest : Course Input) (input : Input) (before mid now : Alone) → course ≡ in_front input rest → IsStep input before mid → DoesFirst rest mid now → DoesFirst course before now
+does_first : (course rest : Course Input) (input : Input) (before mid now : Alone) → course ≡ in_front input rest → IsHostStep input before mid → DoesFirst rest mid now → DoesFirst course before now
 does_first course rest input before mid now e step some =
     (input ∷ some.0, some.1, ap (λ (c : Course Input). c.events) e ∙ ap (λ events. input ∷ events) some.2, (mid, step, some.3))
 
@@ -54,13 +54,13 @@ does_fault first bytes input ended before now (LineTooLong number) lines left as
 does_fault first bytes input ended before now (Feed fault) lines left asks does = absurd does
 
 -- it was the last line
-pub does_last : (first : ℕ) (bytes : List ℕ) (input : Input) (before now : Alone) (lines : Lines) (left : Option (List ℕ)) → AsksInput first bytes input false lines left → IsStep input before now → LinesDo first bytes before (Ok Over) now lines.window left
+pub does_last : (first : ℕ) (bytes : List ℕ) (input : Input) (before now : Alone) (lines : Lines) (left : Option (List ℕ)) → AsksInput first bytes input false lines left → IsHostStep input before now → LinesDo first bytes before (Ok Over) now lines.window left
 does_last first bytes input before now lines left asks step =
-    let none : course_of lines.number (lines_of asks.0) ≡ ends scripts.Over = ap (λ behind. course_of lines.number (lines_of behind)) (asks.3 refl) in
+    let none : course_of lines.number (lines_of asks.0) ≡ course_ends scripts.Over = ap (λ behind. course_of lines.number (lines_of behind)) (asks.3 refl) in
     does_more (course_of first (lines_of bytes)) (course_of lines.number (lines_of asks.0)) input scripts.Over before now now asks.1 step (does_none (course_of lines.number (lines_of asks.0)) scripts.Over now none)
 
 -- what the lines behind it do, all do
-pub does_behind : (first : ℕ) (bytes : List ℕ) (input : Input) (before mid : Alone) (lines : Lines) (left : Option (List ℕ)) (asks : AsksInput first bytes input true lines left) → IsStep input before mid
+pub does_behind : (first : ℕ) (bytes : List ℕ) (input : Input) (before mid : Alone) (lines : Lines) (left : Option (List ℕ)) (asks : AsksInput first bytes input true lines left) → IsHostStep input before mid
     → (r : Result LinesEnd PlayFault) (now : Alone) (window : List ℕ) (left' : Option (List ℕ)) → LinesDo lines.number asks.0 mid r now window left' → LinesDo first bytes before r now window left'
 does_behind first bytes input before mid lines left asks step (Ok Over) now window left' does =
     does_more (course_of first (lines_of bytes)) (course_of lines.number (lines_of asks.0)) input scripts.Over before mid now asks.1 step does
@@ -83,11 +83,11 @@ does_behind first bytes input before mid lines left asks step (Err (Feed fault))
 pub next_fault : (first : ℕ) (bytes : List ℕ) (alone now : Alone) (r : Result (Option LinesEnd) PlayFault) (fault : PlayFault) (lines : Lines) (left : Option (List ℕ)) → r ≡ Err fault → LinesDo first bytes alone (Err fault) now lines.window left → NextDoes first bytes alone r now lines left
 next_fault first bytes alone now r fault lines left e does = subst (λ (r : Result (Option LinesEnd) PlayFault). NextDoes first bytes alone r now lines left) (sym e) does
 
-pub does_one : (first : ℕ) (bytes : List ℕ) (input : Input) (ended : Bool) (end : Option LinesEnd) (before now : Alone) (lines : Lines) (left : Option (List ℕ)) → ended ≡ true → end ≡ None → AsksInput first bytes input ended lines left → IsStep input before now → NextDoes first bytes before (Ok end) now lines left
+pub does_one : (first : ℕ) (bytes : List ℕ) (input : Input) (ended : Bool) (end : Option LinesEnd) (before now : Alone) (lines : Lines) (left : Option (List ℕ)) → ended ≡ true → end ≡ None → AsksInput first bytes input ended lines left → IsHostStep input before now → NextDoes first bytes before (Ok end) now lines left
 does_one first bytes input ended end before now lines left lf e asks step =
     subst (λ (end : Option LinesEnd). NextDoes first bytes before (Ok end) now lines left) (sym e) (input, subst (λ (b : Bool). AsksInput first bytes input b lines left) lf asks, step)
 
-pub does_one_last : (first : ℕ) (bytes : List ℕ) (input : Input) (ended : Bool) (end : Option LinesEnd) (before now : Alone) (lines : Lines) (left : Option (List ℕ)) → ended ≡ false → end ≡ Some Over → AsksInput first bytes input ended lines left → IsStep input before now → NextDoes first bytes before (Ok end) now lines left
+pub does_one_last : (first : ℕ) (bytes : List ℕ) (input : Input) (ended : Bool) (end : Option LinesEnd) (before now : Alone) (lines : Lines) (left : Option (List ℕ)) → ended ≡ false → end ≡ Some Over → AsksInput first bytes input ended lines left → IsHostStep input before now → NextDoes first bytes before (Ok end) now lines left
 does_one_last first bytes input ended end before now lines left lf e asks step =
     subst (λ (end : Option LinesEnd). NextDoes first bytes before (Ok end) now lines left) (sym e)
     (does_last first bytes input before now lines left (subst (λ (b : Bool). AsksInput first bytes input b lines left) lf asks) step)

@@ -6,11 +6,11 @@ use Rattle.std.proofs.lemmas.Bool.{and_parts}
 use Rattle.std.proofs.lemmas.Bool.Decides.{nat_tests}
 use Rattle.ncp_host.specs.declared.limits.TheConstants.{MAX_PEERS}
 use Rattle.ncp_host.specs.Host.{is_one_of, are_peers, new_host}
-use Rattle.ncp_transcript.specs.Runs.{IsTranscript}
+use Rattle.ncp_transcript.specs.Runs.{IsHostTranscript}
 use Rattle.ncp_transcript.proofs.Growing.{transcript_new}
 use Rattle.ncp_play_script.specs.declared.numbers.TheConstants.{MAX_DIGITS}
-use Rattle.ncp_play_script.specs.Words.{value_after, is_number, number_of, number_first, largest_u8}
-use Rattle.ncp_play_script.specs.FirstLines.{Named, with_number, numbers_of, few, with_peers, host_named, if_peers, first_of_host}
+use Rattle.ncp_play_script.specs.Words.{value_after, is_number, number_of_word, number_first, largest_u8}
+use Rattle.ncp_play_script.specs.FirstLines.{Named, with_number, numbers_of_words, few, with_peers, host_named, if_peers, first_of_host}
 
 -- each of some numbers has a place in a leader
 abbrev Fit : List ℕ → Type 0
@@ -24,7 +24,7 @@ is_some a b e = cc
 at_most : (n : ℕ) → nat_le n largest_u8 ≡ true → n < 256
 at_most n e = grind (arith, nat_tests)
 
-number_fits : (word : List ℕ) (n : ℕ) → number_of largest_u8 word ≡ Some n → n < 256
+number_fits : (word : List ℕ) (n : ℕ) → number_of_word largest_u8 word ≡ Some n → n < 256
 number_fits word n e = go (is_number largest_u8 word) refl e
   where
     go : (b : Bool) → is_number largest_u8 word ≡ b → (if b then Some (value_after 0 word) else None) ≡ Some n → n < 256
@@ -41,11 +41,11 @@ one_more m ms small fits n is = go (m == n) refl is
     go true same e = grind (arith, nat_tests)
     go false other e = fits n e
 
-numbers_fit : (words : List (List ℕ)) (ns : List ℕ) → numbers_of words ≡ Some ns → Fit ns
+numbers_fit : (words : List (List ℕ)) (ns : List ℕ) → numbers_of_words words ≡ Some ns → Fit ns
 numbers_fit [] ns e = subst Fit (is_some [] ns e) (λ n is. absurd (let f : ⊥ = cc in f))
-numbers_fit (word ∷ words) ns e = go (number_of largest_u8 word) refl (numbers_of words) refl (λ ms r. numbers_fit words ms r) e
+numbers_fit (word ∷ words) ns e = go (number_of_word largest_u8 word) refl (numbers_of_words words) refl (λ ms r. numbers_fit words ms r) e
   where
-    go : (first : Option ℕ) → number_of largest_u8 word ≡ first → (behind : Option (List ℕ)) → numbers_of words ≡ behind → ((ms : List ℕ) → numbers_of words ≡ Some ms → Fit ms) → with_number first behind ≡ Some ns → Fit ns
+    go : (first : Option ℕ) → number_of_word largest_u8 word ≡ first → (behind : Option (List ℕ)) → numbers_of_words words ≡ behind → ((ms : List ℕ) → numbers_of_words words ≡ Some ms → Fit ms) → with_number first behind ≡ Some ns → Fit ns
     go None s behind r fits e = absurd (let f : ⊥ = cc in f)
     go (Some m) s None r fits e = absurd (let f : ⊥ = cc in f)
     go (Some m) s (Some ms) r fits e = subst Fit (is_some (m ∷ ms) ns e) (one_more m ms (number_fits word m s) (fits ms r))
@@ -53,13 +53,13 @@ numbers_fit (word ∷ words) ns e = go (number_of largest_u8 word) refl (numbers
 -- ---- the host that they name
 
 few_fit : (me : ℕ) (words : List (List ℕ)) (named : Named) → with_peers (Some (me, words)) ≡ Some named → Fit named.peers
-few_fit me words named e = go (numbers_of words) refl e
+few_fit me words named e = go (numbers_of_words words) refl e
   where
-    within : (b : Bool) (ns : List ℕ) → numbers_of words ≡ Some ns → option_map (λ (peers : List ℕ). record { me = me; peers = peers }) (if b then Some ns else None) ≡ Some named → Fit named.peers
+    within : (b : Bool) (ns : List ℕ) → numbers_of_words words ≡ Some ns → option_map (λ (peers : List ℕ). record { me = me; peers = peers }) (if b then Some ns else None) ≡ Some named → Fit named.peers
     within true ns s e = subst (λ (x : Named). Fit x.peers) (is_some (record { me = me; peers = ns }) named e) (numbers_fit words ns s)
     within false ns s e = absurd (let f : ⊥ = cc in f)
 
-    go : (numbers : Option (List ℕ)) → numbers_of words ≡ numbers → option_map (λ (peers : List ℕ). record { me = me; peers = peers }) (few numbers) ≡ Some named → Fit named.peers
+    go : (numbers : Option (List ℕ)) → numbers_of_words words ≡ numbers → option_map (λ (peers : List ℕ). record { me = me; peers = peers }) (few numbers) ≡ Some named → Fit named.peers
     go None s e = absurd (let f : ⊥ = cc in f)
     go (Some ns) s e = within (nat_le (length ns) MAX_PEERS) ns s e
 
@@ -76,14 +76,14 @@ host_fits (word ∷ words) named e = go (bytes_eq (codes "host") word) e
     go false e = absurd (let f : ⊥ = cc in f)
 
 -- a new host that a first line names has an empty transcript
-pub named_new : (words : List (List ℕ)) (named : Named) → first_of_host words ≡ Some named → IsTranscript [] (new_host named.me named.peers)
+pub named_new : (words : List (List ℕ)) (named : Named) → first_of_host words ≡ Some named → IsHostTranscript [] (new_host named.me named.peers)
 named_new words named e = go (host_named words) refl e
   where
-    with_them : (b : Bool) (found : Named) → are_peers found.me found.peers ≡ b → Fit found.peers → (if b then Some found else None) ≡ Some named → IsTranscript [] (new_host named.me named.peers)
+    with_them : (b : Bool) (found : Named) → are_peers found.me found.peers ≡ b → Fit found.peers → (if b then Some found else None) ≡ Some named → IsHostTranscript [] (new_host named.me named.peers)
     with_them true found good fits e =
-        subst (λ (x : Named). IsTranscript [] (new_host x.me x.peers)) (is_some found named e) (transcript_new found.me found.peers (new_host found.me found.peers) good fits refl)
+        subst (λ (x : Named). IsHostTranscript [] (new_host x.me x.peers)) (is_some found named e) (transcript_new found.me found.peers (new_host found.me found.peers) good fits refl)
     with_them false found good fits e = absurd (let f : ⊥ = cc in f)
 
-    go : (found : Option Named) → host_named words ≡ found → if_peers found ≡ Some named → IsTranscript [] (new_host named.me named.peers)
+    go : (found : Option Named) → host_named words ≡ found → if_peers found ≡ Some named → IsHostTranscript [] (new_host named.me named.peers)
     go None s e = absurd (let f : ⊥ = cc in f)
     go (Some found) s e = with_them (are_peers found.me found.peers) found refl (host_fits words found s) e

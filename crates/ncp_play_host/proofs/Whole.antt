@@ -5,7 +5,7 @@ use Rattle.ncp_play_stream.specs.Streams.{SaidSoFar, SaysText, SaysBeginning}
 use Rattle.ncp_transcript.specs.declared.input.Input.{Input}
 use Rattle.ncp_transcript.specs.declared.note.HostNote.{HostNote}
 use Rattle.ncp_transcript.specs.Alone.{Alone}
-use Rattle.ncp_transcript.specs.Runs.{IsTranscript}
+use Rattle.ncp_transcript.specs.Runs.{IsHostTranscript}
 use Rattle.ncp_play_script.specs.FirstLines.{Named}
 use Rattle.ncp_play_script.specs.HostScripts.{host_script}
 use Rattle.ncp_play_script.specs.Scripts as scripts
@@ -15,13 +15,13 @@ use Rattle.ncp_play_reader.specs.NextLines.{ended_lines}
 use Rattle.ncp_play_notes.specs.declared.fault.PlayFault.{PlayFault}
 use Rattle.ncp_play_notes.specs.declared.fault.PlayFault.TheVariants.{BadLine, LineTooLong, BadHosts, Feed, ReadFailed, WriteFailed, OutOfMemory}
 use Rattle.ncp_play_notes.specs.declared.heading.Heading.{Heading}
-use Rattle.ncp_play_notes.specs.Faults.{is_read_failed, is_write_failed}
+use Rattle.ncp_play_notes.specs.Faults.{play_read_failed, play_write_failed}
 use Rattle.ncp_play_notes.specs.NoteLines.{lines_from}
 use Rattle.ncp_play_notes.specs.Playing.{Tells}
 use Rattle.ncp_play_host.specs.Asking.{course_of}
 use Rattle.ncp_play_host.specs.Doing.{DoesAll, DoesFirst}
-use Rattle.ncp_play_host.specs.Beginning.{begun_by, IsBegun, Begins}
-use Rattle.ncp_play_host.specs.Played.{CourseDoes, BehindDoes, ScriptDoes, ScriptBegins, WholeDoes, HostDoes, Answers, first_heading, Says, WritesAll, WritesBeginning, HostPlayed}
+use Rattle.ncp_play_host.specs.Beginning.{begun_by, IsBegun, HostBegins}
+use Rattle.ncp_play_host.specs.Played.{CourseDoes, BehindDoes, ScriptDoes, ScriptBegins, WholeDoes, HostDoes, Answers, first_heading, Says, WritesAllLines, WritesSomeLines, HostPlayed}
 use Rattle.ncp_play_host.proofs.Does.{does_not}
 
 -- ---- the first line
@@ -30,7 +30,7 @@ not_begun : (bytes : List ℕ) (fault : scripts.ScriptFault) (r : Result Unit Pl
 not_begun bytes fault r left e does = subst (λ (s : Script Named Input). ScriptDoes s r [] left) (sym e) does
 
 -- no host is there: nothing is said
-pub begin_says : (bytes was : List ℕ) (fault : PlayFault) (now : Lines) (left : Option (List ℕ)) (page : List ℕ) (written : Option (List ℕ)) → Begins bytes (Err fault) now left → SaidSoFar was page written [] → Says bytes was (Err fault) left page written
+pub begin_says : (bytes was : List ℕ) (fault : PlayFault) (now : Lines) (left : Option (List ℕ)) (page : List ℕ) (written : Option (List ℕ)) → HostBegins bytes (Err fault) now left → SaidSoFar was page written [] → Says bytes was (Err fault) left page written
 begin_says bytes was BadHosts now left page written begins said = ([], first_heading, not_begun bytes scripts.BadHosts (Err BadHosts) left begins (refl, refl), (refl, said))
 begin_says bytes was (LineTooLong line) now left page written begins said = ([], first_heading, not_begun bytes (scripts.LineTooLong line) (Err (LineTooLong line)) left begins (refl, refl), (refl, said))
 begin_says bytes was OutOfMemory now left page written begins said =
@@ -54,19 +54,19 @@ module _ (bytes : List ℕ) (alone : Alone) (ended : Bool) (lines : Lines) (read
   abbrev course : Course Input
   course = course_of lines.number (lines_of behind)
 
-  all_does : (r : Result Unit PlayFault) (now : Alone) (left : Option (List ℕ)) → IsTranscript now.notes now.host → CourseDoes course alone r now left → ScriptDoes (host_script bytes) r now.notes left
+  all_does : (r : Result Unit PlayFault) (now : Alone) (left : Option (List ℕ)) → IsHostTranscript now.notes now.host → CourseDoes course alone r now left → ScriptDoes (host_script bytes) r now.notes left
   all_does r now left told does =
       subst (λ (s : Script Named Input). ScriptDoes s r now.notes left) (sym begun.2) (now, subst (λ (a : Alone). CourseDoes course a r now left) begun.3 does, refl, told)
 
-  some_does : (now : Alone) → IsTranscript now.notes now.host → DoesFirst course alone now → ScriptBegins (host_script bytes) now.notes
+  some_does : (now : Alone) → IsHostTranscript now.notes now.host → DoesFirst course alone now → ScriptBegins (host_script bytes) now.notes
   some_does now told does = subst (λ (s : Script Named Input). ScriptBegins s now.notes) (sym begun.2) (now, subst (λ (a : Alone). DoesFirst course a now) begun.3 does, refl, told)
 
-  either_does : (r : Result Unit PlayFault) (now : Alone) (left : Option (List ℕ)) → IsTranscript now.notes now.host → CourseDoes course alone r now left ⊎ DoesFirst course alone now → ScriptDoes (host_script bytes) r now.notes left ⊎ ScriptBegins (host_script bytes) now.notes
+  either_does : (r : Result Unit PlayFault) (now : Alone) (left : Option (List ℕ)) → IsHostTranscript now.notes now.host → CourseDoes course alone r now left ⊎ DoesFirst course alone now → ScriptDoes (host_script bytes) r now.notes left ⊎ ScriptBegins (host_script bytes) now.notes
   either_does r now left told (inl does) = inl (all_does r now left told does)
   either_does r now left told (inr does) = inr (some_does now told does)
 
   -- a read failed: an LF ended the first line, as behind another nothing is read
-  came_does : (lf : Bool) (now : Alone) (left : Option (List ℕ)) → ended ≡ lf → (ended ≡ false → true ≡ false) → IsTranscript now.notes now.host → BehindDoes lines.number behind alone (Err ReadFailed) now left → HostDoes bytes (Err ReadFailed) now.notes left
+  came_does : (lf : Bool) (now : Alone) (left : Option (List ℕ)) → ended ≡ lf → (ended ≡ false → true ≡ false) → IsHostTranscript now.notes now.host → BehindDoes lines.number behind alone (Err ReadFailed) now left → HostDoes bytes (Err ReadFailed) now.notes left
   came_does true now left lf none told does =
       let came = begun.6 lf left does.0 does.1 in
       let rest = course_of lines.number (ended_lines (lines_of does.0)) in (
@@ -76,7 +76,7 @@ module _ (bytes : List ℕ) (alone : Alone) (ended : Bool) (lines : Lines) (read
       )
   came_does false now left lf none told does = absurd (let f = none lf in cc)
 
-  pub behind_does : (fault : PlayFault) (now : Alone) (left : Option (List ℕ)) → (ended ≡ false → is_read_failed {X = Unit {0}} (Err fault) ≡ false) → IsTranscript now.notes now.host → BehindDoes lines.number behind alone (Err fault) now left → HostDoes bytes (Err fault) now.notes left
+  pub behind_does : (fault : PlayFault) (now : Alone) (left : Option (List ℕ)) → (ended ≡ false → play_read_failed {X = Unit {0}} (Err fault) ≡ false) → IsHostTranscript now.notes now.host → BehindDoes lines.number behind alone (Err fault) now left → HostDoes bytes (Err fault) now.notes left
   behind_does (BadLine line) now left whole told does = all_does (Err (BadLine line)) now left told does
   behind_does (LineTooLong line) now left whole told does = all_does (Err (LineTooLong line)) now left told does
   behind_does BadHosts now left whole told does = all_does (Err BadHosts) now left told does
@@ -85,7 +85,7 @@ module _ (bytes : List ℕ) (alone : Alone) (ended : Bool) (lines : Lines) (read
   behind_does WriteFailed now left whole told does = either_does (Err WriteFailed) now left told does
   behind_does ReadFailed now left whole told does = came_does ended now left refl whole told does
 
-  pub behind_done : (now : Alone) (left : Option (List ℕ)) → IsTranscript now.notes now.host → BehindDoes lines.number behind alone (Ok tt) now left → ScriptDoes (host_script bytes) (Ok tt) now.notes left
+  pub behind_done : (now : Alone) (left : Option (List ℕ)) → IsHostTranscript now.notes now.host → BehindDoes lines.number behind alone (Ok tt) now left → ScriptDoes (host_script bytes) (Ok tt) now.notes left
   behind_done now left told does = all_does (Ok tt) now left told does
 
 -- ---- the page
@@ -104,11 +104,11 @@ Beginning was lines now = (text : List ℕ) × (more : List ℕ) × (text ++ mor
 written_some : (was lines page : List ℕ) (written now : Option (List ℕ)) → SaidSoFar was page written lines → SaysBeginning page written [] now → Beginning was lines now
 written_some was lines page written now said broken = let all = broken.1 was lines said in (all.0, broken.0, all.2 ∙ append-nil lines, all.1)
 
-begins_with : (bytes was : List ℕ) (r : Result Bool PlayFault) (left : Option (List ℕ)) (now : Option (List ℕ)) (notes : List HostNote) → Answers bytes r notes left → Beginning was (lines_from first_heading notes) now → WritesBeginning bytes was left now
+begins_with : (bytes was : List ℕ) (r : Result Bool PlayFault) (left : Option (List ℕ)) (now : Option (List ℕ)) (notes : List HostNote) → Answers bytes r notes left → Beginning was (lines_from first_heading notes) now → WritesSomeLines bytes was left now
 begins_with bytes was r left now notes answers beginning = (r, notes, beginning.0, beginning.1, answers, beginning.2, beginning.3)
 
 -- a line could not be written
-pub played_failed : (bytes was : List ℕ) (r : Result Bool PlayFault) (left : Option (List ℕ)) (page : List ℕ) (written : Option (List ℕ)) → Says bytes was r left page written → is_write_failed r ≡ true → HostPlayed bytes was r left written
+pub played_failed : (bytes was : List ℕ) (r : Result Bool PlayFault) (left : Option (List ℕ)) (page : List ℕ) (written : Option (List ℕ)) → Says bytes was r left page written → play_write_failed r ≡ true → HostPlayed bytes was r left written
 played_failed bytes was (Err WriteFailed) left page written says e = let told = says.3 in begins_with bytes was (Err WriteFailed) left written says.0 says.2 (told.1.0, told.0, told.1.2, told.1.1)
 played_failed bytes was (Ok good) left page written says e = absurd (let f : ⊥ = cc in f)
 played_failed bytes was (Err (BadLine line)) left page written says e = absurd (let f : ⊥ = cc in f)
@@ -120,10 +120,10 @@ played_failed bytes was (Err OutOfMemory) left page written says e = absurd (let
 
 -- the page was written
 module _ (bytes was : List ℕ) (left : Option (List ℕ)) (page last : List ℕ) (written now : Option (List ℕ)) (flushed : (last ≡ []) × SaysText page written [] last now) where
-  writes_all : (r : Result Bool PlayFault) (notes : List HostNote) (heading : Heading) → Answers bytes r notes left → Tells was first_heading notes heading page written → WritesAll bytes was r left now
+  writes_all : (r : Result Bool PlayFault) (notes : List HostNote) (heading : Heading) → Answers bytes r notes left → Tells was first_heading notes heading page written → WritesAllLines bytes was r left now
   writes_all r notes heading answers tells = (notes, answers, written_all was (lines_from first_heading notes) page last written now tells.1 flushed)
 
-  pub played_whole : (r : Result Bool PlayFault) → Says bytes was r left page written → is_write_failed r ≡ false → HostPlayed bytes was r left now
+  pub played_whole : (r : Result Bool PlayFault) → Says bytes was r left page written → play_write_failed r ≡ false → HostPlayed bytes was r left now
   played_whole (Ok good) says e = writes_all (Ok good) says.0 says.1 says.2 says.3
   played_whole (Err (BadLine line)) says e = writes_all (Err (BadLine line)) says.0 says.1 says.2 says.3
   played_whole (Err (LineTooLong line)) says e = writes_all (Err (LineTooLong line)) says.0 says.1 says.2 says.3
@@ -135,10 +135,10 @@ module _ (bytes was : List ℕ) (left : Option (List ℕ)) (page last : List ℕ
 
 -- the page could not be written
 module _ (bytes was : List ℕ) (left : Option (List ℕ)) (page : List ℕ) (written now : Option (List ℕ)) (broken : SaysBeginning page written [] now) where
-  writes_some : (r : Result Bool PlayFault) (notes : List HostNote) (heading : Heading) → Answers bytes r notes left → Tells was first_heading notes heading page written → WritesBeginning bytes was left now
+  writes_some : (r : Result Bool PlayFault) (notes : List HostNote) (heading : Heading) → Answers bytes r notes left → Tells was first_heading notes heading page written → WritesSomeLines bytes was left now
   writes_some r notes heading answers tells = begins_with bytes was r left now notes answers (written_some was (lines_from first_heading notes) page written now tells.1 broken)
 
-  pub played_broken : (r : Result Bool PlayFault) → Says bytes was r left page written → is_write_failed r ≡ false → WritesBeginning bytes was left now
+  pub played_broken : (r : Result Bool PlayFault) → Says bytes was r left page written → play_write_failed r ≡ false → WritesSomeLines bytes was left now
   played_broken (Ok good) says e = writes_some (Ok good) says.0 says.1 says.2 says.3
   played_broken (Err (BadLine line)) says e = writes_some (Err (BadLine line)) says.0 says.1 says.2 says.3
   played_broken (Err (LineTooLong line)) says e = writes_some (Err (LineTooLong line)) says.0 says.1 says.2 says.3

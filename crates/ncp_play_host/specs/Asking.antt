@@ -5,21 +5,21 @@ use Rattle.ncp_transcript.specs.declared.input.Input.{Input}
 use Rattle.ncp_play_script.specs.FirstLines.{Named, first_of_host}
 use Rattle.ncp_play_script.specs.Calls.{NamesGive}
 use Rattle.ncp_play_script.specs.HostLines.{host_line_of}
-use Rattle.ncp_play_script.specs.HostScripts.{asked_by}
+use Rattle.ncp_play_script.specs.HostScripts.{asked_by_line}
 use Rattle.ncp_play_script.specs.Scripts as scripts
 use Rattle.ncp_play_script.specs.Words.{words_of}
 use Rattle.ncp_play_script.specs.declared.line_buffer.LineKind.TheVariants as kinds
-use Rattle.ncp_play_script.specs.Scripts.{Line, Asked, Course, Script, lines_of, said, ends, played, Fed, Faulty, course_from, script_from}
+use Rattle.ncp_play_script.specs.Scripts.{Line, AskedByLine, Course, Script, lines_of, said, course_ends, played, Fed, Faulty, course_from, script_from}
 use Rattle.ncp_play_reader.specs.declared.lines.Lines.{Lines}
-use Rattle.ncp_play_reader.specs.NextLines.{ended_lines, CameBefore, IsNext}
+use Rattle.ncp_play_reader.specs.NextLines.{ended_lines, CameBefore, IsNextLine}
 use Rattle.ncp_play_notes.specs.declared.fault.PlayFault.{PlayFault}
 use Rattle.ncp_play_notes.specs.declared.fault.PlayFault.TheVariants.{BadLine, LineTooLong, BadHosts, Feed, ReadFailed, WriteFailed, OutOfMemory}
 use Rattle.ncp_play_host.specs.declared.asking.NextAsked.{NextAsked}
 use Rattle.ncp_play_host.specs.declared.asking.NextAsked.TheVariants.{Over, FeedBehind, Does}
 
 -- what a line of these words asks for, behind the first line
-abbrev pub asked_of : List (List ℕ) → Option (Asked Input)
-asked_of words = option_map asked_by (host_line_of words)
+abbrev pub asked_of : List (List ℕ) → Option (AskedByLine Input)
+asked_of words = option_map asked_by_line (host_line_of words)
 
 -- what lines ask for, the first of this number
 abbrev pub course_of : ℕ → List Line → Course Input
@@ -37,9 +37,9 @@ in_front input course = record course { events = input ∷ course.events }
 -- be played; or it gives a text, and there was no memory for that
 abbrev pub IsPlayedAs : ℕ → Line → List (List ℕ) → Course Input → Result NextAsked PlayFault → Type 0
 IsPlayedAs number line words course (Ok Over) = ⊥
-IsPlayedAs number line words course (Ok FeedBehind) = played number line (asked_of words) course ≡ ends (Fed line.behind)
+IsPlayedAs number line words course (Ok FeedBehind) = played number line (asked_of words) course ≡ course_ends (Fed line.behind)
 IsPlayedAs number line words course (Ok (Does input ended)) = (played number line (asked_of words) course ≡ in_front input course) × (ended ≡ line.ended)
-IsPlayedAs number line words course (Err (BadLine bad)) = played number line (asked_of words) course ≡ ends (Faulty (scripts.BadLine bad))
+IsPlayedAs number line words course (Err (BadLine bad)) = played number line (asked_of words) course ≡ course_ends (Faulty (scripts.BadLine bad))
 IsPlayedAs number line words course (Err OutOfMemory) = NamesGive words
 IsPlayedAs number line words course (Err (LineTooLong long)) = ⊥
 IsPlayedAs number line words course (Err BadHosts) = ⊥
@@ -62,25 +62,25 @@ AsksInput first bytes input ended now left =
 
 -- the next line gives a text
 abbrev pub GivesNext : ℕ → List ℕ → Lines → Option (List ℕ) → Type 0
-GivesNext first bytes now left = (number : ℕ) × (line : Line) × IsNext first bytes kinds.Played number line now.number now.window left × NamesGive (words_of (said line))
+GivesNext first bytes now left = (number : ℕ) × (line : Line) × IsNextLine first bytes kinds.Played number line now.number now.window left × NamesGive (words_of (said line))
 
 -- what the next of bytes asks for whose first line has this number: nothing, as all lines are skipped; that the bytes
 -- behind it be fed; an input; or it is at fault; a read failed, and the lines that came whole ask for nothing; or there
 -- was no memory for the text that it gives
 abbrev pub AsksNext : ℕ → List ℕ → Result NextAsked PlayFault → Lines → Option (List ℕ) → Type 0
-AsksNext first bytes (Ok Over) now left = course_of first (lines_of bytes) ≡ ends scripts.Over
-AsksNext first bytes (Ok FeedBehind) now left = (feed : List ℕ) × (course_of first (lines_of bytes) ≡ ends (Fed feed)) × Ahead now.window left feed
+AsksNext first bytes (Ok Over) now left = course_of first (lines_of bytes) ≡ course_ends scripts.Over
+AsksNext first bytes (Ok FeedBehind) now left = (feed : List ℕ) × (course_of first (lines_of bytes) ≡ course_ends (Fed feed)) × Ahead now.window left feed
 AsksNext first bytes (Ok (Does input ended)) now left = AsksInput first bytes input ended now left
-AsksNext first bytes (Err (BadLine number)) now left = course_of first (lines_of bytes) ≡ ends (Faulty (scripts.BadLine number))
-AsksNext first bytes (Err (LineTooLong number)) now left = course_of first (lines_of bytes) ≡ ends (Faulty (scripts.LineTooLong number))
-AsksNext first bytes (Err ReadFailed) now left = (given : List ℕ) × CameBefore bytes left given × (course_of first (ended_lines (lines_of given)) ≡ ends scripts.Over)
+AsksNext first bytes (Err (BadLine number)) now left = course_of first (lines_of bytes) ≡ course_ends (Faulty (scripts.BadLine number))
+AsksNext first bytes (Err (LineTooLong number)) now left = course_of first (lines_of bytes) ≡ course_ends (Faulty (scripts.LineTooLong number))
+AsksNext first bytes (Err ReadFailed) now left = (given : List ℕ) × CameBefore bytes left given × (course_of first (ended_lines (lines_of given)) ≡ course_ends scripts.Over)
 AsksNext first bytes (Err OutOfMemory) now left = GivesNext first bytes now left
 AsksNext first bytes (Err BadHosts) now left = ⊥
 AsksNext first bytes (Err (Feed fault)) now left = ⊥
 AsksNext first bytes (Err WriteFailed) now left = ⊥
 
 -- an input, behind whose line others may stand
-abbrev pub goes_on : NextAsked → Bool
-goes_on Over = false
-goes_on FeedBehind = false
-goes_on (Does input ended) = ended
+abbrev pub has_more_behind : NextAsked → Bool
+has_more_behind Over = false
+has_more_behind FeedBehind = false
+has_more_behind (Does input ended) = ended

@@ -4,7 +4,7 @@ use Rattle.ncp_play_stream.specs.Streams.{Ahead}
 use Rattle.ncp_host.specs.Host.{new_host}
 use Rattle.ncp_transcript.specs.declared.input.Input.{Input}
 use Rattle.ncp_transcript.specs.Alone.{Alone}
-use Rattle.ncp_transcript.specs.Runs.{IsTranscript}
+use Rattle.ncp_transcript.specs.Runs.{IsHostTranscript}
 use Rattle.ncp_play_script.specs.FirstLines.{Named, first_of_host}
 use Rattle.ncp_play_script.specs.HostScripts.{host_script}
 use Rattle.ncp_play_script.specs.Scripts as scripts
@@ -41,12 +41,12 @@ IsBegun bytes alone ended now left =
 
 -- how the script that bytes are begins, by the answer; where there was no memory for the host, the empty list is
 -- a transcript of it; where a read failed, the lines that came whole are skipped
-abbrev pub Begins : List ℕ → Result (Alone × Bool) PlayFault → Lines → Option (List ℕ) → Type 0
-Begins bytes (Ok (alone, ended)) now left = IsBegun bytes alone ended now left
-Begins bytes (Err BadHosts) now left = host_script bytes ≡ NoHosts scripts.BadHosts
-Begins bytes (Err (LineTooLong line)) now left = host_script bytes ≡ NoHosts (scripts.LineTooLong line)
-Begins bytes (Err OutOfMemory) now left = (named : Named) × (course : Course Input) × (host_script bytes ≡ Plays named course) × IsTranscript [] (begun_by named).host
-Begins bytes (Err ReadFailed) now left = (given : List ℕ) × CameBefore bytes left given × (next_from 1 (ended_lines (lines_of given)) ≡ None)
-Begins bytes (Err (BadLine line)) now left = ⊥
-Begins bytes (Err (Feed fault)) now left = ⊥
-Begins bytes (Err WriteFailed) now left = ⊥
+abbrev pub HostBegins : List ℕ → Result (Alone × Bool) PlayFault → Lines → Option (List ℕ) → Type 0
+HostBegins bytes (Ok (alone, ended)) now left = IsBegun bytes alone ended now left
+HostBegins bytes (Err BadHosts) now left = host_script bytes ≡ NoHosts scripts.BadHosts
+HostBegins bytes (Err (LineTooLong line)) now left = host_script bytes ≡ NoHosts (scripts.LineTooLong line)
+HostBegins bytes (Err OutOfMemory) now left = (named : Named) × (course : Course Input) × (host_script bytes ≡ Plays named course) × IsHostTranscript [] (begun_by named).host
+HostBegins bytes (Err ReadFailed) now left = (given : List ℕ) × CameBefore bytes left given × (next_from 1 (ended_lines (lines_of given)) ≡ None)
+HostBegins bytes (Err (BadLine line)) now left = ⊥
+HostBegins bytes (Err (Feed fault)) now left = ⊥
+HostBegins bytes (Err WriteFailed) now left = ⊥

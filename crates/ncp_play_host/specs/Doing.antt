@@ -2,7 +2,7 @@
 use Rattle.std.specs.Prelude.{◌≡◌, ℕ, true, List, ◌++◌, Option, Some, None, Result, Ok, Err}
 use Rattle.ncp_play_stream.specs.Streams.{Ahead}
 use Rattle.ncp_transcript.specs.declared.input.Input.{Input}
-use Rattle.ncp_transcript.specs.Alone.{Alone, IsStep, AreSteps}
+use Rattle.ncp_transcript.specs.Alone.{Alone, IsHostStep, AreHostSteps}
 use Rattle.ncp_play_script.specs.Scripts as scripts
 use Rattle.ncp_play_script.specs.Scripts.{Course, Ending, lines_of, Fed, Faulty}
 use Rattle.ncp_play_reader.specs.declared.lines.Lines.{Lines}
@@ -15,11 +15,11 @@ use Rattle.ncp_play_host.specs.Asking.{course_of, AsksInput}
 
 -- all that is asked for was done, and this is how the lines end
 abbrev pub DoesAll : Course Input → Ending → Alone → Alone → Type 0
-DoesAll course ending before now = (course.ending ≡ ending) × AreSteps course.events before now
+DoesAll course ending before now = (course.ending ≡ ending) × AreHostSteps course.events before now
 
 -- the first inputs that are asked for were done
 abbrev pub DoesFirst : Course Input → Alone → Alone → Type 0
-DoesFirst course before now = (done : List Input) × (more : List Input) × (course.events ≡ done ++ more) × AreSteps done before now
+DoesFirst course before now = (done : List Input) × (more : List Input) × (course.events ≡ done ++ more) × AreHostSteps done before now
 
 -- what the lines of bytes did to a host, the first of this number, by the answer; where a read failed, the lines that
 -- came whole
@@ -38,5 +38,5 @@ LinesDo first bytes before (Err (Feed fault)) now window left = ⊥
 -- stand behind it
 abbrev pub NextDoes : ℕ → List ℕ → Alone → Result (Option LinesEnd) PlayFault → Alone → Lines → Option (List ℕ) → Type 0
 NextDoes first bytes before (Ok (Some end)) now lines left = LinesDo first bytes before (Ok end) now lines.window left
-NextDoes first bytes before (Ok None) now lines left = (input : Input) × AsksInput first bytes input true lines left × IsStep input before now
+NextDoes first bytes before (Ok None) now lines left = (input : Input) × AsksInput first bytes input true lines left × IsHostStep input before now
 NextDoes first bytes before (Err fault) now lines left = LinesDo first bytes before (Err fault) now lines.window left

@@ -3,9 +3,9 @@ use Rattle.std.specs.Prelude.{◌≡◌, ◌⊎◌, ℕ, Bool, not, List, [], �
 use Rattle.std.specs.List.{list_any}
 use Rattle.ncp_transcript.specs.declared.input.Input.{Input}
 use Rattle.ncp_transcript.specs.declared.note.HostNote.{HostNote}
-use Rattle.ncp_transcript.specs.Alone.{Alone, AreSteps}
+use Rattle.ncp_transcript.specs.Alone.{Alone, AreHostSteps}
 use Rattle.ncp_transcript.specs.Notes.{is_refusal}
-use Rattle.ncp_transcript.specs.Runs.{IsTranscript}
+use Rattle.ncp_transcript.specs.Runs.{IsHostTranscript}
 use Rattle.ncp_play_script.specs.FirstLines.{Named}
 use Rattle.ncp_play_script.specs.HostScripts.{host_script}
 use Rattle.ncp_play_script.specs.Scripts as scripts
@@ -25,20 +25,20 @@ use Rattle.ncp_play_host.specs.Beginning.{begun_by}
 -- ---- what is done to the host
 
 -- a fault of a script, as the player answers it
-abbrev pub fault_of : ScriptFault → PlayFault
-fault_of (scripts.BadLine line) = BadLine line
-fault_of (scripts.LineTooLong line) = LineTooLong line
-fault_of scripts.BadHosts = BadHosts
+abbrev pub play_fault_of : ScriptFault → PlayFault
+play_fault_of (scripts.BadLine line) = BadLine line
+play_fault_of (scripts.LineTooLong line) = LineTooLong line
+play_fault_of scripts.BadHosts = BadHosts
 
 -- what the end of the lines asks for: nothing, that the bytes behind them be fed, or that their fault be answered
 abbrev pub EndDoes : Ending → Alone → Result Unit PlayFault → Alone → Option (List ℕ) → Type 0
 EndDoes Over before r now left = (r ≡ Ok tt) × (now ≡ before)
 EndDoes (Fed feed) before r now left = FeedDoes feed before r now left
-EndDoes (Faulty fault) before r now left = (r ≡ Err (fault_of fault)) × (now ≡ before)
+EndDoes (Faulty fault) before r now left = (r ≡ Err (play_fault_of fault)) × (now ≡ before)
 
 -- all inputs were done that lines ask for, one after the other, and then what their end asks for
 abbrev pub CourseDoes : Course Input → Alone → Result Unit PlayFault → Alone → Option (List ℕ) → Type 0
-CourseDoes course before r now left = (mid : Alone) × AreSteps course.events before mid × EndDoes course.ending mid r now left
+CourseDoes course before r now left = (mid : Alone) × AreHostSteps course.events before mid × EndDoes course.ending mid r now left
 
 -- what the lines of bytes did to a host, the first of this number, and what their end did, by the answer. Where there
 -- was no memory for a line, or a write failed, the first inputs were done; where a read failed, those of the lines that
@@ -57,18 +57,18 @@ BehindDoes first bytes before (Err (Feed fault)) now left = CourseDoes (course_o
 
 -- the notes of all that a script asks for: a transcript of the host that its first line names
 abbrev pub ScriptDoes : Script Named Input → Result Unit PlayFault → List HostNote → Option (List ℕ) → Type 0
-ScriptDoes (NoHosts fault) r notes left = (r ≡ Err (fault_of fault)) × (notes ≡ [])
-ScriptDoes (Plays named course) r notes left = (now : Alone) × CourseDoes course (begun_by named) r now left × (notes ≡ now.notes) × IsTranscript notes now.host
+ScriptDoes (NoHosts fault) r notes left = (r ≡ Err (play_fault_of fault)) × (notes ≡ [])
+ScriptDoes (Plays named course) r notes left = (now : Alone) × CourseDoes course (begun_by named) r now left × (notes ≡ now.notes) × IsHostTranscript notes now.host
 
 -- the notes of the first inputs that it asks for
 abbrev pub ScriptBegins : Script Named Input → List HostNote → Type 0
 ScriptBegins (NoHosts fault) notes = ⊥
-ScriptBegins (Plays named course) notes = (now : Alone) × DoesFirst course (begun_by named) now × (notes ≡ now.notes) × IsTranscript notes now.host
+ScriptBegins (Plays named course) notes = (now : Alone) × DoesFirst course (begun_by named) now × (notes ≡ now.notes) × IsHostTranscript notes now.host
 
 -- the notes of a script that names its host, and in which no fault is
 abbrev pub WholeDoes : Script Named Input → List HostNote → Type 0
 WholeDoes (NoHosts fault) notes = ⊥
-WholeDoes (Plays named course) notes = (now : Alone) × DoesAll course Over (begun_by named) now × (notes ≡ now.notes) × IsTranscript notes now.host
+WholeDoes (Plays named course) notes = (now : Alone) × DoesAll course Over (begun_by named) now × (notes ≡ now.notes) × IsHostTranscript notes now.host
 
 -- the notes of the lines of a script that came whole, in which no fault is; where all of them are skipped, there is none
 abbrev pub LinesCame : List Line → List HostNote → Type 0
@@ -105,22 +105,22 @@ abbrev pub Says : List ℕ → List ℕ → Result Bool PlayFault → Option (Li
 Says bytes was r left page written = (notes : List HostNote) × (heading : Heading) × Answers bytes r notes left × TellsAs was first_heading notes r heading page written
 
 -- the lines of all notes were written behind what was there, and nothing else
-abbrev pub WritesAll : List ℕ → List ℕ → Result Bool PlayFault → Option (List ℕ) → Option (List ℕ) → Type 0
-WritesAll bytes was r left written = (notes : List HostNote) × Answers bytes r notes left × (written ≡ Some (was ++ lines_from first_heading notes))
+abbrev pub WritesAllLines : List ℕ → List ℕ → Result Bool PlayFault → Option (List ℕ) → Option (List ℕ) → Type 0
+WritesAllLines bytes was r left written = (notes : List HostNote) × Answers bytes r notes left × (written ≡ Some (was ++ lines_from first_heading notes))
 
 -- a beginning of them was, whatever else there was to answer
-abbrev pub WritesBeginning : List ℕ → List ℕ → Option (List ℕ) → Option (List ℕ) → Type 0
-WritesBeginning bytes was left written =
+abbrev pub WritesSomeLines : List ℕ → List ℕ → Option (List ℕ) → Option (List ℕ) → Type 0
+WritesSomeLines bytes was left written =
     (r : Result Bool PlayFault) × (notes : List HostNote) × (text : List ℕ) × (more : List ℕ) × Answers bytes r notes left
     × (text ++ more ≡ lines_from first_heading notes) × (written ≡ Some (was ++ text))
 
 -- what the player writes of bytes, by its answer
 abbrev pub HostPlayed : List ℕ → List ℕ → Result Bool PlayFault → Option (List ℕ) → Option (List ℕ) → Type 0
-HostPlayed bytes was (Ok good) left written = WritesAll bytes was (Ok good) left written
-HostPlayed bytes was (Err WriteFailed) left written = WritesBeginning bytes was left written
-HostPlayed bytes was (Err (BadLine line)) left written = WritesAll bytes was (Err (BadLine line)) left written
-HostPlayed bytes was (Err (LineTooLong line)) left written = WritesAll bytes was (Err (LineTooLong line)) left written
-HostPlayed bytes was (Err BadHosts) left written = WritesAll bytes was (Err BadHosts) left written
-HostPlayed bytes was (Err (Feed fault)) left written = WritesAll bytes was (Err (Feed fault)) left written
-HostPlayed bytes was (Err ReadFailed) left written = WritesAll bytes was (Err ReadFailed) left written
-HostPlayed bytes was (Err OutOfMemory) left written = WritesAll bytes was (Err OutOfMemory) left written
+HostPlayed bytes was (Ok good) left written = WritesAllLines bytes was (Ok good) left written
+HostPlayed bytes was (Err WriteFailed) left written = WritesSomeLines bytes was left written
+HostPlayed bytes was (Err (BadLine line)) left written = WritesAllLines bytes was (Err (BadLine line)) left written
+HostPlayed bytes was (Err (LineTooLong line)) left written = WritesAllLines bytes was (Err (LineTooLong line)) left written
+HostPlayed bytes was (Err BadHosts) left written = WritesAllLines bytes was (Err BadHosts) left written
+HostPlayed bytes was (Err (Feed fault)) left written = WritesAllLines bytes was (Err (Feed fault)) left written
+HostPlayed bytes was (Err ReadFailed) left written = WritesAllLines bytes was (Err ReadFailed) left written
+HostPlayed bytes was (Err OutOfMemory) left written = WritesAllLines bytes was (Err OutOfMemory) left written

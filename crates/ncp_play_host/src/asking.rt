@@ -1,8 +1,8 @@
 //! What the next line of a script of one host asks for.
 ghost use Rattle.std.specs.Prelude.{◌≡◌, ℕ, List, ◌||◌, IfOk, true, false};
 ghost use Rattle.ncp_play_reader.specs.LentScripts.{SameScript, ScriptBrings, ReadsOn, script_left, is_cut_off};
-ghost use Rattle.ncp_play_notes.specs.Faults.{is_read_failed, is_write_failed};
-ghost use Rattle.ncp_play_host.specs.Asking.{IsPlayedAs, AsksNext, goes_on};
+ghost use Rattle.ncp_play_notes.specs.Faults.{play_read_failed, play_write_failed};
+ghost use Rattle.ncp_play_host.specs.Asking.{IsPlayedAs, AsksNext, has_more_behind};
 ghost use Rattle.ncp_play_script.specs.Scripts.{Line, Course};
 ghost use Rattle.ncp_transcript.specs.declared.input.Input.{Input as Asks};
 
@@ -33,9 +33,9 @@ fn asked_by_words(
 ) -> Result<NextAsked, PlayFault>
     ensures told { (line : Line) (course : Course Asks)
         → line.ended ≡ ended → IsPlayedAs number line words.old course result }
-    ensures ended { IfOk result (λ next. goes_on next ≡ true → ended ≡ true) }
-    ensures read { is_read_failed result ≡ false }
-    ensures write { is_write_failed result ≡ false }
+    ensures ended { IfOk result (λ next. has_more_behind next ≡ true → ended ≡ true) }
+    ensures read { play_read_failed result ≡ false }
+    ensures write { play_write_failed result ≡ false }
 {
     match host_line(alloc, words) {
         Ok(Some(HostLine::Input(input))) => Ok(NextAsked::Does { input, ended }),
@@ -53,9 +53,9 @@ pub(crate) fn next_asked<S: Source>(
     ensures told { (bytes : List ℕ)
         → ScriptBrings S.Source script.old bytes
         → AsksNext script.old.lines.now.number bytes result script.new.lines.now (script_left S.Source script.new) }
-    ensures effort { IfOk result (λ next. goes_on next ≡ true → ReadsOn S.Source script.old script.new) }
-    ensures mark { is_cut_off S.Source script.new ≡ (is_cut_off S.Source script.old || is_read_failed result) }
-    ensures other { is_write_failed result ≡ false }
+    ensures effort { IfOk result (λ next. has_more_behind next ≡ true → ReadsOn S.Source script.old script.new) }
+    ensures mark { is_cut_off S.Source script.new ≡ (is_cut_off S.Source script.old || play_read_failed result) }
+    ensures other { play_write_failed result ≡ false }
     ensures same_script { SameScript script.old script.new }
 {
     match next_played(script.lines, script.source) {

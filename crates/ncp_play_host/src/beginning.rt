@@ -1,8 +1,8 @@
 //! The first line of a script of one host.
 ghost use Rattle.std.specs.Prelude.{◌≡◌, ℕ, List, ◌||◌, false};
 ghost use Rattle.ncp_play_stream.specs.Streams.{Ahead};
-ghost use Rattle.ncp_play_notes.specs.Faults.{is_read_failed, is_write_failed};
-ghost use Rattle.ncp_play_host.specs.Beginning.{IsHostOf, Begins};
+ghost use Rattle.ncp_play_notes.specs.Faults.{play_read_failed, play_write_failed};
+ghost use Rattle.ncp_play_host.specs.Beginning.{IsHostOf, HostBegins};
 
 use ncp_bits::BitStore;
 use ncp_host::HostFault;
@@ -16,8 +16,8 @@ use std::alloc::Global;
 // The host that the words of a first line name.
 fn host_of_words<S: BitStore>(alloc: Global, words: &mut Words<'_>) -> Result<Alone<S>, PlayFault>
     ensures told { IsHostOf words.old result }
-    ensures read { is_read_failed result ≡ false }
-    ensures write { is_write_failed result ≡ false }
+    ensures read { play_read_failed result ≡ false }
+    ensures write { play_write_failed result ≡ false }
 {
     let Some(hosts) = host_named(words) else {
         return Err(PlayFault::BadHosts);
@@ -38,9 +38,9 @@ pub(crate) fn begin<S: BitStore, R: Source>(
 ) -> Result<(Alone<S>, bool), PlayFault>
     requires { lines.old.number ≡ 1 }
     ensures told { (bytes : List ℕ)
-        → Ahead lines.old.window (R.left source.old) bytes → Begins bytes result lines.new (R.left source.new) }
-    ensures mark { R.has_failed source.new ≡ (R.has_failed source.old || is_read_failed result) }
-    ensures other { is_write_failed result ≡ false }
+        → Ahead lines.old.window (R.left source.old) bytes → HostBegins bytes result lines.new (R.left source.new) }
+    ensures mark { R.has_failed source.new ≡ (R.has_failed source.old || play_read_failed result) }
+    ensures other { play_write_failed result ≡ false }
 {
     match next_played(lines, source) {
         Ok(NextLine::Over) => Err(PlayFault::BadHosts),

@@ -2,7 +2,7 @@
 ghost use Rattle.std.specs.Prelude.{◌≡◌, ℕ, List, ◌||◌, None, IfOk};
 ghost use Rattle.ncp_play_page.specs.Outlets.{SameOutlet, written_by, write_failed};
 ghost use Rattle.ncp_play_reader.specs.LentScripts.{SameScript, ScriptBrings, ReadsOn, script_left, is_cut_off};
-ghost use Rattle.ncp_play_notes.specs.Faults.{is_read_failed, is_write_failed};
+ghost use Rattle.ncp_play_notes.specs.Faults.{play_read_failed, play_write_failed};
 ghost use Rattle.ncp_play_notes.specs.Playing.{Does, Tells, TellsAs};
 ghost use Rattle.ncp_play_notes.specs.declared.heading.Heading.{Heading as Beginning};
 ghost use Rattle.ncp_play_host.specs.Doing.{NextDoes, LinesDo};
@@ -37,7 +37,7 @@ fn play_on<S: BitStore, W: Sink>(
     ensures told { (was : List ℕ) (first : Beginning)
         → Tells was first alone.old.notes heading.old out.old.page.now (written_by W.Sink out.old)
         → TellsAs was first alone.new.notes result heading.new out.new.page.now (written_by W.Sink out.new) }
-    ensures mark { write_failed W.Sink out.new ≡ (write_failed W.Sink out.old || is_write_failed result) }
+    ensures mark { write_failed W.Sink out.new ≡ (write_failed W.Sink out.old || play_write_failed result) }
     ensures same_outlet { SameOutlet out.old out.new }
 {
     match play_input(alone, input, heading, out) {
@@ -63,8 +63,8 @@ fn play_next<S: BitStore, R: Source, W: Sink>(
         → Tells was first alone.old.notes heading.old out.old.page.now (written_by W.Sink out.old)
         → TellsAs was first alone.new.notes result heading.new out.new.page.now (written_by W.Sink out.new) }
     ensures effort { IfOk result (λ end. end ≡ None → ReadsOn R.Source script.old script.new) }
-    ensures source_mark { is_cut_off R.Source script.new ≡ (is_cut_off R.Source script.old || is_read_failed result) }
-    ensures sink_mark { write_failed W.Sink out.new ≡ (write_failed W.Sink out.old || is_write_failed result) }
+    ensures source_mark { is_cut_off R.Source script.new ≡ (is_cut_off R.Source script.old || play_read_failed result) }
+    ensures sink_mark { write_failed W.Sink out.new ≡ (write_failed W.Sink out.old || play_write_failed result) }
     ensures same_script { SameScript script.old script.new }
     ensures same_outlet { SameOutlet out.old out.new }
 {
@@ -91,8 +91,8 @@ pub(crate) fn play_lines<S: BitStore, R: Source, W: Sink>(
     ensures told { (was : List ℕ) (first : Beginning)
         → Tells was first alone.old.notes heading.old out.old.page.now (written_by W.Sink out.old)
         → TellsAs was first alone.new.notes result heading.new out.new.page.now (written_by W.Sink out.new) }
-    ensures source_mark { is_cut_off R.Source script.new ≡ (is_cut_off R.Source script.old || is_read_failed result) }
-    ensures sink_mark { write_failed W.Sink out.new ≡ (write_failed W.Sink out.old || is_write_failed result) }
+    ensures source_mark { is_cut_off R.Source script.new ≡ (is_cut_off R.Source script.old || play_read_failed result) }
+    ensures sink_mark { write_failed W.Sink out.new ≡ (write_failed W.Sink out.old || play_write_failed result) }
     ensures same_script { SameScript script.old script.new }
     ensures same_outlet { SameOutlet out.old out.new }
 {

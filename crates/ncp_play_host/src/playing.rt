@@ -2,7 +2,7 @@
 ghost use Rattle.std.specs.Prelude.{◌≡◌, ℕ, List, ◌||◌, [], Some, true, false};
 ghost use Rattle.ncp_play_page.specs.Outlets.{SameOutlet, written_by, write_failed, HasSaid};
 ghost use Rattle.ncp_play_reader.specs.LentScripts.{SameScript, ScriptBrings, script_left, is_cut_off};
-ghost use Rattle.ncp_play_notes.specs.Faults.{is_read_failed, is_write_failed};
+ghost use Rattle.ncp_play_notes.specs.Faults.{play_read_failed, play_write_failed};
 ghost use Rattle.ncp_play_notes.specs.Playing.{TellsAs};
 ghost use Rattle.ncp_play_notes.specs.declared.heading.Heading.{Heading as Beginning};
 ghost use Rattle.ncp_play_host.specs.Played.{has_refusal, first_heading, BehindDoes, Says, HostPlayed};
@@ -36,12 +36,12 @@ fn play_behind<S: BitStore, R: Source, W: Sink>(
     ensures events { (bytes : List ℕ) → ScriptBrings R.Source script.old bytes
         → (ended ≡ false → bytes ≡ [])
         → BehindDoes script.old.lines.now.number bytes alone.old result alone.new (script_left R.Source script.new) }
-    ensures whole { ended ≡ false → is_read_failed result ≡ false }
+    ensures whole { ended ≡ false → play_read_failed result ≡ false }
     ensures told { (was : List ℕ) → alone.old.notes ≡ []
         → HasSaid W.Sink was out.old []
         → (heading : Beginning) × TellsAs was first_heading alone.new.notes result heading out.new.page.now (written_by W.Sink out.new) }
-    ensures source_mark { is_cut_off R.Source script.new ≡ (is_cut_off R.Source script.old || is_read_failed result) }
-    ensures sink_mark { write_failed W.Sink out.new ≡ (write_failed W.Sink out.old || is_write_failed result) }
+    ensures source_mark { is_cut_off R.Source script.new ≡ (is_cut_off R.Source script.old || play_read_failed result) }
+    ensures sink_mark { write_failed W.Sink out.new ≡ (write_failed W.Sink out.old || play_write_failed result) }
     ensures same_script { SameScript script.old script.new }
     ensures same_outlet { SameOutlet out.old out.new }
 {
@@ -73,8 +73,8 @@ fn play_script<S: BitStore, R: Source, W: Sink>(
     ensures told { (bytes : List ℕ) (was : List ℕ) → R.left source.old ≡ Some bytes
         → HasSaid W.Sink was out.old []
         → Says bytes was result (R.left source.new) out.new.page.now (written_by W.Sink out.new) }
-    ensures source_mark { R.has_failed source.new ≡ (R.has_failed source.old || is_read_failed result) }
-    ensures sink_mark { write_failed W.Sink out.new ≡ (write_failed W.Sink out.old || is_write_failed result) }
+    ensures source_mark { R.has_failed source.new ≡ (R.has_failed source.old || play_read_failed result) }
+    ensures sink_mark { write_failed W.Sink out.new ≡ (write_failed W.Sink out.old || play_write_failed result) }
     ensures same_outlet { SameOutlet out.old out.new }
 {
     let mut lines = Lines::new();
@@ -114,9 +114,9 @@ pub fn play_host<S: BitStore, R: Source, W: Sink>(
         → HostPlayed bytes was result (R.left source.new) (W.written sink.new) }
 
     // Reading and writing are blamed only where they failed.
-    ensures read_failed { is_read_failed result ≡ true → R.has_failed source.new ≡ true }
-    ensures write_failed { W.has_failed sink.new ≡ is_write_failed result }
-    ensures blamed { R.has_failed source.new ≡ true → (is_read_failed result || is_write_failed result) ≡ true }
+    ensures read_failed { play_read_failed result ≡ true → R.has_failed source.new ≡ true }
+    ensures write_failed { W.has_failed sink.new ≡ play_write_failed result }
+    ensures blamed { R.has_failed source.new ≡ true → (play_read_failed result || play_write_failed result) ≡ true }
 {
     let mut page = Page::new();
     let mut out = Outlet {

@@ -21,8 +21,8 @@ use Rattle.ncp_play_notes.specs.declared.heading.Speaker.TheVariants.{Host, Side
 use Rattle.ncp_play_notes.specs.declared.heading.Heading.{Heading}
 
 -- the headings of the first note of a host, and of side b
-abbrev pub of_host : Heading
-of_host = record { number = 1; speaker = Host }
+abbrev pub heading_of_host : Heading
+heading_of_host = record { number = 1; speaker = Host }
 
 abbrev pub of_side_b : Heading
 of_side_b = record { number = 1; speaker = Side 98 }

@@ -8,7 +8,7 @@ use Rattle.ncp_leader.specs.Message.{message_in}
 use Rattle.ncp_host.specs.declared.received.Received.{Received}
 use Rattle.ncp_transcript.specs.declared.note.HostNote.{HostNote}
 use Rattle.ncp_transcript.specs.declared.note.HostNote.TheVariants as notes
-use Rattle.ncp_play_script.specs.Verbs.{word_of}
+use Rattle.ncp_play_script.specs.Verbs.{word_of_verb}
 use Rattle.ncp_play_page.specs.Lines.{field, number_after}
 use Rattle.ncp_play_files.specs.Lines.{message_lines}
 use Rattle.ncp_play_notes.specs.declared.heading.Speaker.{Speaker}
@@ -44,13 +44,13 @@ front heading = decimal heading.number ++ speaker_word heading.speaker
 
 -- ---- calls
 
-abbrev pub named : Heading → Name → List ℕ
-named heading name = front heading ++ codes " " ++ word_of name.0 ++ peer_word heading.speaker name.1
+abbrev pub heading_and_name : Heading → Name → List ℕ
+heading_and_name heading name = front heading ++ codes " " ++ word_of_verb name.0 ++ peer_word heading.speaker name.1
 
 -- the line of a call with its result, if the call has a name
 abbrev pub line_if_named : Heading → Option Name → List ℕ → List ℕ
 line_if_named heading None result = []
-line_if_named heading (Some name) result = named heading name ++ result ++ codes "\n"
+line_if_named heading (Some name) result = heading_and_name heading name ++ result ++ codes "\n"
 
 abbrev pub call_line : Heading → HostNote → List ℕ
 call_line heading note = line_if_named heading (name_of_note note) (result_words note)

@@ -2,7 +2,7 @@
 use Rattle.std.specs.Prelude.{◌≡◌, ℕ, List, Option, Result, Ok, Err}
 use Rattle.ncp_transcript.specs.declared.input.Input.{Input}
 use Rattle.ncp_transcript.specs.declared.note.HostNote.{HostNote}
-use Rattle.ncp_transcript.specs.Alone.{Alone, IsStep}
+use Rattle.ncp_transcript.specs.Alone.{Alone, IsHostStep}
 use Rattle.ncp_play_stream.specs.Streams.{SaidSoFar}
 use Rattle.ncp_play_notes.specs.declared.fault.PlayFault.{PlayFault}
 use Rattle.ncp_play_notes.specs.declared.fault.PlayFault.TheVariants.{BadLine, LineTooLong, BadHosts, Feed, ReadFailed, WriteFailed, OutOfMemory}
@@ -22,9 +22,9 @@ TellsBeginning was first notes written = (lost : List ℕ) × SaidSoFar was lost
 -- what was done to a host, by the answer: the input; or there was no memory, and nothing has happened; or the
 -- input, and a write failed
 abbrev pub Does : Input → Alone → Result Unit PlayFault → Alone → Type 0
-Does input before (Ok done) now = IsStep input before now
+Does input before (Ok done) now = IsHostStep input before now
 Does input before (Err OutOfMemory) now = now ≡ before
-Does input before (Err WriteFailed) now = IsStep input before now
+Does input before (Err WriteFailed) now = IsHostStep input before now
 Does input before (Err (Feed fault)) now = ⊥
 Does input before (Err ReadFailed) now = ⊥
 Does input before (Err BadHosts) now = ⊥

@@ -6,7 +6,7 @@ use Rattle.ncp_terms.specs.declared.command.Command.TheVariants.{Err as Error_of
 use Rattle.std.specs.declared.result.Result.TheVariants.{Ok}
 use Rattle.ncp_model.specs.declared.call_fault.CallFault.{CallFault}
 use Rattle.ncp_model.specs.declared.outcomes.Error.{Error}
-use Rattle.ncp_model.specs.Faults.{name_of}
+use Rattle.ncp_model.specs.Faults.{name_of_call_fault}
 use Rattle.ncp_conn.specs.declared.record.End.{End}
 use Rattle.ncp_conn.specs.declared.record.End.TheVariants.{Send, Receive}
 use Rattle.ncp_conn.specs.declared.record.Record.{Record}
@@ -20,7 +20,7 @@ use Rattle.ncp_play_files.specs.Lines.{text_word, item_line}
 use Rattle.ncp_play_files.specs.Checked.{capped}
 
 abbrev pub refused_words : CallFault → List ℕ
-refused_words fault = codes " refused " ++ name_of fault
+refused_words fault = codes " refused " ++ name_of_call_fault fault
 
 -- a text that was taken, as a line of a text has it
 abbrev pub took_words : List Bool → List ℕ

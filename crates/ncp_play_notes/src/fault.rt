@@ -1,6 +1,6 @@
 //! `PlayFault`.
 ghost use Rattle.std.specs.Prelude.{◌≡◌, ◌+◌, ◌*◌, ◌≤◌, ◌||◌, ◌++◌, ℕ, List, Some, length, is_err};
-ghost use Rattle.ncp_play_notes.specs.Faults.{number_of, name_of, line_of, place_words, fault_line, Wrote};
+ghost use Rattle.ncp_play_notes.specs.Faults.{number_of_play_fault, name_of_play_fault, line_of, place_words, fault_line, WroteOrBegan};
 
 use ncp_play_files::{FileFault, LONGEST_LINE};
 use ncp_play_page::{PAGE_SIZE, Page, push_field};
@@ -36,7 +36,7 @@ pub enum PlayFault {
 impl PlayFault {
     /// The number.
     pub fn number(self) -> u8
-        ensures { result ≡ number_of self }
+        ensures { result ≡ number_of_play_fault self }
     {
         match self {
             PlayFault::BadLine(_) => 1,
@@ -51,7 +51,7 @@ impl PlayFault {
 
     /// The name that a program prints.
     pub fn name(self) -> &'static str
-        ensures { result.now ≡ name_of self }
+        ensures { result.now ≡ name_of_play_fault self }
     {
         match self {
             PlayFault::BadLine(_) => "BadLine",
@@ -78,7 +78,7 @@ impl PlayFault {
     /// Writes what a program prints on standard error: `ncp: line 3: BadLine`, or `ncp: BadHosts`.
     pub fn tell<W: Sink>(self, sink: &mut W) -> Result<(), Failed>
         ensures told { (was : List ℕ)
-            → W.written sink.old ≡ Some was → Wrote was (fault_line self) result (W.written sink.new) }
+            → W.written sink.old ≡ Some was → WroteOrBegan was (fault_line self) result (W.written sink.new) }
         ensures mark { W.has_failed sink.new ≡ (W.has_failed sink.old || is_err result) }
     {
         let mut page = Page::new();

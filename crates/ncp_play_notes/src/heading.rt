@@ -1,7 +1,7 @@
 //! How a line begins: `Speaker` and `Heading`.
 ghost use Rattle.std.specs.Prelude.{◌≡◌, ◌+◌, ◌≤◌, ◌++◌, length};
-ghost use Rattle.ncp_play_notes.specs.NoteLines.{speaker_word, names_peer, peer_word, front, named, next_heading};
-ghost use Rattle.ncp_play_script.specs.Verbs.{word_of};
+ghost use Rattle.ncp_play_notes.specs.NoteLines.{speaker_word, names_peer, peer_word, front, heading_and_name, next_heading};
+ghost use Rattle.ncp_play_script.specs.Verbs.{word_of_verb};
 
 use ncp_play_page::{LONGEST_NUMBER, PAGE_SIZE, Page, push_field};
 use ncp_play_script::Verb;
@@ -104,7 +104,7 @@ pub fn push_front(page: &mut Page, heading: Heading)
 // Appends the word that names a call.
 fn push_verb(page: &mut Page, verb: Verb)
     requires { length page.old + LONGEST_VERB ≤ PAGE_SIZE }
-    ensures bytes { page.new ≡ page.old ++ word_of verb }
+    ensures bytes { page.new ≡ page.old ++ word_of_verb verb }
     ensures len { length page.new ≤ length page.old + LONGEST_VERB }
 {
     page.push_text(verb.word().as_bytes());
@@ -113,7 +113,7 @@ fn push_verb(page: &mut Page, verb: Verb)
 /// Appends the words in front of the result of a call.
 pub(crate) fn push_named(page: &mut Page, heading: Heading, verb: Verb, peer: Option<u8>)
     requires { length page.old + LONGEST_NAMED ≤ PAGE_SIZE }
-    ensures bytes { page.new ≡ page.old ++ named heading (verb, peer) }
+    ensures bytes { page.new ≡ page.old ++ heading_and_name heading (verb, peer) }
     ensures len { length page.new ≤ length page.old + LONGEST_NAMED }
 {
     push_front(page, heading);

@@ -2,7 +2,7 @@
 ghost use Rattle.std.specs.Prelude.{◌≡◌, ◌+◌, ◌≤◌, ◌||◌, ℕ, List};
 ghost use Rattle.ncp_play_page.specs.Outlets.{SameOutlet, written_by, write_failed, credit};
 ghost use Rattle.ncp_play_stream.specs.Pieces.{lost_pieces};
-ghost use Rattle.ncp_play_notes.specs.Faults.{is_write_failed};
+ghost use Rattle.ncp_play_notes.specs.Faults.{play_write_failed};
 ghost use Rattle.ncp_play_notes.specs.Playing.{Does, Tells, TellsAs};
 ghost use Rattle.ncp_play_notes.specs.declared.heading.Heading.{Heading as Beginning};
 
@@ -29,8 +29,8 @@ pub fn play_input<S: BitStore, W: Sink>(
     ensures told { (was : List ℕ) (first : Beginning)
         → Tells was first alone.old.notes heading.old out.old.page.now (written_by W.Sink out.old)
         → TellsAs was first alone.new.notes result heading.new out.new.page.now (written_by W.Sink out.new) }
-    ensures writes { credit W.Sink out.old ≤ credit W.Sink out.new + lost_pieces (is_write_failed result) }
-    ensures mark { write_failed W.Sink out.new ≡ (write_failed W.Sink out.old || is_write_failed result) }
+    ensures writes { credit W.Sink out.old ≤ credit W.Sink out.new + lost_pieces (play_write_failed result) }
+    ensures mark { write_failed W.Sink out.new ≡ (write_failed W.Sink out.old || play_write_failed result) }
     ensures same_outlet { SameOutlet out.old out.new }
 {
     if alone.step(input).is_err() {

@@ -16,7 +16,7 @@ use Rattle.ncp_play_follow.specs.FollowedFiles.{Follows}
 use Rattle.ncp_play_follow.specs.FollowedTexts.{FollowsText}
 use Rattle.ncp_play_notes.specs.declared.fault.PlayFault.{PlayFault}
 use Rattle.ncp_play_notes.specs.declared.fault.PlayFault.TheVariants.{Feed, OutOfMemory}
-use Rattle.ncp_play_notes.specs.Faults.{is_read_failed, is_write_failed}
+use Rattle.ncp_play_notes.specs.Faults.{play_read_failed, play_write_failed}
 use Rattle.ncp_play_host.specs.Played.{HostPlayed}
 use Rattle.ncp_play_world.specs.ManyRules.{is_many_script}
 use Rattle.ncp_play_world.specs.Players.{PlaysWorld, PlaysMany}
@@ -30,8 +30,8 @@ pub record Streams : Type 0 where
   pub written : Option (List ℕ)
   pub write_failed : Bool
 
-abbrev pub seen : Option (List ℕ) → Bool → Option (List ℕ) → Bool → Streams
-seen left read_failed written write_failed = record { left = left; read_failed = read_failed; written = written; write_failed = write_failed }
+abbrev pub streams_of : Option (List ℕ) → Bool → Option (List ℕ) → Bool → Streams
+streams_of left read_failed written write_failed = record { left = left; read_failed = read_failed; written = written; write_failed = write_failed }
 
 -- of bytes that are told before: all that is to be read, and all that was written
 abbrev pub OfBytes : Streams → (List ℕ → List ℕ → Type 0) → Type 0
@@ -79,11 +79,11 @@ module _ (before : Streams) (answer : Result Bool PlayFault) (now : Streams) whe
 
   -- a player kept what it promises by this answer
   abbrev pub Plays : (List ℕ → List ℕ → Type 0) → Type 0
-  Plays P = Blames (is_read_failed answer) (is_write_failed answer) now × OfBytes before P
+  Plays P = Blames (play_read_failed answer) (play_write_failed answer) now × OfBytes before P
 
   -- nothing was read, and a write is blamed exactly where it failed
   abbrev pub DoesExplain : Type 0
-  DoesExplain = Blames false (is_write_failed answer) now × (now.left ≡ before.left) × (now.read_failed ≡ before.read_failed)
+  DoesExplain = Blames false (play_write_failed answer) now × (now.left ≡ before.left) × (now.read_failed ≡ before.read_failed)
 
   -- what was done of an order, by the answer
   abbrev pub Does : Order → Type 0

@@ -1,9 +1,9 @@
 //! What the program does with the words of its command line.
 ghost use Rattle.std.specs.Prelude.{◌≡◌, None, Some, map, true, false, IsErr};
-ghost use Rattle.ncp_play_notes.specs.Faults.{is_read_failed, is_write_failed};
-ghost use Rattle.ncp_play_program.specs.Orders.{seen, Does};
+ghost use Rattle.ncp_play_notes.specs.Faults.{play_read_failed, play_write_failed};
+ghost use Rattle.ncp_play_program.specs.Orders.{streams_of, Does};
 ghost use Rattle.ncp_play_command_line.specs.declared.orders.Order.TheVariants.{Audit, Follow};
-ghost use Rattle.ncp_play_program.specs.Obeying.{heard, Tells, status_of, status_after, Obeys};
+ghost use Rattle.ncp_play_program.specs.Obeying.{telling_of, TellsFault, status_of, status_after, Obeys};
 
 use crate::put::put;
 use crate::telling::explanation;
@@ -23,8 +23,8 @@ use std::convert::AsStr;
 // Says what a name means, and answers whether it is the name of a fault, a refusal or a rule.
 fn explain<W: Sink>(alloc: Global, name: &str, sink: &mut W) -> Result<bool, PlayFault>
     requires sink_clean { W.has_failed sink.old ≡ false }
-    ensures read { is_read_failed result ≡ false }
-    ensures mark { W.has_failed sink.new ≡ is_write_failed result }
+    ensures read { play_read_failed result ≡ false }
+    ensures mark { W.has_failed sink.new ≡ play_write_failed result }
 {
     let Ok((text, known)) = explanation(alloc, name) else {
         return Err(PlayFault::OutOfMemory);
@@ -46,8 +46,8 @@ fn judge<S: Source, W: Sink>(
     requires source_clean { S.has_failed source.old ≡ false }
     requires sink_clean { W.has_failed sink.old ≡ false }
     ensures does { Does
-        (seen (S.left source.old) (S.has_failed source.old) (W.written sink.old) (W.has_failed sink.old)) result
-        (seen (S.left source.new) (S.has_failed source.new) (W.written sink.new) (W.has_failed sink.new)) (Audit part standard) }
+        (streams_of (S.left source.old) (S.has_failed source.old) (W.written sink.old) (W.has_failed sink.old)) result
+        (streams_of (S.left source.new) (S.has_failed source.new) (W.written sink.new) (W.has_failed sink.new)) (Audit part standard) }
     ensures read_failed { S.has_failed source.new ≡ true → IsErr result }
     ensures write_failed { W.has_failed sink.new ≡ true → IsErr result }
 {
@@ -70,8 +70,8 @@ fn trace_lines<S: Source, W: Sink>(
     requires source_clean { S.has_failed source.old ≡ false }
     requires sink_clean { W.has_failed sink.old ≡ false }
     ensures does { Does
-        (seen (S.left source.old) (S.has_failed source.old) (W.written sink.old) (W.has_failed sink.old)) result
-        (seen (S.left source.new) (S.has_failed source.new) (W.written sink.new) (W.has_failed sink.new)) (Follow part None) }
+        (streams_of (S.left source.old) (S.has_failed source.old) (W.written sink.old) (W.has_failed sink.old)) result
+        (streams_of (S.left source.new) (S.has_failed source.new) (W.written sink.new) (W.has_failed sink.new)) (Follow part None) }
     ensures read_failed { S.has_failed source.new ≡ true → IsErr result }
     ensures write_failed { W.has_failed sink.new ≡ true → IsErr result }
 {
@@ -95,8 +95,8 @@ fn trace_text<S: Source, W: Sink>(
     requires source_clean { S.has_failed source.old ≡ false }
     requires sink_clean { W.has_failed sink.old ≡ false }
     ensures does { Does
-        (seen (S.left source.old) (S.has_failed source.old) (W.written sink.old) (W.has_failed sink.old)) result
-        (seen (S.left source.new) (S.has_failed source.new) (W.written sink.new) (W.has_failed sink.new)) (Follow part (Some wanted)) }
+        (streams_of (S.left source.old) (S.has_failed source.old) (W.written sink.old) (W.has_failed sink.old)) result
+        (streams_of (S.left source.new) (S.has_failed source.new) (W.written sink.new) (W.has_failed sink.new)) (Follow part (Some wanted)) }
     ensures read_failed { S.has_failed source.new ≡ true → IsErr result }
     ensures write_failed { W.has_failed sink.new ≡ true → IsErr result }
 {
@@ -120,8 +120,8 @@ fn trace<S: Source, W: Sink>(
     requires source_clean { S.has_failed source.old ≡ false }
     requires sink_clean { W.has_failed sink.old ≡ false }
     ensures does { Does
-        (seen (S.left source.old) (S.has_failed source.old) (W.written sink.old) (W.has_failed sink.old)) result
-        (seen (S.left source.new) (S.has_failed source.new) (W.written sink.new) (W.has_failed sink.new)) (Follow part bytes) }
+        (streams_of (S.left source.old) (S.has_failed source.old) (W.written sink.old) (W.has_failed sink.old)) result
+        (streams_of (S.left source.new) (S.has_failed source.new) (W.written sink.new) (W.has_failed sink.new)) (Follow part bytes) }
     ensures read_failed { S.has_failed source.new ≡ true → IsErr result }
     ensures write_failed { W.has_failed sink.new ≡ true → IsErr result }
 {
@@ -143,8 +143,8 @@ pub(crate) fn carry_out<S: Source, W: Sink>(
     requires source_clean { S.has_failed source.old ≡ false }
     requires sink_clean { W.has_failed sink.old ≡ false }
     ensures does { Does
-        (seen (S.left source.old) (S.has_failed source.old) (W.written sink.old) (W.has_failed sink.old)) result
-        (seen (S.left source.new) (S.has_failed source.new) (W.written sink.new) (W.has_failed sink.new)) order }
+        (streams_of (S.left source.old) (S.has_failed source.old) (W.written sink.old) (W.has_failed sink.old)) result
+        (streams_of (S.left source.new) (S.has_failed source.new) (W.written sink.new) (W.has_failed sink.new)) order }
     ensures read_failed { S.has_failed source.new ≡ true → IsErr result }
     ensures write_failed { W.has_failed sink.new ≡ true → IsErr result }
 {
@@ -194,7 +194,7 @@ pub(crate) fn status_after(answer: &Result<bool, PlayFault>) -> u8
 
 /// Tells the fault of an answer, if it has one, and gives the status after it.
 pub(crate) fn conclude<E: Sink>(answer: Result<bool, PlayFault>, errors: &mut E) -> u8
-    ensures told { Tells answer (heard (E.written errors.old) (E.has_failed errors.old)) (heard (E.written errors.new) (E.has_failed errors.new)) }
+    ensures told { TellsFault answer (telling_of (E.written errors.old) (E.has_failed errors.old)) (telling_of (E.written errors.new) (E.has_failed errors.new)) }
     ensures status { result ≡ status_after answer }
 {
     match answer {
@@ -225,10 +225,10 @@ where
     // The words are an order, which was carried out, and its fault told; or they are none, and nothing was read,
     // written or told.
     ensures obeyed { Obeys (map T.text words.entry.now)
-        (seen (S.left source.old) (S.has_failed source.old) (W.written sink.old) (W.has_failed sink.old))
-        (heard (E.written errors.old) (E.has_failed errors.old)) result
-        (seen (S.left source.new) (S.has_failed source.new) (W.written sink.new) (W.has_failed sink.new))
-        (heard (E.written errors.new) (E.has_failed errors.new)) }
+        (streams_of (S.left source.old) (S.has_failed source.old) (W.written sink.old) (W.has_failed sink.old))
+        (telling_of (E.written errors.old) (E.has_failed errors.old)) result
+        (streams_of (S.left source.new) (S.has_failed source.new) (W.written sink.new) (W.has_failed sink.new))
+        (telling_of (E.written errors.new) (E.has_failed errors.new)) }
 
     // A read or a write that failed is never hidden.
     ensures read_failed { S.has_failed source.new ≡ true → result ≡ 2 }

@@ -1,7 +1,7 @@
 //! `run`: the program with the streams of the system.
 ghost use Rattle.std.specs.Prelude.{◌≡◌, ◌≤◌, map, false};
 ghost use Rattle.std.specs.Process.{exit_status};
-ghost use Rattle.ncp_play_program.specs.Orders.{seen};
+ghost use Rattle.ncp_play_program.specs.Orders.{streams_of};
 ghost use Rattle.ncp_play_program.specs.Obeying.{Ends, status_after};
 
 use crate::kept::Kept;
@@ -90,9 +90,9 @@ where
 
     // The status is that of the order that the words are, or of their fault, as obey tells it.
     ensures ended { Ends (map T.text words.entry.now)
-        (seen (S.left source.old.source) (S.has_failed source.old.source) (O.contents output.old.writer) output.old.failed)
+        (streams_of (S.left source.old.source) (S.has_failed source.old.source) (O.contents output.old.writer) output.old.failed)
         (exit_status result)
-        (seen (S.left source.new.source) (S.has_failed source.new.source) (O.contents output.new.writer) output.new.failed) }
+        (streams_of (S.left source.new.source) (S.has_failed source.new.source) (O.contents output.new.writer) output.new.failed) }
 {
     let alloc = rt.alloc();
     let request = match request(alloc, words) {

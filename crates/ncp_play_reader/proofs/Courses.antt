@@ -2,35 +2,35 @@
 use Rattle.std.proofs.Common.{◌≡◌, ℕ, List, [], ◌∷◌, Option, Some, None, refl, sym, ap, ◌∙◌}
 use Rattle.ncp_play_script.specs.declared.line_buffer.LineKind.{LineKind}
 use Rattle.ncp_play_script.specs.declared.line_buffer.LineKind.TheVariants as kinds
-use Rattle.ncp_play_script.specs.Lines.{kind_of}
+use Rattle.ncp_play_script.specs.Lines.{line_kind}
 use Rattle.ncp_play_script.specs.Words.{words_of}
-use Rattle.ncp_play_script.specs.Scripts.{Line, said, Asked, Course, Over, BadHosts, NoHosts, Script, ends, judged, number_behind, course_from, first_judged, script_from}
+use Rattle.ncp_play_script.specs.Scripts.{Line, said, AskedByLine, Course, Over, BadHosts, NoHosts, Script, course_ends, course_of_line, number_behind, course_from, first_judged, script_from}
 use Rattle.ncp_play_reader.specs.NextLines.{Numbered, unless_skipped, next_from}
 
 -- what is asked for from the next line on
-abbrev pub course_at : {E : Type 0} → (List (List ℕ) → Option (Asked E)) → Option Numbered → Course E
-course_at asked None = ends Over
-course_at asked (Some it) = judged it.0 it.1 (kind_of (said it.1)) (asked (words_of (said it.1))) (course_from asked (number_behind it.0) it.2)
+abbrev pub course_at : {E : Type 0} → (List (List ℕ) → Option (AskedByLine E)) → Option Numbered → Course E
+course_at asked None = course_ends Over
+course_at asked (Some it) = course_of_line it.0 it.1 (line_kind (said it.1)) (asked (words_of (said it.1))) (course_from asked (number_behind it.0) it.2)
 
-course_here : {E : Type 0} (asked : List (List ℕ) → Option (Asked E)) (number : ℕ) (line : Line) (lines : List Line) (kind : LineKind) → kind_of (said line) ≡ kind
+course_here : {E : Type 0} (asked : List (List ℕ) → Option (AskedByLine E)) (number : ℕ) (line : Line) (lines : List Line) (kind : LineKind) → line_kind (said line) ≡ kind
     → course_from asked (number_behind number) lines ≡ course_at asked (next_from (number_behind number) lines) → course_from asked number (line ∷ lines) ≡ course_at asked (next_from number (line ∷ lines))
 course_here asked number line lines kinds.Skipped e behind =
-    ap (λ kind. judged number line kind (asked (words_of (said line))) (course_from asked (number_behind number) lines)) e ∙ behind
+    ap (λ kind. course_of_line number line kind (asked (words_of (said line))) (course_from asked (number_behind number) lines)) e ∙ behind
     ∙ sym (ap (λ kind. course_at asked (unless_skipped kind (number, line, lines) (next_from (number_behind number) lines))) e)
 course_here asked number line lines kinds.TooLong e behind = sym (ap (λ kind. course_at asked (unless_skipped kind (number, line, lines) (next_from (number_behind number) lines))) e)
 course_here asked number line lines kinds.Played e behind = sym (ap (λ kind. course_at asked (unless_skipped kind (number, line, lines) (next_from (number_behind number) lines))) e)
 
-pub course_next : {E : Type 0} (asked : List (List ℕ) → Option (Asked E)) (number : ℕ) (lines : List Line) → course_from asked number lines ≡ course_at asked (next_from number lines)
+pub course_next : {E : Type 0} (asked : List (List ℕ) → Option (AskedByLine E)) (number : ℕ) (lines : List Line) → course_from asked number lines ≡ course_at asked (next_from number lines)
 course_next asked number [] = refl
-course_next asked number (line ∷ lines) = course_here asked number line lines (kind_of (said line)) refl (course_next asked (number_behind number) lines)
+course_next asked number (line ∷ lines) = course_here asked number line lines (line_kind (said line)) refl (course_next asked (number_behind number) lines)
 
 -- a script from its first line on that is not skipped
-abbrev pub script_at : {H E : Type 0} → (List (List ℕ) → Option H) → (H → List (List ℕ) → Option (Asked E)) → Option Numbered → Script H E
+abbrev pub script_at : {H E : Type 0} → (List (List ℕ) → Option H) → (H → List (List ℕ) → Option (AskedByLine E)) → Option Numbered → Script H E
 script_at hosts asked None = NoHosts BadHosts
 script_at hosts asked (Some it) =
-    first_judged it.0 (kind_of (said it.1)) (hosts (words_of (said it.1))) (λ h. course_from (asked h) (number_behind it.0) it.2) (script_from hosts asked (number_behind it.0) it.2)
+    first_judged it.0 (line_kind (said it.1)) (hosts (words_of (said it.1))) (λ h. course_from (asked h) (number_behind it.0) it.2) (script_from hosts asked (number_behind it.0) it.2)
 
-script_here : {H E : Type 0} (hosts : List (List ℕ) → Option H) (asked : H → List (List ℕ) → Option (Asked E)) (number : ℕ) (line : Line) (lines : List Line) (kind : LineKind) → kind_of (said line) ≡ kind
+script_here : {H E : Type 0} (hosts : List (List ℕ) → Option H) (asked : H → List (List ℕ) → Option (AskedByLine E)) (number : ℕ) (line : Line) (lines : List Line) (kind : LineKind) → line_kind (said line) ≡ kind
     → script_from hosts asked (number_behind number) lines ≡ script_at hosts asked (next_from (number_behind number) lines) → script_from hosts asked number (line ∷ lines) ≡ script_at hosts asked (next_from number (line ∷ lines))
 script_here hosts asked number line lines kinds.Skipped e behind =
     ap (λ kind. first_judged number kind (hosts (words_of (said line))) (λ h. course_from (asked h) (number_behind number) lines) (script_from hosts asked (number_behind number) lines)) e ∙ behind
@@ -38,6 +38,6 @@ script_here hosts asked number line lines kinds.Skipped e behind =
 script_here hosts asked number line lines kinds.TooLong e behind = sym (ap (λ kind. script_at hosts asked (unless_skipped kind (number, line, lines) (next_from (number_behind number) lines))) e)
 script_here hosts asked number line lines kinds.Played e behind = sym (ap (λ kind. script_at hosts asked (unless_skipped kind (number, line, lines) (next_from (number_behind number) lines))) e)
 
-pub script_next : {H E : Type 0} (hosts : List (List ℕ) → Option H) (asked : H → List (List ℕ) → Option (Asked E)) (number : ℕ) (lines : List Line) → script_from hosts asked number lines ≡ script_at hosts asked (next_from number lines)
+pub script_next : {H E : Type 0} (hosts : List (List ℕ) → Option H) (asked : H → List (List ℕ) → Option (AskedByLine E)) (number : ℕ) (lines : List Line) → script_from hosts asked number lines ≡ script_at hosts asked (next_from number lines)
 script_next hosts asked number [] = refl
-script_next hosts asked number (line ∷ lines) = script_here hosts asked number line lines (kind_of (said line)) refl (script_next hosts asked (number_behind number) lines)
+script_next hosts asked number (line ∷ lines) = script_here hosts asked number line lines (line_kind (said line)) refl (script_next hosts asked (number_behind number) lines)

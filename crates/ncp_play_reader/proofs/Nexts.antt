@@ -6,15 +6,15 @@ use Rattle.ncp_play_stream.specs.declared.source.Failed.{Failed}
 use Rattle.ncp_play_stream.specs.Streams.{Ahead}
 use Rattle.ncp_play_script.specs.declared.line_buffer.LineKind.{LineKind}
 use Rattle.ncp_play_script.specs.declared.line_buffer.LineKind.TheVariants as kinds
-use Rattle.ncp_play_script.specs.Lines.{is_lf, text_of, kind_of}
+use Rattle.ncp_play_script.specs.Lines.{is_lf, text_of_line, line_kind}
 use Rattle.ncp_play_script.specs.Scripts.{Line, onto_line, lines_of, said, number_behind}
 use Rattle.ncp_play_reader.specs.declared.lines.Lines.{Lines}
 use Rattle.ncp_play_reader.specs.declared.lines.NextLine.{NextLine}
 use Rattle.ncp_play_reader.specs.declared.lines.NextLine.TheVariants.{Over, TooLong, Played}
 use Rattle.ncp_play_script.proofs.Kept.{same_kind, same_text}
 use Rattle.ncp_play_script.proofs.ScriptLines.{line_last}
-use Rattle.ncp_play_reader.specs.Reading.{IsFirst, EndsNone, ReadsLine}
-use Rattle.ncp_play_reader.specs.NextLines.{Numbered, unless_skipped, next_from, ended_lines, CameBefore, ReadsNext}
+use Rattle.ncp_play_reader.specs.Reading.{IsFirstLine, EndsNone, ReadsLine}
+use Rattle.ncp_play_reader.specs.NextLines.{Numbered, unless_skipped, next_from, ended_lines, CameBefore, ReadsNextLine}
 
 -- ---- the first line of bytes
 
@@ -67,7 +67,7 @@ front_of (byte ∷ bytes) line lines e = front_byte (is_lf byte) byte bytes refl
 
 -- ---- lines that are skipped
 
-skipped_from : (first : ℕ) (line : Line) (lines : List Line) → kind_of (said line) ≡ kinds.Skipped → next_from first (line ∷ lines) ≡ next_from (number_behind first) lines
+skipped_from : (first : ℕ) (line : Line) (lines : List Line) → line_kind (said line) ≡ kinds.Skipped → next_from first (line ∷ lines) ≡ next_from (number_behind first) lines
 skipped_from first line lines e = ap (λ kind. unless_skipped kind (first, line, lines) (next_from (number_behind first) lines)) e
 
 ended_first : (line : Line) (lines : List Line) → line.ended ≡ true → ended_lines (line ∷ lines) ≡ line ∷ ended_lines lines
@@ -80,7 +80,7 @@ not_ended_first line lines e = ap (λ ended. if ended then line ∷ ended_lines 
 came_whole : (bytes : List ℕ) (line : Line) (lines : List Line) → Front bytes line lines → line.ended ≡ true → (given : List ℕ) → ended_lines (lines_of (line.bytes ++ LF ∷ given)) ≡ record line { behind = given } ∷ ended_lines (lines_of given)
 came_whole bytes line lines front ended given = ap ended_lines (front.3 ended given) ∙ ended_first (record line { behind = given }) (lines_of given) ended
 
-came_skipped : (first : ℕ) (bytes : List ℕ) (line : Line) (lines : List Line) (left : Option (List ℕ)) → lines_of bytes ≡ line ∷ lines → line.ended ≡ true → kind_of (said line) ≡ kinds.Skipped
+came_skipped : (first : ℕ) (bytes : List ℕ) (line : Line) (lines : List Line) (left : Option (List ℕ)) → lines_of bytes ≡ line ∷ lines → line.ended ≡ true → line_kind (said line) ≡ kinds.Skipped
     → (given : List ℕ) × CameBefore line.behind left given × (next_from (number_behind first) (ended_lines (lines_of given)) ≡ None)
     → (given : List ℕ) × CameBefore bytes left given × (next_from first (ended_lines (lines_of given)) ≡ None)
 came_skipped first bytes line lines left e ended kind came =
@@ -92,8 +92,8 @@ came_skipped first bytes line lines left e ended kind came =
     )
 
 -- a line is skipped: what is read behind it is read of all
-pub reads_skipped : (first : ℕ) (bytes : List ℕ) (line : Line) → lines_of bytes ≡ line ∷ lines_of line.behind → line.ended ≡ true → kind_of (said line) ≡ kinds.Skipped
-    → (r : Result NextLine Failed) (now : Lines) (left : Option (List ℕ)) → ReadsNext (number_behind first) line.behind r now left → ReadsNext first bytes r now left
+pub reads_skipped : (first : ℕ) (bytes : List ℕ) (line : Line) → lines_of bytes ≡ line ∷ lines_of line.behind → line.ended ≡ true → line_kind (said line) ≡ kinds.Skipped
+    → (r : Result NextLine Failed) (now : Lines) (left : Option (List ℕ)) → ReadsNextLine (number_behind first) line.behind r now left → ReadsNextLine first bytes r now left
 reads_skipped first bytes line e ended kind (Ok Over) now left h = ap (λ lines. next_from first lines) e ∙ skipped_from first line (lines_of line.behind) kind ∙ h
 reads_skipped first bytes line e ended kind (Ok (TooLong number)) now left h =
     let next = h.1 in (h.0, (ap (λ lines. next_from first lines) e ∙ skipped_from first line (lines_of line.behind) kind ∙ next.0, next.1, next.2, next.3))
@@ -110,7 +110,7 @@ Came first bytes number line =
 some_is : {it other : Numbered} → Some it ≡ Some other → it ≡ other
 some_is e = cc
 
-came_here : (first : ℕ) (bytes : List ℕ) (l : Line) (ls : List Line) → lines_of bytes ≡ l ∷ ls → ((it : Numbered) (others : Option Numbered) → unless_skipped (kind_of (said l)) it others ≡ Some it)
+came_here : (first : ℕ) (bytes : List ℕ) (l : Line) (ls : List Line) → lines_of bytes ≡ l ∷ ls → ((it : Numbered) (others : Option Numbered) → unless_skipped (line_kind (said l)) it others ≡ Some it)
     → (number : ℕ) (line : Line) (behind : List Line) → next_from first (l ∷ ls) ≡ Some (number, line, behind) → line.ended ≡ true → Came first bytes number line
 came_here first bytes l ls e here number line behind found ended =
     let it : Some (first, l, ls) ≡ Some (number, line, behind) = sym (here (first, l, ls) (next_from (number_behind first) ls)) ∙ found in
@@ -131,7 +131,7 @@ came_here first bytes l ls e here number line behind found ended =
 no_line : (first number : ℕ) (line : Line) (behind : List Line) → next_from (number_behind first) [] ≡ Some (number, line, behind) → ⊥
 no_line first number line behind e = cc
 
-came_later : (ended : Bool) (first : ℕ) (bytes : List ℕ) (l : Line) (ls : List Line) → l.ended ≡ ended → lines_of bytes ≡ l ∷ ls → kind_of (said l) ≡ kinds.Skipped
+came_later : (ended : Bool) (first : ℕ) (bytes : List ℕ) (l : Line) (ls : List Line) → l.ended ≡ ended → lines_of bytes ≡ l ∷ ls → line_kind (said l) ≡ kinds.Skipped
     → (number : ℕ) (line : Line) (behind : List Line) → next_from (number_behind first) ls ≡ Some (number, line, behind)
     → (lines_of l.behind ≡ ls → Came (number_behind first) l.behind number line) → Came first bytes number line
 came_later true first bytes l ls ended e kind number line behind found later =
@@ -148,7 +148,7 @@ came_later false first bytes l ls ended e kind number line behind found later =
     let none : ls ≡ [] = front.0 ∙ ap lines_of (front.1 ended) in
     absurd (no_line first number line behind (ap (λ lines. next_from (number_behind first) lines) (sym none) ∙ found))
 
-came_at : (kind : LineKind) (first : ℕ) (bytes : List ℕ) (l : Line) (ls : List Line) → kind_of (said l) ≡ kind → lines_of bytes ≡ l ∷ ls
+came_at : (kind : LineKind) (first : ℕ) (bytes : List ℕ) (l : Line) (ls : List Line) → line_kind (said l) ≡ kind → lines_of bytes ≡ l ∷ ls
     → (number : ℕ) (line : Line) (behind : List Line) → next_from first (l ∷ ls) ≡ Some (number, line, behind) → line.ended ≡ true
     → (next_from (number_behind first) ls ≡ Some (number, line, behind) → lines_of l.behind ≡ ls → Came (number_behind first) l.behind number line) → Came first bytes number line
 came_at kinds.Skipped first bytes l ls kind e number line behind found ended later =
@@ -159,9 +159,9 @@ came_at kinds.Played first bytes l ls kind e number line behind found ended late
 came_from : (lines : List Line) (first : ℕ) (bytes : List ℕ) → lines_of bytes ≡ lines → (number : ℕ) (line : Line) (behind : List Line) → next_from first lines ≡ Some (number, line, behind) → line.ended ≡ true → Came first bytes number line
 came_from [] first bytes e number line behind found ended = absurd (cc)
 came_from (l ∷ ls) first bytes e number line behind found ended =
-    came_at (kind_of (said l)) first bytes l ls refl e number line behind found ended (λ found' e'. came_from ls (number_behind first) l.behind e' number line behind found' ended)
+    came_at (line_kind (said l)) first bytes l ls refl e number line behind found ended (λ found' e'. came_from ls (number_behind first) l.behind e' number line behind found' ended)
 
-last_here : (first : ℕ) (bytes : List ℕ) (l : Line) (ls : List Line) → lines_of bytes ≡ l ∷ ls → ((it : Numbered) (others : Option Numbered) → unless_skipped (kind_of (said l)) it others ≡ Some it)
+last_here : (first : ℕ) (bytes : List ℕ) (l : Line) (ls : List Line) → lines_of bytes ≡ l ∷ ls → ((it : Numbered) (others : Option Numbered) → unless_skipped (line_kind (said l)) it others ≡ Some it)
     → (number : ℕ) (line : Line) (behind : List Line) → next_from first (l ∷ ls) ≡ Some (number, line, behind) → line.ended ≡ false → line.behind ≡ []
 last_here first bytes l ls e here number line behind found ended =
     let it : Some (first, l, ls) ≡ Some (number, line, behind) = sym (here (first, l, ls) (next_from (number_behind first) ls)) ∙ found in
@@ -169,7 +169,7 @@ last_here first bytes l ls e here number line behind found ended =
     let front = front_of bytes l ls e in
     ap (λ (x : Line). x.behind) (sym same) ∙ front.1 (ap (λ (x : Line). x.ended) same ∙ ended)
 
-last_at : (kind : LineKind) (first : ℕ) (bytes : List ℕ) (l : Line) (ls : List Line) → kind_of (said l) ≡ kind → lines_of bytes ≡ l ∷ ls → (number : ℕ) (line : Line) (behind : List Line)
+last_at : (kind : LineKind) (first : ℕ) (bytes : List ℕ) (l : Line) (ls : List Line) → line_kind (said l) ≡ kind → lines_of bytes ≡ l ∷ ls → (number : ℕ) (line : Line) (behind : List Line)
     → next_from first (l ∷ ls) ≡ Some (number, line, behind) → line.ended ≡ false → (next_from (number_behind first) ls ≡ Some (number, line, behind) → line.behind ≡ []) → line.behind ≡ []
 last_at kinds.Skipped first bytes l ls kind e number line behind found ended later = later (sym (skipped_from first l ls kind) ∙ found)
 last_at kinds.TooLong first bytes l ls kind e number line behind found ended later = last_here first bytes l ls e (λ it others. ap (λ k. unless_skipped k it others) kind) number line behind found ended
@@ -179,7 +179,7 @@ last_from : (lines : List Line) (first : ℕ) (bytes : List ℕ) → lines_of by
 last_from [] first bytes e number line behind found ended = absurd (cc)
 last_from (l ∷ ls) first bytes e number line behind found ended =
     let front = front_of bytes l ls e in
-    last_at (kind_of (said l)) first bytes l ls refl e number line behind found ended (λ found'. last_from ls (number_behind first) l.behind (sym front.0) number line behind found' ended)
+    last_at (line_kind (said l)) first bytes l ls refl e number line behind found ended (λ found'. last_from ls (number_behind first) l.behind (sym front.0) number line behind found' ended)
 
 -- a next line that no LF ends is the last
 pub last_behind : (first : ℕ) (bytes : List ℕ) (number : ℕ) (line : Line) (behind : List Line) → next_from first (lines_of bytes) ≡ Some (number, line, behind) → line.ended ≡ false → line.behind ≡ []
@@ -195,7 +195,7 @@ came_behind first bytes number line behind given left found ended before =
 -- ---- lines that are read
 
 -- the first line is skipped, and is the last
-pub skipped_last : (first : ℕ) (bytes : List ℕ) (line : Line) → lines_of bytes ≡ line ∷ lines_of line.behind → line.ended ≡ false → kind_of (said line) ≡ kinds.Skipped → next_from first (lines_of bytes) ≡ None
+pub skipped_last : (first : ℕ) (bytes : List ℕ) (line : Line) → lines_of bytes ≡ line ∷ lines_of line.behind → line.ended ≡ false → line_kind (said line) ≡ kinds.Skipped → next_from first (lines_of bytes) ≡ None
 skipped_last first bytes line e ended kind =
     let front = front_of bytes line (lines_of line.behind) e in
     ap (λ lines. next_from first lines) e ∙ skipped_from first line (lines_of line.behind) kind ∙ ap (λ behind. next_from (number_behind first) (lines_of behind)) (front.1 ended)
@@ -203,17 +203,17 @@ skipped_last first bytes line e ended kind =
 -- the line that was read, as it stands among the lines of bytes
 abbrev pub Read : List ℕ → Bool → List ℕ → List ℕ → Option (List ℕ) → Type 0
 Read bytes ended kept window left =
-    (line : Line) × (lines_of bytes ≡ line ∷ lines_of line.behind) × (line.ended ≡ ended) × (kind_of (text_of ended kept) ≡ kind_of (said line))
-    × (kind_of (said line) ≡ kinds.Played → text_of ended kept ≡ said line) × Ahead window left line.behind
+    (line : Line) × (lines_of bytes ≡ line ∷ lines_of line.behind) × (line.ended ≡ ended) × (line_kind (text_of_line ended kept) ≡ line_kind (said line))
+    × (line_kind (said line) ≡ kinds.Played → text_of_line ended kept ≡ said line) × Ahead window left line.behind
 
-pub read_first : (bytes : List ℕ) (ended : Bool) (kept window : List ℕ) (left : Option (List ℕ)) → IsFirst bytes ended kept window left → Read bytes ended kept window left
+pub read_first : (bytes : List ℕ) (ended : Bool) (kept window : List ℕ) (left : Option (List ℕ)) → IsFirstLine bytes ended kept window left → Read bytes ended kept window left
 read_first bytes ended kept window left first =
     let text = first.0 in (
       record { bytes = text; ended = ended; behind = first.1 },
       first.2,
       refl,
-      ap (λ k. kind_of (text_of ended k)) first.3 ∙ same_kind ended text,
-      λ played. ap (λ k. text_of ended k) first.3 ∙ same_text ended text played,
+      ap (λ k. line_kind (text_of_line ended k)) first.3 ∙ same_kind ended text,
+      λ played. ap (λ k. text_of_line ended k) first.3 ∙ same_text ended text played,
       first.4,
     )
 
@@ -222,12 +222,12 @@ none_whole : (given : List ℕ) → position is_lf given ≡ None → ended_line
 none_whole [] none = refl
 none_whole (byte ∷ text) none = ap ended_lines (line_last byte text none)
 
-pub next_failed : (first : ℕ) (bytes : List ℕ) (r : Result NextLine Failed) (now : Lines) (left : Option (List ℕ)) → IsErr r → EndsNone bytes left → ReadsNext first bytes r now left
+pub next_failed : (first : ℕ) (bytes : List ℕ) (r : Result NextLine Failed) (now : Lines) (left : Option (List ℕ)) → IsErr r → EndsNone bytes left → ReadsNextLine first bytes r now left
 next_failed first bytes (Ok next) now left e ends = let f : ⊥ = cc in absurd f
 next_failed first bytes (Err failed) now left e ends = (ends.0, (ends.1, ends.2, ends.3), ap (λ lines. next_from first lines) (none_whole ends.0 ends.4))
 
 -- the line that was read is not skipped
-pub next_is : (first : ℕ) (bytes : List ℕ) (line : Line) → lines_of bytes ≡ line ∷ lines_of line.behind → (kind : LineKind) → kind_of (said line) ≡ kind → ((it : Numbered) (others : Option Numbered) → unless_skipped kind it others ≡ Some it)
+pub next_is : (first : ℕ) (bytes : List ℕ) (line : Line) → lines_of bytes ≡ line ∷ lines_of line.behind → (kind : LineKind) → line_kind (said line) ≡ kind → ((it : Numbered) (others : Option Numbered) → unless_skipped kind it others ≡ Some it)
     → next_from first (lines_of bytes) ≡ Some (first, line, lines_of line.behind)
 next_is first bytes line e kind is here =
     ap (λ lines. next_from first lines) e ∙ ap (λ k. unless_skipped k (first, line, lines_of line.behind) (next_from (number_behind first) (lines_of line.behind))) is
@@ -239,7 +239,7 @@ pub read_some : (bytes : List ℕ) (found : Option Bool) (ended : Bool) (kept wi
 read_some bytes None ended kept window left e read = absurd (cc)
 read_some bytes (Some lf) ended kept window left e read =
     let same : lf ≡ ended = cc in
-    read_first bytes ended kept window left (subst (λ (b : Bool). IsFirst bytes b kept window left) same read)
+    read_first bytes ended kept window left (subst (λ (b : Bool). IsFirstLine bytes b kept window left) same read)
 
 pub none_to_read : (first : ℕ) (bytes kept window : List ℕ) (found : Option Bool) (left : Option (List ℕ)) → ((ended : Bool) → found ≡ Some ended → ⊥) → ReadsLine bytes (Ok found) kept window left → next_from first (lines_of bytes) ≡ None
 none_to_read first bytes kept window None left other read = ap (λ b. next_from first (lines_of b)) read

@@ -15,7 +15,7 @@ use Rattle.ncp_play_script.specs.Scripts.{lines_of}
 use Rattle.ncp_play_script.proofs.Cuts.{is_found, is_not_found}
 use Rattle.ncp_play_script.proofs.Kept.{same_pieces}
 use Rattle.ncp_play_script.proofs.ScriptLines.{line_last, piece_ends_line, no_lf_joined}
-use Rattle.ncp_play_reader.specs.Reading.{IsFirst, EndsNone, ReadsLine}
+use Rattle.ncp_play_reader.specs.Reading.{IsFirstLine, EndsNone, ReadsLine}
 
 -- a line is underway: what came of it has no LF, its beginning is kept, and the other bytes are to come
 abbrev pub Underway : List ℕ → List ℕ → List ℕ → Option (List ℕ) → Type 0
@@ -48,7 +48,7 @@ goes_on bytes line window window' left count under none all skipped =
     let empty : window' ≡ [] = skipped ∙ grind (arith, common_steps) in
     (text ++ window, no_lf_joined text window under.1 none, kept, rest, under.4 ∙ ap (λ r. text ++ r) (sym ahead.2) ∙ sym (append_assoc text window rest), (rest, ahead.1, ap (λ w. w ++ rest) empty))
 
-pub ends_at : (bytes line window window' : List ℕ) (left : Option (List ℕ)) (place used : ℕ) → Underway bytes line window left → position is_lf window ≡ Some place → used ≡ place + 1 → window' ≡ drop used window → IsFirst bytes true (take MAX_KEPT (line ++ before_first is_lf window)) window' left
+pub ends_at : (bytes line window window' : List ℕ) (left : Option (List ℕ)) (place used : ℕ) → Underway bytes line window left → position is_lf window ≡ Some place → used ≡ place + 1 → window' ≡ drop used window → IsFirstLine bytes true (take MAX_KEPT (line ++ before_first is_lf window)) window' left
 ends_at bytes line window window' left place used under found at skipped =
     let text = under.0 in
     let ahead = under.5 in
@@ -78,14 +78,14 @@ none_left bytes line window left under short end none =
     let all = is_all bytes line window left under short end in
     all.3 ∙ kept_none MAX_KEPT all.0 (omega arith) (sym all.2 ∙ none)
 
-last_line : (text line window : List ℕ) (left : Option (List ℕ)) → position is_lf text ≡ None → line ≡ take MAX_KEPT text → (line ≡ [] → ⊥) → Ahead window left [] → IsFirst text false line window left
+last_line : (text line window : List ℕ) (left : Option (List ℕ)) → position is_lf text ≡ None → line ≡ take MAX_KEPT text → (line ≡ [] → ⊥) → Ahead window left [] → IsFirstLine text false line window left
 last_line [] line window left none kept some ahead = absurd (some kept)
 last_line (byte ∷ text) line window left none kept some ahead = (byte ∷ text, [], line_last byte text none, kept, ahead)
 
-pub last_left : (bytes line window : List ℕ) (left : Option (List ℕ)) → Underway bytes line window left → length window < 1 → IsAtEnd left → (line ≡ [] → ⊥) → IsFirst bytes false line window left
+pub last_left : (bytes line window : List ℕ) (left : Option (List ℕ)) → Underway bytes line window left → length window < 1 → IsAtEnd left → (line ≡ [] → ⊥) → IsFirstLine bytes false line window left
 last_left bytes line window left under short end some =
     let all = is_all bytes line window left under short end in
-    subst (λ (b : List ℕ). IsFirst b false line window left) (sym all.3) (last_line all.0 line window left all.1 all.2 some all.4)
+    subst (λ (b : List ℕ). IsFirstLine b false line window left) (sym all.3) (last_line all.0 line window left all.1 all.2 some all.4)
 
 -- a read failed
 pub fails : (bytes line window : List ℕ) (left : Option (List ℕ)) → Underway bytes line window left → length window < 1 → EndsNone bytes left
@@ -103,10 +103,10 @@ goes_with bytes line line' window piece window' left count under e kept none all
     subst (λ (l : List ℕ). Underway bytes l window' left) (sym kept)
     (goes_on bytes line piece window' left count under' none (all ∙ ap length (sym e)) (skipped ∙ ap (λ w. drop count w) (sym e)))
 
-pub ends_with : (bytes line line' window piece window' : List ℕ) (left : Option (List ℕ)) (used : ℕ) → Underway bytes line window left → piece ≡ window → line' ≡ take MAX_KEPT (line ++ before_first is_lf piece) → (place : ℕ) × (position is_lf piece ≡ Some place) × (used ≡ place + 1) → window' ≡ drop used window → IsFirst bytes true line' window' left
+pub ends_with : (bytes line line' window piece window' : List ℕ) (left : Option (List ℕ)) (used : ℕ) → Underway bytes line window left → piece ≡ window → line' ≡ take MAX_KEPT (line ++ before_first is_lf piece) → (place : ℕ) × (position is_lf piece ≡ Some place) × (used ≡ place + 1) → window' ≡ drop used window → IsFirstLine bytes true line' window' left
 ends_with bytes line line' window piece window' left used under e kept u skipped =
     let under' : Underway bytes line piece left = subst (λ (w : List ℕ). Underway bytes line w left) (sym e) under in
-    subst (λ (l : List ℕ). IsFirst bytes true l window' left) (sym kept)
+    subst (λ (l : List ℕ). IsFirstLine bytes true l window' left) (sym kept)
     (ends_at bytes line piece window' left u.0 used under' u.1 u.2 (skipped ∙ ap (λ w. drop used w) (sym e)))
 
 pub failed_line : (bytes line window : List ℕ) (left : Option (List ℕ)) (r : Result (Option Bool) Failed) → IsErr r → EndsNone bytes left → ReadsLine bytes r line window left

@@ -4,7 +4,7 @@ use Rattle.ncp_play_stream.specs.declared.source.Failed.{Failed}
 use Rattle.ncp_play_stream.specs.Streams.{Ahead}
 use Rattle.ncp_play_script.specs.declared.line_buffer.LineKind.{LineKind}
 use Rattle.ncp_play_script.specs.declared.line_buffer.LineKind.TheVariants as kinds
-use Rattle.ncp_play_script.specs.Lines.{text_of, kind_of}
+use Rattle.ncp_play_script.specs.Lines.{text_of_line, line_kind}
 use Rattle.ncp_play_script.specs.Scripts.{Line, lines_of, said, number_behind}
 use Rattle.ncp_play_reader.specs.declared.lines.Lines.{Lines}
 use Rattle.ncp_play_reader.specs.declared.lines.NextLine.{NextLine}
@@ -22,7 +22,7 @@ unless_skipped kinds.Played it others = Some it
 -- the first of these lines that is not skipped, where the first of all has this number
 abbrev pub next_from : ℕ → List Line → Option Numbered
 next_from number [] = None
-next_from number (line ∷ lines) = unless_skipped (kind_of (said line)) (number, line, lines) (next_from (number_behind number) lines)
+next_from number (line ∷ lines) = unless_skipped (line_kind (said line)) (number, line, lines) (next_from (number_behind number) lines)
 
 -- the lines that an LF ends: all but a last one without
 abbrev pub ended_lines : List Line → List Line
@@ -35,18 +35,18 @@ CameBefore bytes left given = (rest : List ℕ) × (bytes ≡ given ++ rest) × 
 
 -- the next line is one of this kind, by its number among all lines; the bytes behind it are to come, and the next
 -- number is that of the line behind it
-abbrev pub IsNext : ℕ → List ℕ → LineKind → ℕ → Line → ℕ → List ℕ → Option (List ℕ) → Type 0
-IsNext first bytes kind number line next window left =
-    (next_from first (lines_of bytes) ≡ Some (number, line, lines_of line.behind)) × (kind_of (said line) ≡ kind) × (next ≡ number_behind number) × Ahead window left line.behind
+abbrev pub IsNextLine : ℕ → List ℕ → LineKind → ℕ → Line → ℕ → List ℕ → Option (List ℕ) → Type 0
+IsNextLine first bytes kind number line next window left =
+    (next_from first (lines_of bytes) ≡ Some (number, line, lines_of line.behind)) × (line_kind (said line) ≡ kind) × (next ≡ number_behind number) × Ahead window left line.behind
 
 -- what became of bytes of which the first line has this number: all their lines are skipped; or the next is too
 -- long, or is to be played, and what it says is kept; or a read failed, and the lines that came whole are skipped
-abbrev pub ReadsNext : ℕ → List ℕ → Result NextLine Failed → Lines → Option (List ℕ) → Type 0
-ReadsNext first bytes (Ok Over) now left = next_from first (lines_of bytes) ≡ None
-ReadsNext first bytes (Ok (TooLong number)) now left = (line : Line) × IsNext first bytes kinds.TooLong number line now.number now.window left
-ReadsNext first bytes (Ok (Played number ended)) now left =
-    (line : Line) × IsNext first bytes kinds.Played number line now.number now.window left × (line.ended ≡ ended) × (text_of ended now.line ≡ said line)
-ReadsNext first bytes (Err failed) now left = (given : List ℕ) × CameBefore bytes left given × (next_from first (ended_lines (lines_of given)) ≡ None)
+abbrev pub ReadsNextLine : ℕ → List ℕ → Result NextLine Failed → Lines → Option (List ℕ) → Type 0
+ReadsNextLine first bytes (Ok Over) now left = next_from first (lines_of bytes) ≡ None
+ReadsNextLine first bytes (Ok (TooLong number)) now left = (line : Line) × IsNextLine first bytes kinds.TooLong number line now.number now.window left
+ReadsNextLine first bytes (Ok (Played number ended)) now left =
+    (line : Line) × IsNextLine first bytes kinds.Played number line now.number now.window left × (line.ended ≡ ended) × (text_of_line ended now.line ≡ said line)
+ReadsNextLine first bytes (Err failed) now left = (given : List ℕ) × CameBefore bytes left given × (next_from first (ended_lines (lines_of given)) ≡ None)
 
 -- a line that is to be played, behind which others may stand
 abbrev pub goes_on : NextLine → Bool

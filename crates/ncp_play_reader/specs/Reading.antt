@@ -7,8 +7,8 @@ use Rattle.ncp_play_script.specs.Lines.{is_lf}
 use Rattle.ncp_play_script.specs.Scripts.{lines_of}
 
 -- the first line of bytes was read: its beginning is kept, and the bytes behind it are to come
-abbrev pub IsFirst : List ℕ → Bool → List ℕ → List ℕ → Option (List ℕ) → Type 0
-IsFirst bytes ended line window left =
+abbrev pub IsFirstLine : List ℕ → Bool → List ℕ → List ℕ → Option (List ℕ) → Type 0
+IsFirstLine bytes ended line window left =
     (text : List ℕ) × (behind : List ℕ)
     × (lines_of bytes ≡ record { bytes = text; ended = ended; behind = behind } ∷ lines_of behind) × (line ≡ take MAX_KEPT text) × Ahead window left behind
 
@@ -19,6 +19,6 @@ EndsNone bytes left = (given : List ℕ) × (rest : List ℕ) × (bytes ≡ give
 -- what became of bytes of which a line was to be read: the first line, with or without its LF, none where there
 -- is no byte, or a read failed before its end
 abbrev pub ReadsLine : List ℕ → Result (Option Bool) Failed → List ℕ → List ℕ → Option (List ℕ) → Type 0
-ReadsLine bytes (Ok (Some ended)) line window left = IsFirst bytes ended line window left
+ReadsLine bytes (Ok (Some ended)) line window left = IsFirstLine bytes ended line window left
 ReadsLine bytes (Ok None) line window left = bytes ≡ []
 ReadsLine bytes (Err failed) line window left = EndsNone bytes left

@@ -2,7 +2,7 @@
 ghost use Rattle.std.specs.Prelude.{◌≡◌, ℕ, List, ◌<◌, ◌||◌, is_err, IfOk, [], true};
 ghost use Rattle.ncp_play_stream.specs.Streams.{Ahead};
 ghost use Rattle.ncp_play_page.specs.Windows.{effort};
-ghost use Rattle.ncp_play_reader.specs.NextLines.{ReadsNext, goes_on};
+ghost use Rattle.ncp_play_reader.specs.NextLines.{ReadsNextLine, goes_on};
 
 use crate::reading::next_line;
 use ncp_play_page::Window;
@@ -48,7 +48,7 @@ impl Lines {
 /// and remarks are skipped, and all lines are counted. Behind a last line without LF nothing is read.
 pub fn next_played<S: Source>(lines: &mut Lines, source: &mut S) -> Result<NextLine, Failed>
     ensures told { (bytes : List ℕ) → Ahead lines.old.window (S.left source.old) bytes
-        → ReadsNext lines.old.number bytes result lines.new (S.left source.new) }
+        → ReadsNextLine lines.old.number bytes result lines.new (S.left source.new) }
     ensures effort { IfOk result (λ next. goes_on next ≡ true
         → effort (S.reads source.new) lines.new.window < effort (S.reads source.old) lines.old.window) }
     ensures mark { S.has_failed source.new ≡ (S.has_failed source.old || is_err result) }

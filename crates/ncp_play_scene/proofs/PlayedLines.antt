@@ -1,10 +1,10 @@
 -- The events of lines, one after the other.
 use Rattle.std.proofs.Common.{◌≡◌, ◌⊎◌, inl, inr, ℕ, suc, Bool, true, false, List, [], ◌∷◌, ◌++◌, Option, Some, None, Result, Ok, Err, refl, sym, ap, ◌∙◌, subst}
 use Rattle.std.proofs.lemmas.List.{append-nil}
-use Rattle.ncp_play_script.specs.Scripts.{Course, Ending, Over, ends}
+use Rattle.ncp_play_script.specs.Scripts.{Course, Ending, Over, course_ends}
 use Rattle.ncp_play_stream.specs.Streams.{SaidSoFar, SaysText, SaysBeginning}
 use Rattle.ncp_play_reader.specs.declared.lines.Lines.{Lines}
-use Rattle.ncp_play_notes.specs.Faults.{is_read_failed, is_write_failed}
+use Rattle.ncp_play_notes.specs.Faults.{play_read_failed, play_write_failed}
 use Rattle.ncp_play_notes.specs.declared.fault.PlayFault.{PlayFault}
 use Rattle.ncp_play_notes.specs.declared.fault.PlayFault.TheVariants.{BadLine, LineTooLong, BadHosts, Feed, ReadFailed, WriteFailed, OutOfMemory}
 use Rattle.ncp_play_scene.specs.Rules.{Rules, Begins, Step, Steps, NextBegins}
@@ -14,7 +14,7 @@ use Rattle.ncp_play_scene.specs.NextEvents.{course_of, course_cut, with_event, A
 use Rattle.ncp_play_scene.specs.Players.{PlayedTo, PlayedFirst, PlaysLines, GoesOn, PlaysNext, WritesAll, WritesAs, AnswersGood}
 
 module _ {F E N W : Type 0} (rules : Rules F E N W) where
-  no_events : (course : Course E) (ending : Ending) (before : W) → course ≡ ends ending → PlayedTo rules course ending before before
+  no_events : (course : Course E) (ending : Ending) (before : W) → course ≡ course_ends ending → PlayedTo rules course ending before before
   no_events course ending before e = (ap (λ c. c.ending) e, subst (λ (c : Course E). Steps (Step rules) c.events before before) (sym e) refl)
 
   none_begins : (events : List E) (before : W) → NextBegins rules events before before
@@ -68,7 +68,7 @@ module _ {F E N W : Type 0} (rules : Rules F E N W) where
 
     course_some : (event : E) (ended : Bool) (lines : Lines) (left : Option (List ℕ)) → AsksNext rules named first bytes (Ok (Some (event, ended))) lines left → (rest : Course E) × (course_of rules named first bytes ≡ with_event event rest)
     course_some event true lines left asks = (course_of rules named lines.number asks.0, asks.1)
-    course_some event false lines left asks = (ends Over, asks)
+    course_some event false lines left asks = (course_ends Over, asks)
 
     pub event_err : (event : E) (ended : Bool) (lines : Lines) (left : Option (List ℕ)) (now : W) (fault : PlayFault) → AsksNext rules named first bytes (Ok (Some (event, ended))) lines left → DoesEvent rules event before (Err fault) now
         → PlaysLines rules {X = Unit} named first bytes before (Err fault) now left
@@ -90,7 +90,7 @@ module _ {F E N W : Type 0} (rules : Rules F E N W) where
     pub event_ok : (event : E) (ended : Bool) (lines : Lines) (left : Option (List ℕ)) (now : W) → AsksNext rules named first bytes (Ok (Some (event, ended))) lines left → Step rules event before now
         → PlaysNext rules named first bytes before (Ok ended) now lines.number lines.window left
     event_ok event true lines left now asks step = (asks.0, asks.2, goes_on event lines left now asks step)
-    event_ok event false lines left now asks step = more_to (course_of rules named first bytes) (ends Over) event before now asks step Over now (refl, refl)
+    event_ok event false lines left now asks step = more_to (course_of rules named first bytes) (course_ends Over) event before now asks step Over now (refl, refl)
 
     -- no line stands behind the first
     pub no_lines : (good : Bool) (left : Option (List ℕ)) → bytes ≡ [] → PlaysLines rules named first bytes before (Ok good) before left
@@ -128,7 +128,7 @@ module _ {F E N W : Type 0} (rules : Rules F E N W) where
   good_finished notes played r h (inr e) = subst (λ (x : Result Bool PlayFault). AnswersGood rules x notes) (sym e) tt
 
   -- an event is never blamed on reading
-  pub never_reads : (event : E) (before now : W) (r : Result Unit PlayFault) → DoesEvent rules event before r now → is_read_failed r ≡ false
+  pub never_reads : (event : E) (before now : W) (r : Result Unit PlayFault) → DoesEvent rules event before r now → play_read_failed r ≡ false
   never_reads event before now (Ok done) does = refl
   never_reads event before now (Err OutOfMemory) does = refl
   never_reads event before now (Err WriteFailed) does = refl
@@ -152,7 +152,7 @@ module _ {F E N W : Type 0} (rules : Rules F E N W) where
       tells_any (Err (LineTooLong line)) told = told
       tells_any (Err (Feed fault)) told = told
 
-      pub tells_all : (r : Result X PlayFault) → is_write_failed r ≡ false → TellsAs rules tale began was world r number page written → Tells rules tale began was world number page written
+      pub tells_all : (r : Result X PlayFault) → play_write_failed r ≡ false → TellsAs rules tale began was world r number page written → Tells rules tale began was world number page written
       tells_all (Ok x) other told = told
       tells_all (Err WriteFailed) other told = let f : ⊥ = cc in absurd f
       tells_all (Err OutOfMemory) other told = told
@@ -179,7 +179,7 @@ module _ {F E N W : Type 0} (rules : Rules F E N W) where
         let said = says was (told rules.after tale began (rules.notes world)) so_far.2 in
         said.1 ∙ ap (λ text. Some (was ++ text)) (sym (append-nil said.0) ∙ ap (λ rest. said.0 ++ rest) (sym none) ∙ said.2 ∙ append-nil (told rules.after tale began (rules.notes world)))
 
-    writes_as : (r : Result Bool PlayFault) (written : Option (List ℕ)) → is_write_failed r ≡ false → WritesAll rules tale began was (rules.notes world) written → WritesAs rules tale began was (rules.notes world) r written
+    writes_as : (r : Result Bool PlayFault) (written : Option (List ℕ)) → play_write_failed r ≡ false → WritesAll rules tale began was (rules.notes world) written → WritesAs rules tale began was (rules.notes world) r written
     writes_as (Ok x) written other h = h
     writes_as (Err WriteFailed) written other h = let f : ⊥ = cc in absurd f
     writes_as (Err OutOfMemory) written other h = h
@@ -190,16 +190,16 @@ module _ {F E N W : Type 0} (rules : Rules F E N W) where
     writes_as (Err (Feed fault)) written other h = h
 
     module _ (number : ℕ) (page : List ℕ) (written : Option (List ℕ)) (played : Result Bool PlayFault) (so_far : TellsAs rules tale began was world played number page written) where
-      pub finish_flushed : (last : List ℕ) (now : Option (List ℕ)) → is_write_failed played ≡ false → (last ≡ []) × SaysText page written [] last now → WritesAs rules tale began was (rules.notes world) played now
+      pub finish_flushed : (last : List ℕ) (now : Option (List ℕ)) → play_write_failed played ≡ false → (last ≡ []) × SaysText page written [] last now → WritesAs rules tale began was (rules.notes world) played now
       finish_flushed last now other flushed = writes_as played now other (writes_all number page last written now (tells_all number page written played other so_far) flushed.0 flushed.1)
 
-      pub finish_broken : (now : Option (List ℕ)) → is_write_failed played ≡ false → SaysBeginning page written [] now → TellsBeginning rules tale began was (rules.notes world) now
+      pub finish_broken : (now : Option (List ℕ)) → play_write_failed played ≡ false → SaysBeginning page written [] now → TellsBeginning rules tale began was (rules.notes world) now
       finish_broken now other says =
           let all = tells_all number page written played other so_far in
           let said = says.1 was (told rules.after tale began (rules.notes world)) all.2 in
           (says.0, subst (λ text. SaidSoFar was says.0 now text) (append-nil (told rules.after tale began (rules.notes world))) said)
 
-    pub finish_failed : (number : ℕ) (page : List ℕ) (written : Option (List ℕ)) (played : Result Bool PlayFault) → is_write_failed played ≡ true → TellsAs rules tale began was world played number page written → WritesAs rules tale began was (rules.notes world) played written
+    pub finish_failed : (number : ℕ) (page : List ℕ) (written : Option (List ℕ)) (played : Result Bool PlayFault) → play_write_failed played ≡ true → TellsAs rules tale began was world played number page written → WritesAs rules tale began was (rules.notes world) played written
     finish_failed number page written (Ok x) blamed told = let f : ⊥ = cc in absurd f
     finish_failed number page written (Err WriteFailed) blamed told = told
     finish_failed number page written (Err OutOfMemory) blamed told = let f : ⊥ = cc in absurd f

@@ -6,9 +6,9 @@ use Rattle.ncp_play_script.specs.declared.line_buffer.LineKind.TheVariants.{Play
 use Rattle.ncp_play_script.specs.Words.{words_of}
 use Rattle.ncp_play_script.specs.Scripts.{Line, lines_of, said, Course, Plays}
 use Rattle.ncp_play_reader.specs.declared.lines.Lines.{Lines}
-use Rattle.ncp_play_reader.specs.NextLines.{IsNext}
+use Rattle.ncp_play_reader.specs.NextLines.{IsNextLine}
 use Rattle.ncp_play_reader.proofs.Nexts.{last_behind}
-use Rattle.ncp_play_notes.specs.Faults.{is_read_failed}
+use Rattle.ncp_play_notes.specs.Faults.{play_read_failed}
 use Rattle.ncp_play_notes.specs.declared.fault.PlayFault.{PlayFault}
 use Rattle.ncp_play_notes.specs.declared.fault.PlayFault.TheVariants.{BadLine, LineTooLong, BadHosts, Feed, ReadFailed, WriteFailed, OutOfMemory}
 use Rattle.ncp_play_scene.specs.Rules.{Rules, script}
@@ -39,7 +39,7 @@ module _ {F E N W : Type 0} (rules : Rules F E N W) where
   finds_none tale bytes was (Feed fault) now left written h w = absurd h
 
   module _ (tale : F → Tale N W) (bytes was : List ℕ) (named : F) (lines : Lines) (left written : Option (List ℕ)) (number : ℕ) (line : Line) (source : Option (List ℕ))
-      (is : IsNext 1 bytes Played number line lines.number lines.window source) (some : rules.first (words_of (said line)) ≡ Some named) where
+      (is : IsNextLine 1 bytes Played number line lines.number lines.window source) (some : rules.first (words_of (said line)) ≡ Some named) where
     abbrev course : Course E
     course = course_of rules named lines.number line.behind
 
@@ -59,7 +59,7 @@ module _ {F E N W : Type 0} (rules : Rules F E N W) where
     read_failed_by true e unread h = read_failed e h
     read_failed_by false e unread h = let f : true ≡ false = unread refl in let g : ⊥ = cc in absurd g
 
-    pub plays_behind : (ended : Bool) → line.ended ≡ ended → (r : Result Bool PlayFault) → (ended ≡ false → is_read_failed r ≡ false) → PlaysBehind rules (tale named) named lines.number line.behind was r left written → PlaysScript rules tale bytes was r left written
+    pub plays_behind : (ended : Bool) → line.ended ≡ ended → (r : Result Bool PlayFault) → (ended ≡ false → play_read_failed r ≡ false) → PlaysBehind rules (tale named) named lines.number line.behind was r left written → PlaysScript rules tale bytes was r left written
     plays_behind ended e (Ok good) unread h = (named, h.0, (course, is_script, h.1, h.2), h.3, h.4)
     plays_behind ended e (Err (BadLine at)) unread h = (named, h.0, (course, is_script, h.1, h.2), h.3)
     plays_behind ended e (Err (LineTooLong at)) unread h = inr (named, h.0, (course, is_script, h.1, h.2), h.3)

@@ -4,11 +4,11 @@ use Rattle.ncp_play_stream.specs.Streams.{Ahead}
 use Rattle.ncp_play_script.specs.declared.line_buffer.LineKind.TheVariants.{Played, TooLong}
 use Rattle.ncp_play_script.specs.Words.{words_of}
 use Rattle.ncp_play_script.specs.Calls.{NamesGiveBehind}
-use Rattle.ncp_play_script.specs.Scripts.{Line, lines_of, said, Course, Over, Faulty, ends, course_from}
-use Rattle.ncp_play_script.specs.Lines.{text_of}
+use Rattle.ncp_play_script.specs.Scripts.{Line, lines_of, said, Course, Over, Faulty, course_ends, course_from}
+use Rattle.ncp_play_script.specs.Lines.{text_of_line}
 use Rattle.ncp_play_script.specs.Scripts.{BadLine as Is_bad_line, LineTooLong as Is_too_long}
 use Rattle.ncp_play_reader.specs.declared.lines.Lines.{Lines}
-use Rattle.ncp_play_reader.specs.NextLines.{next_from, ended_lines, CameBefore, IsNext}
+use Rattle.ncp_play_reader.specs.NextLines.{next_from, ended_lines, CameBefore, IsNextLine}
 use Rattle.ncp_play_notes.specs.declared.fault.PlayFault.{PlayFault}
 use Rattle.ncp_play_notes.specs.declared.fault.PlayFault.TheVariants.{BadLine, LineTooLong, BadHosts, Feed, ReadFailed, WriteFailed, OutOfMemory}
 use Rattle.ncp_play_scene.specs.Rules.{Rules, asks}
@@ -23,8 +23,8 @@ may_go_on None = false
 may_go_on (Some (event, ended)) = ended
 
 -- the next line of bytes of which the first line has this number gives a text
-abbrev pub GivesNext : ℕ → List ℕ → Lines → Option (List ℕ) → Type 0
-GivesNext first bytes now left = (number : ℕ) × (line : Line) × IsNext first bytes Played number line now.number now.window left × NamesGiveBehind (words_of (said line))
+abbrev pub GivesNextBehind : ℕ → List ℕ → Lines → Option (List ℕ) → Type 0
+GivesNextBehind first bytes now left = (number : ℕ) × (line : Line) × IsNextLine first bytes Played number line now.number now.window left × NamesGiveBehind (words_of (said line))
 
 module _ {F E N W : Type 0} (rules : Rules F E N W) (named : F) where
   -- what a line of this number that says this asks for; or it gives a text, and there was no memory for that
@@ -57,13 +57,13 @@ module _ {F E N W : Type 0} (rules : Rules F E N W) (named : F) where
   -- next line, or by the last, which no LF ends; a line is at fault; a read failed, and the lines that came whole
   -- ask for nothing; or there was no memory for the text that the next line gives
   abbrev pub AsksNext : ℕ → List ℕ → Result (Option (E × Bool)) PlayFault → Lines → Option (List ℕ) → Type 0
-  AsksNext first bytes (Ok None) now left = course_of first bytes ≡ ends Over
+  AsksNext first bytes (Ok None) now left = course_of first bytes ≡ course_ends Over
   AsksNext first bytes (Ok (Some (event, true))) now left = AsksOne first bytes event now left
-  AsksNext first bytes (Ok (Some (event, false))) now left = course_of first bytes ≡ with_event event (ends Over)
-  AsksNext first bytes (Err (BadLine line)) now left = course_of first bytes ≡ ends (Faulty (Is_bad_line line))
-  AsksNext first bytes (Err (LineTooLong line)) now left = course_of first bytes ≡ ends (Faulty (Is_too_long line))
-  AsksNext first bytes (Err ReadFailed) now left = (given : List ℕ) × CameBefore bytes left given × (course_cut first given ≡ ends Over)
-  AsksNext first bytes (Err OutOfMemory) now left = GivesNext first bytes now left
+  AsksNext first bytes (Ok (Some (event, false))) now left = course_of first bytes ≡ with_event event (course_ends Over)
+  AsksNext first bytes (Err (BadLine line)) now left = course_of first bytes ≡ course_ends (Faulty (Is_bad_line line))
+  AsksNext first bytes (Err (LineTooLong line)) now left = course_of first bytes ≡ course_ends (Faulty (Is_too_long line))
+  AsksNext first bytes (Err ReadFailed) now left = (given : List ℕ) × CameBefore bytes left given × (course_cut first given ≡ course_ends Over)
+  AsksNext first bytes (Err OutOfMemory) now left = GivesNextBehind first bytes now left
   AsksNext first bytes (Err WriteFailed) now left = ⊥
   AsksNext first bytes (Err BadHosts) now left = ⊥
   AsksNext first bytes (Err (Feed fault)) now left = ⊥
@@ -74,9 +74,9 @@ module _ {F E N W : Type 0} (rules : Rules F E N W) (named : F) where
 -- there is none, or it is too long; or a read failed, and all lines that came whole are skipped
 abbrev pub FindsFirst : ℕ → List ℕ → Result Bool PlayFault → Lines → Option (List ℕ) → Type 0
 FindsFirst first bytes (Ok ended) now left =
-    (number : ℕ) × (line : Line) × IsNext first bytes Played number line now.number now.window left × (line.ended ≡ ended) × (text_of ended now.line ≡ said line)
+    (number : ℕ) × (line : Line) × IsNextLine first bytes Played number line now.number now.window left × (line.ended ≡ ended) × (text_of_line ended now.line ≡ said line)
 FindsFirst first bytes (Err BadHosts) now left = next_from first (lines_of bytes) ≡ None
-FindsFirst first bytes (Err (LineTooLong number)) now left = (line : Line) × IsNext first bytes TooLong number line now.number now.window left
+FindsFirst first bytes (Err (LineTooLong number)) now left = (line : Line) × IsNextLine first bytes TooLong number line now.number now.window left
 FindsFirst first bytes (Err ReadFailed) now left = (given : List ℕ) × CameBefore bytes left given × (next_from first (ended_lines (lines_of given)) ≡ None)
 FindsFirst first bytes (Err OutOfMemory) now left = ⊥
 FindsFirst first bytes (Err WriteFailed) now left = ⊥

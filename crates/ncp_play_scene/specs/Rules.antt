@@ -2,7 +2,7 @@
 -- happens, and the notes that events leave.
 use Rattle.std.specs.Prelude.{◌≡◌, ℕ, zero, suc, Bool, true, false, List, [], ◌∷◌, Option, option_map}
 use Rattle.std.specs.List.{list_any}
-use Rattle.ncp_play_script.specs.Scripts.{Asked, Event as Asks, Script, script_of}
+use Rattle.ncp_play_script.specs.Scripts.{AskedByLine, Event as Asks, Script, script_of}
 
 -- of first lines, events, notes, and hosts with their notes
 pub record Rules (F E N W : Type 0) : Type 1 where
@@ -37,7 +37,7 @@ module _ {F E N W : Type 0} (rules : Rules F E N W) where
   NextBegins (event ∷ events) before now = (many : ℕ) × Begins event 0 many before now
 
   -- what a line of these words asks for, behind a first line
-  abbrev pub asks : F → List (List ℕ) → Option (Asked E)
+  abbrev pub asks : F → List (List ℕ) → Option (AskedByLine E)
   asks named words = option_map Asks (rules.reads named words)
 
   -- its first line names the hosts; the lines behind it ask for events

@@ -1,7 +1,7 @@
 //! The first line of a script, as it is read.
 ghost use Rattle.std.specs.Prelude.{◌≡◌, ◌||◌, ℕ, List, false};
 ghost use Rattle.ncp_play_stream.specs.Streams.{Ahead};
-ghost use Rattle.ncp_play_notes.specs.Faults.{is_read_failed, is_write_failed};
+ghost use Rattle.ncp_play_notes.specs.Faults.{play_read_failed, play_write_failed};
 ghost use Rattle.ncp_play_scene.specs.NextEvents.{FindsFirst};
 
 use ncp_play_notes::PlayFault;
@@ -14,8 +14,8 @@ pub fn find_first<R: Source>(lines: &mut Lines, source: &mut R) -> Result<bool, 
     ensures told { (bytes : List ℕ)
         → Ahead lines.old.window (R.left source.old) bytes
         → FindsFirst lines.old.number bytes result lines.new (R.left source.new) }
-    ensures mark { R.has_failed source.new ≡ (R.has_failed source.old || is_read_failed result) }
-    ensures unblamed { is_write_failed result ≡ false }
+    ensures mark { R.has_failed source.new ≡ (R.has_failed source.old || play_read_failed result) }
+    ensures unblamed { play_write_failed result ≡ false }
 {
     match next_played(lines, source) {
         Ok(NextLine::Played { ended, .. }) => Ok(ended),

@@ -1,7 +1,7 @@
 //! What the next line of a script asks for.
 ghost use Rattle.std.specs.Prelude.{◌≡◌, ◌||◌, ℕ, List, true, false, IfOk};
 ghost use Rattle.ncp_play_reader.specs.LentScripts.{SameScript, ScriptBrings, ReadsOn, script_left, is_cut_off};
-ghost use Rattle.ncp_play_notes.specs.Faults.{is_read_failed, is_write_failed};
+ghost use Rattle.ncp_play_notes.specs.Faults.{play_read_failed, play_write_failed};
 ghost use Rattle.ncp_play_scene.specs.NextEvents.{EventIn, AsksNext, may_go_on};
 
 use crate::scene::Scene;
@@ -38,8 +38,8 @@ pub(crate) fn next_event<C: Scene, R: Source>(
         → ScriptBrings R.Source script.old bytes
         → AsksNext C.rules first.now script.old.lines.now.number bytes result script.new.lines.now (script_left R.Source script.new) }
     ensures effort { IfOk result (λ next. may_go_on next ≡ true → ReadsOn R.Source script.old script.new) }
-    ensures mark { is_cut_off R.Source script.new ≡ (is_cut_off R.Source script.old || is_read_failed result) }
-    ensures unblamed { is_write_failed result ≡ false }
+    ensures mark { is_cut_off R.Source script.new ≡ (is_cut_off R.Source script.old || play_read_failed result) }
+    ensures unblamed { play_write_failed result ≡ false }
     ensures same_script { SameScript script.old script.new }
 {
     match next_played(script.lines, script.source) {

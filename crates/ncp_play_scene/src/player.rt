@@ -2,7 +2,7 @@
 ghost use Rattle.std.specs.Prelude.{◌≡◌, ◌||◌, ◌⊎◌, ℕ, List, [], Some, true, false, Ok, Err, IfOk};
 ghost use Rattle.ncp_play_page.specs.Outlets.{SameOutlet, written_by, write_failed};
 ghost use Rattle.ncp_play_reader.specs.LentScripts.{SameScript, ScriptBrings, ReadsOn, script_left, is_cut_off};
-ghost use Rattle.ncp_play_notes.specs.Faults.{is_read_failed, is_write_failed};
+ghost use Rattle.ncp_play_notes.specs.Faults.{play_read_failed, play_write_failed};
 ghost use Rattle.ncp_play_scene.specs.Telling.{Tale};
 ghost use Rattle.ncp_play_scene.specs.NextEvents.{FindsFirst};
 ghost use Rattle.ncp_play_scene.specs.Playing.{Tells, TellsAs};
@@ -40,8 +40,8 @@ fn play_next<C: Scene, T: Teller<C>, R: Source, W: Sink>(
         → Tells C.rules (T.tale first.now) began was player.old.hosts player.old.number out.old.page.now (written_by W.Sink out.old)
         → TellsAs C.rules (T.tale first.now) began was player.new.hosts result player.new.number out.new.page.now (written_by W.Sink out.new) }
     ensures effort { IfOk result (λ more. more ≡ true → ReadsOn R.Source script.old script.new) }
-    ensures source_mark { is_cut_off R.Source script.new ≡ (is_cut_off R.Source script.old || is_read_failed result) }
-    ensures sink_mark { write_failed W.Sink out.new ≡ (write_failed W.Sink out.old || is_write_failed result) }
+    ensures source_mark { is_cut_off R.Source script.new ≡ (is_cut_off R.Source script.old || play_read_failed result) }
+    ensures sink_mark { write_failed W.Sink out.new ≡ (write_failed W.Sink out.old || play_write_failed result) }
     ensures same_script { SameScript script.old script.new }
     ensures same_outlet { SameOutlet out.old out.new }
 {
@@ -72,8 +72,8 @@ fn play_lines<C: Scene, T: Teller<C>, R: Source, W: Sink>(
     ensures told { (began : C.Hosts) (was : List ℕ)
         → Tells C.rules (T.tale first.now) began was player.old.hosts player.old.number out.old.page.now (written_by W.Sink out.old)
         → TellsAs C.rules (T.tale first.now) began was player.new.hosts result player.new.number out.new.page.now (written_by W.Sink out.new) }
-    ensures source_mark { is_cut_off R.Source script.new ≡ (is_cut_off R.Source script.old || is_read_failed result) }
-    ensures sink_mark { write_failed W.Sink out.new ≡ (write_failed W.Sink out.old || is_write_failed result) }
+    ensures source_mark { is_cut_off R.Source script.new ≡ (is_cut_off R.Source script.old || play_read_failed result) }
+    ensures sink_mark { write_failed W.Sink out.new ≡ (write_failed W.Sink out.old || play_write_failed result) }
     ensures same_script { SameScript script.old script.new }
     ensures same_outlet { SameOutlet out.old out.new }
 {
@@ -97,9 +97,9 @@ fn play_rest<C: Scene, T: Teller<C>, R: Source, W: Sink>(
     ensures told { (began : C.Hosts) (was : List ℕ)
         → Tells C.rules (T.tale first.now) began was player.old.hosts player.old.number out.old.page.now (written_by W.Sink out.old)
         → TellsAs C.rules (T.tale first.now) began was player.new.hosts result player.new.number out.new.page.now (written_by W.Sink out.new) }
-    ensures unread { ended ≡ false → is_read_failed result ≡ false }
-    ensures source_mark { is_cut_off R.Source script.new ≡ (is_cut_off R.Source script.old || is_read_failed result) }
-    ensures sink_mark { write_failed W.Sink out.new ≡ (write_failed W.Sink out.old || is_write_failed result) }
+    ensures unread { ended ≡ false → play_read_failed result ≡ false }
+    ensures source_mark { is_cut_off R.Source script.new ≡ (is_cut_off R.Source script.old || play_read_failed result) }
+    ensures sink_mark { write_failed W.Sink out.new ≡ (write_failed W.Sink out.old || play_write_failed result) }
     ensures same_script { SameScript script.old script.new }
     ensures same_outlet { SameOutlet out.old out.new }
 {
@@ -129,9 +129,9 @@ fn play_all<C: Scene, T: Teller<C>, R: Source, W: Sink>(
         → TellsAs C.rules (T.tale first.now) began was player.new.hosts result player.new.number out.new.page.now (written_by W.Sink out.new) }
     ensures run { C.rules.IsRun player.new.hosts }
     ensures good { AnswersGood C.rules result (C.rules.notes player.new.hosts) }
-    ensures unread { ended ≡ false → is_read_failed result ≡ false }
-    ensures source_mark { is_cut_off R.Source script.new ≡ (is_cut_off R.Source script.old || is_read_failed result) }
-    ensures sink_mark { write_failed W.Sink out.new ≡ (write_failed W.Sink out.old || is_write_failed result) }
+    ensures unread { ended ≡ false → play_read_failed result ≡ false }
+    ensures source_mark { is_cut_off R.Source script.new ≡ (is_cut_off R.Source script.old || play_read_failed result) }
+    ensures sink_mark { write_failed W.Sink out.new ≡ (write_failed W.Sink out.old || play_write_failed result) }
     ensures same_script { SameScript script.old script.new }
     ensures same_outlet { SameOutlet out.old out.new }
 {
@@ -146,12 +146,12 @@ fn finish<C: Scene, W: Sink>(
     out: &mut Outlet<'_, W>,
     played: Result<bool, PlayFault>,
 ) -> Result<bool, PlayFault>
-    requires { write_failed W.Sink out.old ≡ is_write_failed played }
+    requires { write_failed W.Sink out.old ≡ play_write_failed played }
     ensures same { (result ≡ played) ⊎ (result ≡ Err PlayFault.WriteFailed) }
     ensures told { (tale : Tale C.Note C.Hosts) (began : C.Hosts) (was : List ℕ) (hosts : C.Hosts) (number : ℕ)
         → TellsAs C.rules tale began was hosts played number out.old.page.now (written_by W.Sink out.old)
         → WritesAs C.rules tale began was (C.rules.notes hosts) result (written_by W.Sink out.new) }
-    ensures mark { write_failed W.Sink out.new ≡ is_write_failed result }
+    ensures mark { write_failed W.Sink out.new ≡ play_write_failed result }
     ensures same_outlet { SameOutlet out.old out.new }
 {
     if out.sink.failed() {
@@ -178,10 +178,10 @@ fn play_behind<C: Scene, T: Teller<C>, R: Source, W: Sink>(
         → ScriptBrings R.Source script.old bytes → W.written sink.old ≡ Some was
         → (ended ≡ false → bytes ≡ [])
         → PlaysBehind C.rules (T.tale first.now) first.now script.old.lines.now.number bytes was result (script_left R.Source script.new) (W.written sink.new) }
-    ensures unread { ended ≡ false → is_read_failed result ≡ false }
-    ensures read_failed { is_read_failed result ≡ true → is_cut_off R.Source script.new ≡ true }
-    ensures write_failed { W.has_failed sink.new ≡ is_write_failed result }
-    ensures blamed { is_cut_off R.Source script.new ≡ true → (is_read_failed result || is_write_failed result) ≡ true }
+    ensures unread { ended ≡ false → play_read_failed result ≡ false }
+    ensures read_failed { play_read_failed result ≡ true → is_cut_off R.Source script.new ≡ true }
+    ensures write_failed { W.has_failed sink.new ≡ play_write_failed result }
+    ensures blamed { is_cut_off R.Source script.new ≡ true → (play_read_failed result || play_write_failed result) ≡ true }
     ensures same_script { SameScript script.old script.new }
 {
     let mut page = Page::new();
@@ -222,9 +222,9 @@ pub fn play_first<C: Scene, T: Teller<C>, R: Source, W: Sink>(
         → PlaysScript C.rules T.tale bytes was result (R.left source.new) (W.written sink.new) }
 
     // Reading and writing are blamed only where they failed.
-    ensures read_failed { is_read_failed result ≡ true → R.has_failed source.new ≡ true }
-    ensures write_failed { W.has_failed sink.new ≡ is_write_failed result }
-    ensures blamed { R.has_failed source.new ≡ true → (is_read_failed result || is_write_failed result) ≡ true }
+    ensures read_failed { play_read_failed result ≡ true → R.has_failed source.new ≡ true }
+    ensures write_failed { W.has_failed sink.new ≡ play_write_failed result }
+    ensures blamed { R.has_failed source.new ≡ true → (play_read_failed result || play_write_failed result) ≡ true }
 {
     let Some(first) = C::first_of(&mut Words::new(lines.line.text(ended))) else {
         return Err(PlayFault::BadHosts);

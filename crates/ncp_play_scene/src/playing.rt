@@ -2,7 +2,7 @@
 ghost use Rattle.std.specs.Prelude.{◌≡◌, ◌+◌, ◌≤◌, ◌<◌, ◌^◌, ◌||◌, ℕ, List, true, length, IfOk};
 ghost use Rattle.ncp_play_page.specs.Outlets.{SameOutlet, written_by, write_failed, credit};
 ghost use Rattle.ncp_play_stream.specs.Pieces.{lost_pieces};
-ghost use Rattle.ncp_play_notes.specs.Faults.{is_write_failed};
+ghost use Rattle.ncp_play_notes.specs.Faults.{play_write_failed};
 ghost use Rattle.ncp_play_scene.specs.Playing.{DoesPart, DoesEvent, Tells, TellsAs};
 
 use crate::scene::Scene;
@@ -27,8 +27,8 @@ fn play_part<C: Scene, T: Teller<C>, W: Sink>(
         → Tells C.rules (T.tale first.now) began was hosts.old number.old out.old.page.now (written_by W.Sink out.old)
         → TellsAs C.rules (T.tale first.now) began was hosts.new result number.new out.new.page.now (written_by W.Sink out.new) }
     ensures room { IfOk result (λ more. more ≡ true → length (C.rules.notes hosts.new) < 2 ^ 64) }
-    ensures writes { credit W.Sink out.old ≤ credit W.Sink out.new + lost_pieces (is_write_failed result) }
-    ensures mark { write_failed W.Sink out.new ≡ (write_failed W.Sink out.old || is_write_failed result) }
+    ensures writes { credit W.Sink out.old ≤ credit W.Sink out.new + lost_pieces (play_write_failed result) }
+    ensures mark { write_failed W.Sink out.new ≡ (write_failed W.Sink out.old || play_write_failed result) }
     ensures same_outlet { SameOutlet out.old out.new }
 {
     let Ok(more) = C::step(hosts, event, left) else {
@@ -59,8 +59,8 @@ pub fn play_event<C: Scene, T: Teller<C>, W: Sink>(
     ensures told { (began : C.Hosts) (was : List ℕ)
         → Tells C.rules (T.tale first.now) began was hosts.old number.old out.old.page.now (written_by W.Sink out.old)
         → TellsAs C.rules (T.tale first.now) began was hosts.new result number.new out.new.page.now (written_by W.Sink out.new) }
-    ensures writes { credit W.Sink out.old ≤ credit W.Sink out.new + lost_pieces (is_write_failed result) }
-    ensures mark { write_failed W.Sink out.new ≡ (write_failed W.Sink out.old || is_write_failed result) }
+    ensures writes { credit W.Sink out.old ≤ credit W.Sink out.new + lost_pieces (play_write_failed result) }
+    ensures mark { write_failed W.Sink out.new ≡ (write_failed W.Sink out.old || play_write_failed result) }
     ensures same_outlet { SameOutlet out.old out.new }
 {
     let mut left = 0;
@@ -83,7 +83,7 @@ pub(crate) fn play_on<C: Scene, T: Teller<C>, W: Sink>(
     ensures told { (began : C.Hosts) (was : List ℕ)
         → Tells C.rules (T.tale first.now) began was hosts.old number.old out.old.page.now (written_by W.Sink out.old)
         → TellsAs C.rules (T.tale first.now) began was hosts.new result number.new out.new.page.now (written_by W.Sink out.new) }
-    ensures mark { write_failed W.Sink out.new ≡ (write_failed W.Sink out.old || is_write_failed result) }
+    ensures mark { write_failed W.Sink out.new ≡ (write_failed W.Sink out.old || play_write_failed result) }
     ensures same_outlet { SameOutlet out.old out.new }
 {
     match play_event::<C, T, W>(first, hosts, event, number, out) {

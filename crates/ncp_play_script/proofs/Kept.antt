@@ -6,7 +6,7 @@ use Rattle.std.proofs.lemmas.List.{take_all, take-take, take_min, take-append-le
 use Rattle.std.proofs.Math.Seq.{take-append-add}
 use Rattle.ncp_play_script.specs.declared.line_buffer.LineKind.{LineKind}
 use Rattle.ncp_play_script.specs.declared.line_buffer.LineKind.TheVariants.{Skipped, TooLong, Played}
-use Rattle.ncp_play_script.specs.Lines.{ends_in_cr, text_of, kind_of}
+use Rattle.ncp_play_script.specs.Lines.{ends_in_cr, text_of_line, line_kind}
 
 pub kept_more : (old bytes : List ℕ) (count : ℕ) → length old ≤ 4098 → count ≡ min (4098 - length old) (length bytes) → old ++ take count bytes ≡ take 4098 (old ++ bytes)
 kept_more old bytes count fits e =
@@ -36,7 +36,7 @@ kind_here : (byte : ℕ) (long : Bool) → long ≡ true → (if byte == 35 then
 kind_here byte true e = refl
 kind_here byte false e = absurd (cc)
 
-kind_of_long : (text : List ℕ) → 4097 ≤ length text → kind_of text ≡ long_kind (get_or text 0 0)
+kind_of_long : (text : List ℕ) → 4097 ≤ length text → line_kind text ≡ long_kind (get_or text 0 0)
 kind_of_long [] long = absurd (omega (arith, long))
 kind_of_long (byte ∷ bytes) long = kind_here byte (nat_lt 4096 (length (byte ∷ bytes))) (grind (arith, nat_tests))
 
@@ -48,31 +48,31 @@ cut_is_long : (line : List ℕ) (cr : Bool) → 4098 ≤ length line → IsLong 
 cut_is_long line true long = let len = length-take-le (length line - 1) line (omega arith) in (omega (arith, len), grind (arith, common_steps))
 cut_is_long line false long = (omega arith, refl)
 
-text_is_long : (ended : Bool) (line : List ℕ) → 4098 ≤ length line → IsLong line (text_of ended line)
+text_is_long : (ended : Bool) (line : List ℕ) → 4098 ≤ length line → IsLong line (text_of_line ended line)
 text_is_long true line long = cut_is_long line (ends_in_cr line) long
 text_is_long false line long = (omega arith, refl)
 
-kind_of_line : (ended : Bool) (line : List ℕ) → 4098 ≤ length line → kind_of (text_of ended line) ≡ long_kind (get_or line 0 0)
-kind_of_line ended line long = let text = text_is_long ended line long in kind_of_long (text_of ended line) text.0 ∙ ap long_kind text.1
+kind_of_line : (ended : Bool) (line : List ℕ) → 4098 ≤ length line → line_kind (text_of_line ended line) ≡ long_kind (get_or line 0 0)
+kind_of_line ended line long = let text = text_is_long ended line long in kind_of_long (text_of_line ended line) text.0 ∙ ap long_kind text.1
 
-kind_of_kept : (ended : Bool) (line : List ℕ) → 4098 ≤ length line → kind_of (text_of ended (take 4098 line)) ≡ long_kind (get_or line 0 0)
+kind_of_kept : (ended : Bool) (line : List ℕ) → 4098 ≤ length line → line_kind (text_of_line ended (take 4098 line)) ≡ long_kind (get_or line 0 0)
 kind_of_kept ended line long =
     let full = length-take-le 4098 line long in
     let first : get_or (take 4098 line) 0 0 ≡ get_or line 0 0 = grind (arith, common_steps) in
     kind_of_line ended (take 4098 line) (omega (arith, full)) ∙ ap long_kind first
 
-pub same_kind : (ended : Bool) (line : List ℕ) → kind_of (text_of ended (take 4098 line)) ≡ kind_of (text_of ended line)
+pub same_kind : (ended : Bool) (line : List ℕ) → line_kind (text_of_line ended (take 4098 line)) ≡ line_kind (text_of_line ended line)
 same_kind ended line =
-    short_or_full line (nat_le (length line) 4098) refl (λ kept. kind_of (text_of ended kept) ≡ kind_of (text_of ended line))
-    (λ _ whole. ap (λ kept. kind_of (text_of ended kept)) whole)
+    short_or_full line (nat_le (length line) 4098) refl (λ kept. line_kind (text_of_line ended kept) ≡ line_kind (text_of_line ended line))
+    (λ _ whole. ap (λ kept. line_kind (text_of_line ended kept)) whole)
     (λ _ long. kind_of_kept ended line long ∙ sym (kind_of_line ended line long))
 
 not_played : (skipped : Bool) → (if skipped then Skipped else TooLong) ≡ Played → ⊥
 not_played true e = cc
 not_played false e = cc
 
-pub same_text : (ended : Bool) (line : List ℕ) → kind_of (text_of ended line) ≡ Played → text_of ended (take 4098 line) ≡ text_of ended line
+pub same_text : (ended : Bool) (line : List ℕ) → line_kind (text_of_line ended line) ≡ Played → text_of_line ended (take 4098 line) ≡ text_of_line ended line
 same_text ended line played =
-    short_or_full line (nat_le (length line) 4098) refl (λ kept. text_of ended kept ≡ text_of ended line)
-    (λ _ whole. ap (λ kept. text_of ended kept) whole)
+    short_or_full line (nat_le (length line) 4098) refl (λ kept. text_of_line ended kept ≡ text_of_line ended line)
+    (λ _ whole. ap (λ kept. text_of_line ended kept) whole)
     (λ _ long. absurd (not_played (get_or line 0 0 == 35) (sym (kind_of_line ended line long) ∙ played)))

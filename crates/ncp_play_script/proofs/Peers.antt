@@ -4,8 +4,8 @@ use Rattle.std.specs.Result.{IsOk, OnOk, result_ok}
 use Rattle.std.proofs.lemmas.Bool.Decides.{nat_tests}
 use Rattle.std.proofs.lemmas.List.{append-nil}
 use Rattle.ncp_host.specs.declared.limits.TheConstants.{MAX_PEERS}
-use Rattle.ncp_play_script.specs.Words.{number_of, number_first, largest_u8}
-use Rattle.ncp_play_script.specs.FirstLines.{with_number, numbers_of, few}
+use Rattle.ncp_play_script.specs.Words.{number_of_word, number_first, largest_u8}
+use Rattle.ncp_play_script.specs.FirstLines.{with_number, numbers_of_words, few}
 
 -- nothing was read yet
 pub none_read : (numbers : Option (List ℕ)) → option_map (λ behind. [] ++ behind) numbers ≡ numbers
@@ -37,13 +37,13 @@ pub all_read : (read : List ℕ) → length read ≤ MAX_PEERS → few (Some (re
 all_read read fits = ap (λ numbers. few (Some numbers)) (append-nil read) ∙ are_few (nat_le (length read) MAX_PEERS) read (grind (arith, nat_tests))
 
 -- a number is the first of the words, and the others are left
-pub first_read : (words after : List (List ℕ)) (number : ℕ) → ◌≡◌ {A = Option (ℕ × List (List ℕ))} (Some (number, after)) (number_first largest_u8 words) → numbers_of words ≡ with_number (Some number) (numbers_of after)
+pub first_read : (words after : List (List ℕ)) (number : ℕ) → ◌≡◌ {A = Option (ℕ × List (List ℕ))} (Some (number, after)) (number_first largest_u8 words) → numbers_of_words words ≡ with_number (Some number) (numbers_of_words after)
 first_read [] after number e = absurd (cc)
-first_read (word ∷ words) after number e = go (number_of largest_u8 word) e
+first_read (word ∷ words) after number e = go (number_of_word largest_u8 word) e
   where
-    go : (o : Option ℕ) → ◌≡◌ {A = Option (ℕ × List (List ℕ))} (Some (number, after)) (option_map (λ n. (n, words)) o) → with_number o (numbers_of words) ≡ with_number (Some number) (numbers_of after)
+    go : (o : Option ℕ) → ◌≡◌ {A = Option (ℕ × List (List ℕ))} (Some (number, after)) (option_map (λ n. (n, words)) o) → with_number o (numbers_of_words words) ≡ with_number (Some number) (numbers_of_words after)
     go None e = absurd (cc)
-    go (Some n) e = let same : ◌≡◌ {A = ℕ × List (List ℕ)} (number, after) (n, words) = cc in ap (λ (p : ℕ × List (List ℕ)). with_number (Some p.0) (numbers_of p.1)) (sym same)
+    go (Some n) e = let same : ◌≡◌ {A = ℕ × List (List ℕ)} (number, after) (n, words) = cc in ap (λ (p : ℕ × List (List ℕ)). with_number (Some p.0) (numbers_of_words p.1)) (sym same)
 
 -- a peer was taken in
 pub is_taken : {E P : Type 0} (r : Result (Unit {0}) E) (o : Option (Unit {0})) (u : Unit {0}) → o ≡ result_ok r → o ≡ Some u → OnOk r P → IsOk r × P

@@ -5,7 +5,7 @@ use Rattle.ncp_host.specs.declared.limits.TheConstants.{MAX_PEERS}
 use Rattle.ncp_host.specs.Host.{are_peers}
 use Rattle.ncp_play_script.specs.declared.first_lines.HostAndPeers.{HostAndPeers}
 use Rattle.ncp_play_script.specs.declared.first_lines.TwoHosts.{TwoHosts}
-use Rattle.ncp_play_script.specs.Words.{number_first, number_of, largest_u8}
+use Rattle.ncp_play_script.specs.Words.{number_first, number_of_word, largest_u8}
 use Rattle.ncp_play_script.specs.Calls.{Read, behind}
 
 -- a host and its peers, in the order in which they are named
@@ -23,9 +23,9 @@ with_number None numbers = None
 with_number (Some number) numbers = option_map (λ behind. number ∷ behind) numbers
 
 -- the numbers that some words are
-abbrev pub numbers_of : List (List ℕ) → Option (List ℕ)
-numbers_of [] = Some []
-numbers_of (word ∷ words) = with_number (number_of largest_u8 word) (numbers_of words)
+abbrev pub numbers_of_words : List (List ℕ) → Option (List ℕ)
+numbers_of_words [] = Some []
+numbers_of_words (word ∷ words) = with_number (number_of_word largest_u8 word) (numbers_of_words words)
 
 -- not more than the peers that a host has at most
 abbrev pub few : Option (List ℕ) → Option (List ℕ)
@@ -35,7 +35,7 @@ few (Some numbers) = if nat_le (length numbers) MAX_PEERS then Some numbers else
 -- the peers that words are, behind the host
 abbrev pub with_peers : Option (ℕ × List (List ℕ)) → Option Named
 with_peers None = None
-with_peers (Some (me, words)) = option_map (λ peers. record { me = me; peers = peers }) (few (numbers_of words))
+with_peers (Some (me, words)) = option_map (λ peers. record { me = me; peers = peers }) (few (numbers_of_words words))
 
 -- the word `host`, then a host and its peers
 abbrev pub host_named : List (List ℕ) → Option Named
@@ -59,7 +59,7 @@ is_many (word ∷ words) = bytes_eq (codes "many") word
 -- the numbers behind the word `many`, which all words are; whether hosts can have them is not judged
 abbrev pub many_named : List (List ℕ) → Option (List ℕ)
 many_named [] = None
-many_named (word ∷ words) = if bytes_eq (codes "many") word then few (numbers_of words) else None
+many_named (word ∷ words) = if bytes_eq (codes "many") word then few (numbers_of_words words) else None
 
 -- two numbers, the first words
 abbrev pub two_first : List (List ℕ) → Read TwoHosts

@@ -17,8 +17,8 @@ abbrev pub bits_line : List (List ℕ) → Option HostLine
 bits_line words = option_map (λ bits. Input (inputs.In bits)) (all_of (bits_first words))
 
 -- the call that words are, its peer among them
-abbrev pub call_line : List (List ℕ) → Option HostLine
-call_line words = option_map (λ call. Input (inputs.Call call)) (call_of None words)
+abbrev pub call_of_words : List (List ℕ) → Option HostLine
+call_of_words words = option_map (λ call. Input (inputs.Call call)) (call_of None words)
 
 -- what a line of these words asks for: that bits come, that the host is asked for its next message, that the
 -- bytes behind the line come, or a call
@@ -28,4 +28,4 @@ host_line_of (word ∷ words) =
     if bytes_eq (codes "in") word then bits_line words
     else if bytes_eq (codes "out") word then alone (Input inputs.Out) words
     else if bytes_eq (codes "feed") word then alone Feed words
-    else call_line (word ∷ words)
+    else call_of_words (word ∷ words)

@@ -5,13 +5,13 @@ use Rattle.ncp_play_script.specs.declared.host_lines.HostLine.{HostLine}
 use Rattle.ncp_play_script.specs.declared.host_lines.HostLine.TheVariants as lines
 use Rattle.ncp_play_script.specs.FirstLines.{Named, first_of_host}
 use Rattle.ncp_play_script.specs.HostLines.{host_line_of}
-use Rattle.ncp_play_script.specs.Scripts.{Asked, Event, Feeding, Script, script_of}
+use Rattle.ncp_play_script.specs.Scripts.{AskedByLine, Event, Feeding, Script, script_of}
 
 -- what a line asks for: an input to the host, or the bytes behind it
-abbrev pub asked_by : HostLine → Asked Input
-asked_by (lines.Input input) = Event input
-asked_by lines.Feed = Feeding
+abbrev pub asked_by_line : HostLine → AskedByLine Input
+asked_by_line (lines.Input input) = Event input
+asked_by_line lines.Feed = Feeding
 
 -- its first line names the host and its peers; the lines behind it ask for inputs
 abbrev pub host_script : List ℕ → Script Named Input
-host_script bytes = script_of first_of_host (λ hosts words. option_map asked_by (host_line_of words)) bytes
+host_script bytes = script_of first_of_host (λ hosts words. option_map asked_by_line (host_line_of words)) bytes

@@ -16,8 +16,8 @@ abbrev pub without_cr : List ℕ → List ℕ
 without_cr bytes = if ends_in_cr bytes then take (length bytes - 1) bytes else bytes
 
 -- what a line says: where an LF ended it, one CR before it is dropped; a last line without LF keeps it
-abbrev pub text_of : Bool → List ℕ → List ℕ
-text_of ended bytes = if ended then without_cr bytes else bytes
+abbrev pub text_of_line : Bool → List ℕ → List ℕ
+text_of_line ended bytes = if ended then without_cr bytes else bytes
 
 -- an empty line, or a remark
 abbrev pub is_skipped : List ℕ → Bool
@@ -25,5 +25,5 @@ is_skipped [] = true
 is_skipped (byte ∷ bytes) = byte == REMARK
 
 -- what is to be done with a line that says this: a remark is skipped however long it is
-abbrev pub kind_of : List ℕ → LineKind
-kind_of text = if is_skipped text then Skipped else if nat_lt MAX_LINE (length text) then TooLong else Played
+abbrev pub line_kind : List ℕ → LineKind
+line_kind text = if is_skipped text then Skipped else if nat_lt MAX_LINE (length text) then TooLong else Played

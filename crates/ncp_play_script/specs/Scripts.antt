@@ -3,7 +3,7 @@
 use Rattle.std.specs.Prelude.{ℕ, ◌+◌, min, Bool, true, false, List, [], ◌∷◌, Option, Some, None, if◌then◌else◌}
 use Rattle.ncp_play_script.specs.declared.line_buffer.LineKind.{LineKind}
 use Rattle.ncp_play_script.specs.declared.line_buffer.LineKind.TheVariants.{Skipped, TooLong, Played}
-use Rattle.ncp_play_script.specs.Lines.{is_lf, text_of, kind_of}
+use Rattle.ncp_play_script.specs.Lines.{is_lf, text_of_line, line_kind}
 use Rattle.ncp_play_script.specs.Words.{words_of}
 use Rattle.ncp_model.specs.declared.limits.TheConstants.{MAX_COUNT}
 
@@ -25,7 +25,7 @@ lines_of (byte ∷ bytes) = if is_lf byte then record { bytes = []; ended = true
 
 -- what a line says
 abbrev pub said : Line → List ℕ
-said line = text_of line.ended line.bytes
+said line = text_of_line line.ended line.bytes
 
 -- why a script is not played on: a line that asks for nothing, a line that is too long, each by its number
 -- among all lines, the first 1; or there is no first line that names hosts as it should
@@ -41,57 +41,57 @@ pub data Ending : Type 0 where
   Faulty : ScriptFault → Ending
 
 -- what a line asks for: one event, or that the bytes behind it, which an LF parts from it, be fed
-pub data Asked (E : Type 0) : Type 0 where
-  Event : E → Asked E
-  Feeding : Asked E
+pub data AskedByLine (E : Type 0) : Type 0 where
+  Event : E → AskedByLine E
+  Feeding : AskedByLine E
 
 -- what lines ask for, in order, and how they end
 pub record Course (E : Type 0) : Type 0 where
   pub events : List E
   pub ending : Ending
 
-abbrev pub ends : {E : Type 0} → Ending → Course E
-ends ending = record { events = []; ending = ending }
+abbrev pub course_ends : {E : Type 0} → Ending → Course E
+course_ends ending = record { events = []; ending = ending }
 
 -- what is asked for by a line of a number that is played, and then by those behind it
-abbrev pub played : {E : Type 0} → ℕ → Line → Option (Asked E) → Course E → Course E
-played number line None course = ends (Faulty (BadLine number))
+abbrev pub played : {E : Type 0} → ℕ → Line → Option (AskedByLine E) → Course E → Course E
+played number line None course = course_ends (Faulty (BadLine number))
 played number line (Some (Event event)) course = record course { events = event ∷ course.events }
-played number line (Some Feeding) course = ends (if line.ended then Fed line.behind else Faulty (BadLine number))
+played number line (Some Feeding) course = course_ends (if line.ended then Fed line.behind else Faulty (BadLine number))
 
-abbrev pub judged : {E : Type 0} → ℕ → Line → LineKind → Option (Asked E) → Course E → Course E
-judged number line Skipped asked course = course
-judged number line TooLong asked course = ends (Faulty (LineTooLong number))
-judged number line Played asked course = played number line asked course
+abbrev pub course_of_line : {E : Type 0} → ℕ → Line → LineKind → Option (AskedByLine E) → Course E → Course E
+course_of_line number line Skipped asked course = course
+course_of_line number line TooLong asked course = course_ends (Faulty (LineTooLong number))
+course_of_line number line Played asked course = played number line asked course
 
 -- the number of the next line; numbers stay at the greatest (this profile's rule)
 abbrev pub number_behind : ℕ → ℕ
 number_behind number = min (number + 1) MAX_COUNT
 
 -- what lines ask for, where what one of these words asks for is known; the first has this number
-abbrev pub course_from : {E : Type 0} → (List (List ℕ) → Option (Asked E)) → ℕ → List Line → Course E
-course_from asked number [] = ends Over
-course_from asked number (line ∷ lines) = judged number line (kind_of (said line)) (asked (words_of (said line))) (course_from asked (number_behind number) lines)
+abbrev pub course_from : {E : Type 0} → (List (List ℕ) → Option (AskedByLine E)) → ℕ → List Line → Course E
+course_from asked number [] = course_ends Over
+course_from asked number (line ∷ lines) = course_of_line number line (line_kind (said line)) (asked (words_of (said line))) (course_from asked (number_behind number) lines)
 
 -- a script: the hosts of its first line and what the lines behind it ask for, or why it has none
 pub data Script (H E : Type 0) : Type 0 where
   NoHosts : ScriptFault → Script H E
   Plays : H → Course E → Script H E
 
-abbrev pub begun : {H E : Type 0} → Option H → (H → Course E) → Script H E
-begun None course = NoHosts BadHosts
-begun (Some hosts) course = Plays hosts (course hosts)
+abbrev pub script_begun : {H E : Type 0} → Option H → (H → Course E) → Script H E
+script_begun None course = NoHosts BadHosts
+script_begun (Some hosts) course = Plays hosts (course hosts)
 
 abbrev pub first_judged : {H E : Type 0} → ℕ → LineKind → Option H → (H → Course E) → Script H E → Script H E
 first_judged number Skipped hosts course script = script
 first_judged number TooLong hosts course script = NoHosts (LineTooLong number)
-first_judged number Played hosts course script = begun hosts course
+first_judged number Played hosts course script = script_begun hosts course
 
 -- the script that lines are, where the hosts that words name are known, and what words ask for with these hosts
-abbrev pub script_from : {H E : Type 0} → (List (List ℕ) → Option H) → (H → List (List ℕ) → Option (Asked E)) → ℕ → List Line → Script H E
+abbrev pub script_from : {H E : Type 0} → (List (List ℕ) → Option H) → (H → List (List ℕ) → Option (AskedByLine E)) → ℕ → List Line → Script H E
 script_from hosts asked number [] = NoHosts BadHosts
 script_from hosts asked number (line ∷ lines) =
-    first_judged number (kind_of (said line)) (hosts (words_of (said line))) (λ h. course_from (asked h) (number_behind number) lines) (script_from hosts asked (number_behind number) lines)
+    first_judged number (line_kind (said line)) (hosts (words_of (said line))) (λ h. course_from (asked h) (number_behind number) lines) (script_from hosts asked (number_behind number) lines)
 
-abbrev pub script_of : {H E : Type 0} → (List (List ℕ) → Option H) → (H → List (List ℕ) → Option (Asked E)) → List ℕ → Script H E
+abbrev pub script_of : {H E : Type 0} → (List (List ℕ) → Option H) → (H → List (List ℕ) → Option (AskedByLine E)) → List ℕ → Script H E
 script_of hosts asked bytes = script_from hosts asked 1 (lines_of bytes)

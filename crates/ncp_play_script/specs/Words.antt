@@ -29,13 +29,13 @@ value_after number (digit ∷ digits) = value_after (10 * number + (digit - 48))
 abbrev pub is_number : ℕ → List ℕ → Bool
 is_number most word = (nat_lt 0 (length word) && nat_le (length word) MAX_DIGITS) && (all_ascii_digits word && nat_le (value_after 0 word) most)
 
-abbrev pub number_of : ℕ → List ℕ → Option ℕ
-number_of most word = if is_number most word then Some (value_after 0 word) else None
+abbrev pub number_of_word : ℕ → List ℕ → Option ℕ
+number_of_word most word = if is_number most word then Some (value_after 0 word) else None
 
 -- the number that the first of some words is, and the words behind it
 abbrev pub number_first : ℕ → List (List ℕ) → Option (ℕ × List (List ℕ))
 number_first most [] = None
-number_first most (word ∷ words) = option_map (λ number. (number, words)) (number_of most word)
+number_first most (word ∷ words) = option_map (λ number. (number, words)) (number_of_word most word)
 
 -- the largest numbers of an argument of 8, of 16 and of 32 bits
 abbrev pub largest_u8 : ℕ

@@ -8,7 +8,7 @@ ghost use Rattle.ncp_play_script.specs.Words.{words_of};
 ghost use Rattle.ncp_play_script.specs.Calls.{call_of, NamesGive, NamesGiveBehind};
 ghost use Rattle.ncp_play_script.specs.HostLines.{host_line_of};
 ghost use Rattle.ncp_play_script.specs.FirstLines.{first_of_host, is_many, many_named, hosts_first};
-ghost use Rattle.ncp_play_script.specs.Lines.{text_of, is_skipped, kind_of};
+ghost use Rattle.ncp_play_script.specs.Lines.{text_of_line, is_skipped, line_kind};
 ghost use Rattle.ncp_play_script.specs.declared.line_buffer.TheConstants.{MAX_LINE};
 ghost use Rattle.ncp_play_script.specs.declared.line_buffer.LineKind.TheVariants as kinds;
 ghost use Rattle.ncp_play_script.specs.Scripts.{Over, Fed, Faulty, BadLine, BadHosts, NoHosts, Plays, number_behind};
@@ -86,20 +86,20 @@ pub fn lines_that_give_are_told_apart()
 
 /// What a line says: one CR before its LF is dropped, and a last line without LF keeps it.
 pub fn lines_say_this()
-    ensures line { text_of true (codes "out") ≡ codes "out" }
-    ensures cr { text_of true (codes "out\r") ≡ codes "out" }
-    ensures one { text_of true (codes "out\r\r") ≡ codes "out\r" }
-    ensures last { text_of false (codes "out\r") ≡ codes "out\r" }
-    ensures empty { text_of true (codes "\r") ≡ [] }
+    ensures line { text_of_line true (codes "out") ≡ codes "out" }
+    ensures cr { text_of_line true (codes "out\r") ≡ codes "out" }
+    ensures one { text_of_line true (codes "out\r\r") ≡ codes "out\r" }
+    ensures last { text_of_line false (codes "out\r") ≡ codes "out\r" }
+    ensures empty { text_of_line true (codes "\r") ≡ [] }
 {}
 
 /// What is done with a line: an empty one and a remark, however long, are skipped; another is played up to the limit.
 pub fn lines_are_judged_so()
-    ensures empty { kind_of [] ≡ kinds.Skipped }
-    ensures remark { (text : List ℕ) → kind_of (codes "#" ++ text) ≡ kinds.Skipped }
-    ensures played { kind_of (codes " #") ≡ kinds.Played }
-    ensures long { (text : List ℕ) → is_skipped text ≡ false → MAX_LINE < length text → kind_of text ≡ kinds.TooLong }
-    ensures longest { (text : List ℕ) → is_skipped text ≡ false → length text ≡ MAX_LINE → kind_of text ≡ kinds.Played }
+    ensures empty { line_kind [] ≡ kinds.Skipped }
+    ensures remark { (text : List ℕ) → line_kind (codes "#" ++ text) ≡ kinds.Skipped }
+    ensures played { line_kind (codes " #") ≡ kinds.Played }
+    ensures long { (text : List ℕ) → is_skipped text ≡ false → MAX_LINE < length text → line_kind text ≡ kinds.TooLong }
+    ensures longest { (text : List ℕ) → is_skipped text ≡ false → length text ≡ MAX_LINE → line_kind text ≡ kinds.Played }
 {}
 
 /// Lines are numbered by one more each, and numbers stay at the greatest.

@@ -1,7 +1,7 @@
 //! The first line of a script: the hosts that it names.
 ghost use Rattle.std.specs.Prelude.{◌≡◌, ◌≢◌, Some, option_map};
 ghost use Rattle.ncp_play_script.specs.declared.first_lines.TwoHosts.{TwoHosts as Pair_of_hosts};
-ghost use Rattle.ncp_play_script.specs.FirstLines.{named_in, numbers_of, few, host_named, is_many, many_named, hosts_first};
+ghost use Rattle.ncp_play_script.specs.FirstLines.{named_in, numbers_of_words, few, host_named, is_many, many_named, hosts_first};
 
 use crate::line_words::Words;
 use arrayvec::ArrayVec;
@@ -32,7 +32,7 @@ pub struct TwoHosts {
 // The peers that all words are.
 #[tactic(auto, using(crate::proofs::Peers::none_read, crate::proofs::Peers::one_read, crate::proofs::Peers::one_too_many))]
 fn peers_of(words: &mut Words<'_>) -> Option<ArrayVec<u8, MAX_PEERS>>
-    ensures { option_map (λ peers. peers.items) result ≡ few (numbers_of words.old) }
+    ensures { option_map (λ peers. peers.items) result ≡ few (numbers_of_words words.old) }
 {
     let mut peers = ArrayVec::new();
     while !words.is_empty() {

@@ -1,7 +1,7 @@
 //! `HostLine`.
 ghost use Rattle.std.specs.Prelude.{◌≡◌, ◌∷◌, IfOk, OnErr};
 ghost use Rattle.ncp_play_script.specs.Calls.{NamesGive};
-ghost use Rattle.ncp_play_script.specs.HostLines.{alone, bits_line, call_line, host_line_of};
+ghost use Rattle.ncp_play_script.specs.HostLines.{alone, bits_line, call_of_words, host_line_of};
 
 use crate::calls::call_named;
 use crate::line_words::Words;
@@ -45,7 +45,7 @@ fn call_line(
     word: &[u8],
     words: &mut Words<'_>,
 ) -> Result<Option<HostLine>, AllocError>
-    ensures line { IfOk result (λ line. line ≡ call_line (word.now ∷ words.old)) }
+    ensures line { IfOk result (λ line. line ≡ call_of_words (word.now ∷ words.old)) }
     ensures memory { OnErr result (NamesGive (word.now ∷ words.old)) }
 {
     let Some(call) = call_named(alloc, word, words, None)? else {

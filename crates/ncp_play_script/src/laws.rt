@@ -5,10 +5,10 @@ ghost use Rattle.ncp_transcript.specs.declared.input.Input.{Input};
 ghost use Rattle.ncp_play_script.specs.declared.line_buffer.TheConstants.{MAX_LINE, LF, CR, REMARK};
 ghost use Rattle.ncp_play_script.specs.declared.numbers.TheConstants.{MAX_DIGITS};
 ghost use Rattle.ncp_play_script.specs.declared.line_words.TheConstants.{SPACE};
-ghost use Rattle.ncp_play_script.specs.Lines.{is_lf, text_of, kind_of};
+ghost use Rattle.ncp_play_script.specs.Lines.{is_lf, text_of_line, line_kind};
 ghost use Rattle.ncp_play_script.specs.FirstLines.{Named};
-ghost use Rattle.ncp_play_script.specs.Scripts.{Line, lines_of, said, Asked, course_from, script_from, ends, Faulty, LineTooLong, NoHosts};
-ghost use Rattle.ncp_play_script.specs.Verbs.{word_of, verb_of};
+ghost use Rattle.ncp_play_script.specs.Scripts.{Line, lines_of, said, AskedByLine, course_from, script_from, course_ends, Faulty, LineTooLong, NoHosts};
+ghost use Rattle.ncp_play_script.specs.Verbs.{word_of_verb, verb_of};
 
 use crate::line_buffer::{LineKind, MAX_KEPT};
 use crate::verbs::Verb;
@@ -17,14 +17,14 @@ use crate::verbs::Verb;
 /// whether the line is skipped or too long; and it is the whole line where that is played.
 pub fn kept_lines_tell_all()
     ensures pieces { (line piece : List ℕ) → take MAX_KEPT (take MAX_KEPT line ++ piece) ≡ take MAX_KEPT (line ++ piece) }
-    ensures kind { (ended : Bool) (line : List ℕ) → kind_of (text_of ended (take MAX_KEPT line)) ≡ kind_of (text_of ended line) }
-    ensures text { (ended : Bool) (line : List ℕ) → kind_of (text_of ended line) ≡ LineKind.Played → text_of ended (take MAX_KEPT line) ≡ text_of ended line }
+    ensures kind { (ended : Bool) (line : List ℕ) → line_kind (text_of_line ended (take MAX_KEPT line)) ≡ line_kind (text_of_line ended line) }
+    ensures text { (ended : Bool) (line : List ℕ) → line_kind (text_of_line ended line) ≡ LineKind.Played → text_of_line ended (take MAX_KEPT line) ≡ text_of_line ended line }
 {}
 
 /// The word of each call names that call, and no other word does.
 pub fn words_name_calls()
-    ensures each { (verb : Verb) → verb_of (word_of verb) ≡ Some verb }
-    ensures only { (word : List ℕ) (verb : Verb) → verb_of word ≡ Some verb → word ≡ word_of verb }
+    ensures each { (verb : Verb) → verb_of (word_of_verb verb) ≡ Some verb }
+    ensures only { (word : List ℕ) (verb : Verb) → verb_of word ≡ Some verb → word ≡ word_of_verb verb }
 {}
 
 /// Where the lines of bytes end: each at its LF, and behind it the others begin; a last line that has
@@ -44,8 +44,8 @@ pub fn pieces_make_lines()
 
 /// A line that is too long is that fault, whatever its words are, the first line too.
 pub fn long_lines_are_judged_first()
-    ensures first { (hosts : List (List ℕ) → Option Named) (asked : Named → List (List ℕ) → Option (Asked Input)) (number : ℕ) (line : Line) (lines : List Line) → kind_of (said line) ≡ LineKind.TooLong → script_from hosts asked number (line ∷ lines) ≡ NoHosts (LineTooLong number) }
-    ensures other { (asked : List (List ℕ) → Option (Asked Input)) (number : ℕ) (line : Line) (lines : List Line) → kind_of (said line) ≡ LineKind.TooLong → course_from asked number (line ∷ lines) ≡ ends (Faulty (LineTooLong number)) }
+    ensures first { (hosts : List (List ℕ) → Option Named) (asked : Named → List (List ℕ) → Option (AskedByLine Input)) (number : ℕ) (line : Line) (lines : List Line) → line_kind (said line) ≡ LineKind.TooLong → script_from hosts asked number (line ∷ lines) ≡ NoHosts (LineTooLong number) }
+    ensures other { (asked : List (List ℕ) → Option (AskedByLine Input)) (number : ℕ) (line : Line) (lines : List Line) → line_kind (said line) ≡ LineKind.TooLong → course_from asked number (line ∷ lines) ≡ course_ends (Faulty (LineTooLong number)) }
 {}
 
 /// The limits of lines and numbers, and the bytes that part lines and words.

@@ -1,7 +1,7 @@
 //! `LineBuffer`.
 ghost use Rattle.std.specs.Prelude.{◌≡◌, ◌+◌, ◌++◌, [], take, MatchOption, position, ℕ, None, Some};
 ghost use Rattle.std.specs.List.{before_first};
-ghost use Rattle.ncp_play_script.specs.Lines.{is_lf, text_of, is_skipped, kind_of};
+ghost use Rattle.ncp_play_script.specs.Lines.{is_lf, text_of_line, is_skipped, line_kind};
 
 use crate::cut::place_of;
 use arrayvec::ArrayVec;
@@ -35,7 +35,7 @@ pub enum LineKind {
 
 /// What a line of these bytes says: where an LF `ended` it, one CR before that is dropped.
 pub fn text_of(line: &[u8], ended: bool) -> &[u8]
-    ensures { result.now ≡ text_of ended line.now }
+    ensures { result.now ≡ text_of_line ended line.now }
 {
     let len = line.len();
     if ended && len > 0 && line[len - 1] == CR {
@@ -115,14 +115,14 @@ impl LineBuffer {
     /// The bytes of the line, without the one CR that stands before its LF. A last line that no LF
     /// `ended` has all its bytes. Of a line that is longer than [`MAX_LINE`] it is a beginning only.
     pub fn text(&self, ended: bool) -> &[u8]
-        ensures { result.now ≡ text_of ended self.now }
+        ensures { result.now ≡ text_of_line ended self.now }
     {
         text_of(self.bytes.as_slice(), ended)
     }
 
     /// What is to be done with the line.
     pub fn kind(&self, ended: bool) -> LineKind
-        ensures { result ≡ kind_of (text_of ended self.now) }
+        ensures { result ≡ line_kind (text_of_line ended self.now) }
     {
         let text = self.text(ended);
         if is_skipped(text) {

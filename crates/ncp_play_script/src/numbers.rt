@@ -1,7 +1,7 @@
 //! Numbers.
 ghost use Rattle.std.specs.Prelude.{◌≡◌, ◌≤◌, Some, None, length, if◌then◌else◌};
 ghost use Rattle.std.specs.Str.{all_ascii_digits};
-ghost use Rattle.ncp_play_script.specs.Words.{value_after, number_of};
+ghost use Rattle.ncp_play_script.specs.Words.{value_after, number_of_word};
 
 /// How many digits a number has at most, leading zeros among them.
 pub const MAX_DIGITS: usize = 10;
@@ -25,7 +25,7 @@ fn value_of(word: &[u8]) -> Option<u64>
 /// The number that a word is: one to [`MAX_DIGITS`] decimal digits, leading zeros admitted, of
 /// at most `most`. It has no sign and no prefix.
 pub(crate) fn number(word: &[u8], most: u32) -> Option<u32>
-    ensures { result ≡ number_of most word.now }
+    ensures { result ≡ number_of_word most word.now }
 {
     if word.is_empty() || word.len() > MAX_DIGITS {
         return None;

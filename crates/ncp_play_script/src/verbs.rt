@@ -1,6 +1,6 @@
 //! `Verb`.
 ghost use Rattle.std.specs.Prelude.{◌≡◌};
-ghost use Rattle.ncp_play_script.specs.Verbs.{word_of, verb_among, verb_of};
+ghost use Rattle.ncp_play_script.specs.Verbs.{word_of_verb, verb_among, verb_of};
 
 /// What a call is named by in a script.
 #[derive(Clone, Copy, Debug, Drop, PartialEq, Eq)]
@@ -48,7 +48,7 @@ const VERBS: [Verb; 17] = [
 impl Verb {
     /// The word that names it, in a script and in the lines that are printed.
     pub fn word(self) -> &'static str
-        ensures { result.now ≡ word_of self }
+        ensures { result.now ≡ word_of_verb self }
     {
         match self {
             Verb::Reset => "reset",

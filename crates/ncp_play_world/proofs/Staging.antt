@@ -2,7 +2,7 @@
 use Rattle.std.proofs.Common.{◌≡◌, ◌≤◌, ℕ, Result, Ok, Err, OnErr, ◌+◌, Bool, true, false, suc, ◌-◌, ◌<◌, ◌^◌, List, [], ◌∷◌, ◌++◌, length, Some, None, sym, ap, ◌∙◌, subst, arith}
 use Rattle.ncp_transcript_two.specs.declared.event.Event.{Event}
 use Rattle.ncp_transcript_two.specs.declared.note.Note.{Note}
-use Rattle.ncp_transcript_two.specs.Between.{after_note}
+use Rattle.ncp_transcript_two.specs.Between.{hosts_after_note}
 use Rattle.ncp_transcript_two.specs.Transcript.{Noted_world, IsStep, IsTranscript}
 use Rattle.ncp_transcript_many.specs.declared.many_event.ManyEvent.{ManyEvent}
 use Rattle.ncp_transcript_many.specs.declared.many_note.ManyNote.{ManyNote}
@@ -17,7 +17,7 @@ use Rattle.ncp_play_world_lines.specs.declared.settling.Deed.TheVariants.{Event 
 use Rattle.ncp_play_world_lines.specs.declared.settling.Trace.TheVariants.{Noted, Settled}
 use Rattle.ncp_play_world.specs.declared.marks.Mark.{Mark}
 use Rattle.ncp_play_world.specs.Traces.{traces_of, notes_marked, last_marked, marked_place, place_of_line, IsLast}
-use Rattle.ncp_play_world.specs.WorldRules.{StagedWorld, WorldPart, world_traced, world_rules, is_refusal}
+use Rattle.ncp_play_world.specs.WorldRules.{StagedWorld, WorldPart, world_traced, world_rules, is_noted_refusal}
 use Rattle.ncp_play_world.specs.ManyRules.{StagedMany, ManyPart, many_traced, many_rules, is_many_refusal}
 use Rattle.ncp_play_world.proofs.Traces.{traces_note, traces_mark, notes_marked_more, one_more, length-traces, notes_again, any_in, settled_last, noted_last, none_last}
 use Rattle.ncp_play_world.proofs.Places.{place_is}
@@ -51,7 +51,7 @@ module _ {N : Type 0} where
 abbrev pub staged : Noted_world → List Mark → StagedWorld
 staged w marks = record { hosts = w; traces = traces_of w.notes marks }
 
-pub note_more : (w next : Noted_world) (marks : List Mark) (note : Note) → notes_marked marks ≤ length w.notes → next.notes ≡ w.notes ++ note ∷ [] → next.hosts ≡ after_note note w.hosts → staged next marks ≡ world_traced (Noted note) (staged w marks)
+pub note_more : (w next : Noted_world) (marks : List Mark) (note : Note) → notes_marked marks ≤ length w.notes → next.notes ≡ w.notes ++ note ∷ [] → next.hosts ≡ hosts_after_note note w.hosts → staged next marks ≡ world_traced (Noted note) (staged w marks)
 note_more w next marks note small longer after =
     let told = ap (λ (ns : List Note). traces_of ns marks) longer ∙ traces_note w.notes note marks small in
     λ i. record { hosts = record { hosts = after i; notes = longer i }; traces = told i }
@@ -120,10 +120,10 @@ module _ (w : Noted_world) (marks : List Mark) (since : ℕ) (all : notes_marked
   pub place_so : (line : ℕ) → marked_place marks since 0 line ≡ place_of_line before.traces (suc line)
   place_so line = subst (λ (s : StagedWorld). marked_place marks since 0 line ≡ place_of_line s.traces (suc line)) was (place_is w.notes marks since line all)
 
-  pub refused_so : list_any is_refusal w.notes ≡ any_refusal world_rules before.traces
+  pub refused_so : list_any is_noted_refusal w.notes ≡ any_refusal world_rules before.traces
   refused_so =
-      subst (λ (s : StagedWorld). list_any is_refusal w.notes ≡ any_refusal world_rules s.traces) was
-      (sym (any_in is_refusal (traces_of w.notes marks) ∙ ap (list_any is_refusal) (notes_again w.notes marks)))
+      subst (λ (s : StagedWorld). list_any is_noted_refusal w.notes ≡ any_refusal world_rules s.traces) was
+      (sym (any_in is_noted_refusal (traces_of w.notes marks) ∙ ap (list_any is_noted_refusal) (notes_again w.notes marks)))
 
   pub run_so : IsTranscript w.notes w.hosts → world_rules.IsRun before
   run_so run = subst world_rules.IsRun was (run, notes_again w.notes marks)

@@ -18,7 +18,7 @@ use Rattle.ncp_play_scene.specs.Telling.{told_from, told}
 use Rattle.ncp_play_world.specs.WorldRules.{StagedWorld, world_traced}
 use Rattle.ncp_transcript_many.specs.declared.many_note.ManyNote.{ManyNote}
 use Rattle.ncp_play_world.specs.ManyRules.{StagedMany, many_traced}
-use Rattle.ncp_play_world_lines.specs.Recorded.{record_of, record_of_many, bytes_if, note_bytes, many_note_bytes, records_of, records_of_many, file_of_notes, file_of_many_notes}
+use Rattle.ncp_play_world_lines.specs.Recorded.{recorded_of, record_of_many, bytes_if, note_bytes, many_note_bytes, records_of, records_of_many, file_of_notes, file_of_many_notes}
 use Rattle.ncp_play_world.specs.Tales.{recording_of, recording_of_many}
 
 one : (recorded : Option Recorded) → bytes_if recorded ≡ flat_map bytes_of_record (option_to_list recorded)
@@ -30,8 +30,8 @@ from first number w [] = refl
 from first number w (Settled many ∷ traces) = from first (number_after number) (world_traced (Settled many) w) traces
 from first number w (Noted note ∷ traces) =
     ap (λ rest. note_bytes first.hosts note ++ rest) (from first (number_after number) (world_traced (Noted note) w) traces)
-    ∙ ap (λ bytes. bytes ++ flat_map bytes_of_record (records_of first.hosts (notes_in traces))) (one (record_of first.hosts note))
-    ∙ sym (flat_map-append bytes_of_record (option_to_list (record_of first.hosts note)) (records_of first.hosts (notes_in traces)))
+    ∙ ap (λ bytes. bytes ++ flat_map bytes_of_record (records_of first.hosts (notes_in traces))) (one (recorded_of first.hosts note))
+    ∙ sym (flat_map-append bytes_of_record (option_to_list (recorded_of first.hosts note)) (records_of first.hosts (notes_in traces)))
 
 pub told_is_file : (first : FirstLine) (began : StagedWorld) (traces : List (Trace Note)) → told world_traced (recording_of first) began traces ≡ file_of_notes first.hosts (notes_in traces)
 told_is_file first began traces = ap (λ bytes. header_of Two ++ bytes) (from first 1 began traces)

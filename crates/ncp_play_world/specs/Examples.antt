@@ -14,8 +14,8 @@ use Rattle.ncp_transcript_two.specs.declared.note.Move.TheVariants as moves
 use Rattle.ncp_transcript_two.specs.declared.note.Note.{Note}
 use Rattle.ncp_transcript_two.specs.declared.note.Note.TheVariants as notes
 
-abbrev pub sender : Pair
-sender = record { local = 3; remote = 2 }
+abbrev pub sender_pair : Pair
+sender_pair = record { local = 3; remote = 2 }
 
 abbrev pub receiver : Pair
 receiver = record { local = 2; remote = 3 }
@@ -31,14 +31,14 @@ abbrev pub control_came : HostNote
 control_came = host_notes.In [] (received.Control 1)
 
 -- the answers that came to the sender
-abbrev pub rfnm : HostNote
-rfnm = host_notes.Answered 2 0 answers.Rfnm received.Answered
+abbrev pub rfnm_note : HostNote
+rfnm_note = host_notes.Answered 2 0 answers.Rfnm received.Answered
 
-abbrev pub incomplete : HostNote
-incomplete = host_notes.Answered 2 2 answers.Incomplete received.Answered
+abbrev pub incomplete_note : HostNote
+incomplete_note = host_notes.Answered 2 2 answers.Incomplete received.Answered
 
-abbrev pub dead : HostNote
-dead = host_notes.Answered 2 2 answers.Dead received.Answered
+abbrev pub dead_note : HostNote
+dead_note = host_notes.Answered 2 2 answers.Dead received.Answered
 
 -- both hosts come up
 abbrev pub coming_up : List Note
@@ -46,10 +46,10 @@ coming_up =
     notes.Called A (host_notes.Done (calls.Reset 2))
     ∷ notes.Out A rst_out
     ∷ notes.Came A 0 control_came
-    ∷ notes.Answered A 0 rfnm
+    ∷ notes.Answered A 0 rfnm_note
     ∷ notes.Out B rrp_out
     ∷ notes.Came B 0 control_came
-    ∷ notes.Answered B 0 rfnm
+    ∷ notes.Answered B 0 rfnm_note
     ∷ notes.Called B (host_notes.Done (calls.AskReceive 1 receiver.local receiver.remote 1024))
     ∷ []
 
@@ -57,9 +57,9 @@ coming_up =
 abbrev pub each_move : List Note
 each_move =
     notes.Lost A 2
-    ∷ notes.Answered A 2 incomplete
+    ∷ notes.Answered A 2 incomplete_note
     ∷ notes.FoundDead A 2
-    ∷ notes.Answered A 2 dead
+    ∷ notes.Answered A 2 dead_note
     ∷ notes.Came A 2 (host_notes.In [] (received.Text Admitted))
     ∷ notes.Nothing A 2 moves.Deliver
     ∷ notes.Nothing A 2 moves.Lose

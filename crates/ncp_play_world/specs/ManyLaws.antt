@@ -19,10 +19,10 @@ pub none_run : (hosts : List ℕ) → AreProper hosts → many_rules.IsRun (many
 none_run hosts proper = (transcript-new hosts (new_crowd hosts) proper.0 (one_fits hosts proper.1) refl, refl)
 
 -- a trace more
-abbrev OneTrace : StagedMany → StagedMany → Type 0
-OneTrace before now = (trace : Trace ManyNote) × (now.traces ≡ before.traces ++ trace ∷ []) × (now ≡ many_traced trace before)
+abbrev OneTraceOfMany : StagedMany → StagedMany → Type 0
+OneTraceOfMany before now = (trace : Trace ManyNote) × (now.traces ≡ before.traces ++ trace ∷ []) × (now ≡ many_traced trace before)
 
-pub one_noted : (deed : Deed ManyEvent) (left : ℕ) (more : Bool) (before now : StagedMany) → ManyPart deed left more before now → OneTrace before now
+pub one_noted : (deed : Deed ManyEvent) (left : ℕ) (more : Bool) (before now : StagedMany) → ManyPart deed left more before now → OneTraceOfMany before now
 one_noted (Does event) left false before now part = (Noted part.0, ap (λ (s : StagedMany). s.traces) part.2, part.2)
 one_noted (Does event) left true before now part = absurd part
 one_noted Settle left true before now part = (Noted part.0, ap (λ (s : StagedMany). s.traces) part.3, part.3)

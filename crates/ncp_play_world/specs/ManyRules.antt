@@ -17,7 +17,7 @@ use Rattle.ncp_play_world_lines.specs.declared.settling.Deed.{Deed}
 use Rattle.ncp_play_world_lines.specs.declared.settling.Deed.TheVariants.{Event as Does, Settle}
 use Rattle.ncp_play_world_lines.specs.declared.settling.Trace.{Trace}
 use Rattle.ncp_play_world_lines.specs.declared.settling.Trace.TheVariants.{Noted, Settled}
-use Rattle.ncp_play_world_lines.specs.Settling.{deed_of}
+use Rattle.ncp_play_world_lines.specs.Settling.{deed_of_line}
 use Rattle.ncp_play_world_lines.specs.ManyLines.{many_line_of}
 use Rattle.ncp_play_world.specs.Traces.{Staged, notes_in, traced, is_trace_refusal}
 use Rattle.ncp_play_world.specs.ManyHosts.{many_of}
@@ -62,7 +62,7 @@ ManyPart Settle left false before now = AreSettled before.hosts.crowd × (now �
 abbrev pub many_rules : Rules (List ℕ) (Deed ManyEvent) (Trace ManyNote) StagedMany
 many_rules = record {
   first = many_of;
-  reads = λ hosts. deed_of (many_line_of hosts);
+  reads = λ hosts. deed_of_line (many_line_of hosts);
   begun = λ hosts. record { hosts = new_many hosts; traces = [] };
   notes = λ s. s.traces;
   after = many_traced;

@@ -5,7 +5,7 @@ use Rattle.ncp_play_script.specs.Scripts.{Script}
 use Rattle.ncp_transcript_two.specs.declared.event.Event.{Event}
 use Rattle.ncp_transcript_two.specs.declared.note.Note.{Note}
 use Rattle.ncp_transcript_two.specs.declared.note.Note.TheVariants as notes
-use Rattle.ncp_transcript_two.specs.Between.{after_note}
+use Rattle.ncp_transcript_two.specs.Between.{hosts_after_note}
 use Rattle.ncp_transcript_two.specs.Happening.{Noted as Happens}
 use Rattle.ncp_transcript_two.specs.Seen.{seen}
 use Rattle.ncp_transcript_two.specs.Transcript.{Noted_world, IsSaid, IsTranscript, new_world}
@@ -19,22 +19,22 @@ use Rattle.ncp_play_world_lines.specs.declared.settling.Deed.{Deed}
 use Rattle.ncp_play_world_lines.specs.declared.settling.Deed.TheVariants.{Event as Does, Settle}
 use Rattle.ncp_play_world_lines.specs.declared.settling.Trace.{Trace}
 use Rattle.ncp_play_world_lines.specs.declared.settling.Trace.TheVariants.{Noted, Settled}
-use Rattle.ncp_play_world_lines.specs.Settling.{deed_of}
+use Rattle.ncp_play_world_lines.specs.Settling.{deed_of_line}
 use Rattle.ncp_play_world.specs.Traces.{Staged, notes_in, traced, is_trace_refusal}
 
 -- a call was refused
-abbrev pub is_refusal : Note → Bool
-is_refusal (notes.Called side note) = host_notes.is_refusal note
-is_refusal (notes.Out side note) = false
-is_refusal (notes.Came side link note) = false
-is_refusal (notes.Lost side link) = false
-is_refusal (notes.FoundDead side link) = false
-is_refusal (notes.Answered side link note) = false
-is_refusal (notes.Nothing side link wanted) = false
+abbrev pub is_noted_refusal : Note → Bool
+is_noted_refusal (notes.Called side note) = host_notes.is_refusal note
+is_noted_refusal (notes.Out side note) = false
+is_noted_refusal (notes.Came side link note) = false
+is_noted_refusal (notes.Lost side link) = false
+is_noted_refusal (notes.FoundDead side link) = false
+is_noted_refusal (notes.Answered side link note) = false
+is_noted_refusal (notes.Nothing side link wanted) = false
 
 -- a world behind one note more
 abbrev pub noted : Note → Noted_world → Noted_world
-noted note w = record { hosts = after_note note w.hosts; notes = w.notes ++ note ∷ [] }
+noted note w = record { hosts = hosts_after_note note w.hosts; notes = w.notes ++ note ∷ [] }
 
 abbrev pub StagedWorld : Type 0
 StagedWorld = Staged Noted_world Note
@@ -56,13 +56,13 @@ WorldPart Settle left false before now = IsSettled (seen before.hosts.hosts) × 
 abbrev pub world_rules : Rules FirstLine (Deed Event) (Trace Note) StagedWorld
 world_rules = record {
   first = first_line_of;
-  reads = λ named. deed_of (world_line_of named.hosts);
+  reads = λ named. deed_of_line (world_line_of named.hosts);
   begun = λ named. record { hosts = new_world named.hosts.a named.hosts.b; traces = [] };
   notes = λ s. s.traces;
   after = world_traced;
   Part = WorldPart;
   IsRun = λ s. IsTranscript s.hosts.notes s.hosts.hosts × (notes_in s.traces ≡ s.hosts.notes);
-  is_refusal = is_trace_refusal is_refusal;
+  is_refusal = is_trace_refusal is_noted_refusal;
 }
 
 -- the script of two hosts that bytes are

@@ -1,6 +1,6 @@
 //! `play_script` and `play_world`: a script of two hosts, or of two to eight, played line by line.
 ghost use Rattle.std.specs.Prelude.{◌≡◌, ◌||◌, ℕ, List, Some, true, false};
-ghost use Rattle.ncp_play_notes.specs.Faults.{is_read_failed, is_write_failed};
+ghost use Rattle.ncp_play_notes.specs.Faults.{play_read_failed, play_write_failed};
 ghost use Rattle.ncp_play_world.specs.ManyRules.{is_many_script};
 ghost use Rattle.ncp_play_world.specs.Players.{PlaysWorld, PlaysMany};
 ghost use Rattle.ncp_play_world.specs.Tales.{lines_of_script, lines_of_many};
@@ -45,9 +45,9 @@ pub fn play_script<
         → PlaysMany M.tale bytes was result (R.left source.new) (W.written sink.new) }
 
     // Reading and writing are blamed only where they failed.
-    ensures read_failed { is_read_failed result ≡ true → R.has_failed source.new ≡ true }
-    ensures write_failed { W.has_failed sink.new ≡ is_write_failed result }
-    ensures blamed { R.has_failed source.new ≡ true → (is_read_failed result || is_write_failed result) ≡ true }
+    ensures read_failed { play_read_failed result ≡ true → R.has_failed source.new ≡ true }
+    ensures write_failed { W.has_failed sink.new ≡ play_write_failed result }
+    ensures blamed { R.has_failed source.new ≡ true → (play_read_failed result || play_write_failed result) ≡ true }
 {
     let mut lines = Lines::new();
     let ended = find_first(&mut lines, source)?;
@@ -77,9 +77,9 @@ pub fn play_world<S: BitStore, R: Source, W: Sink>(
         → PlaysMany lines_of_many bytes was result (R.left source.new) (W.written sink.new) }
 
     // Reading and writing are blamed only where they failed.
-    ensures read_failed { is_read_failed result ≡ true → R.has_failed source.new ≡ true }
-    ensures write_failed { W.has_failed sink.new ≡ is_write_failed result }
-    ensures blamed { R.has_failed source.new ≡ true → (is_read_failed result || is_write_failed result) ≡ true }
+    ensures read_failed { play_read_failed result ≡ true → R.has_failed source.new ≡ true }
+    ensures write_failed { W.has_failed sink.new ≡ play_write_failed result }
+    ensures blamed { R.has_failed source.new ≡ true → (play_read_failed result || play_write_failed result) ≡ true }
 {
     play_script::<S, NoteLines, NoteLines, R, W>(alloc, source, sink)
 }

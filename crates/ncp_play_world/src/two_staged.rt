@@ -5,7 +5,7 @@ ghost use Rattle.ncp_play_scene.specs.Rules.{any_refusal};
 ghost use Rattle.ncp_play_world_lines.specs.Settling.{trace_of};
 ghost use Rattle.ncp_play_world_lines.specs.declared.settling.Deed.TheVariants as deeds;
 ghost use Rattle.ncp_play_world.specs.Traces.{IsLast, place_of_line};
-ghost use Rattle.ncp_play_world.specs.WorldRules.{WorldPart, is_refusal, world_rules};
+ghost use Rattle.ncp_play_world.specs.WorldRules.{WorldPart, is_noted_refusal, world_rules};
 
 use crate::marks::Marks;
 use ncp_bits::BitStore;
@@ -41,7 +41,7 @@ impl<S: BitStore> Model for TwoStaged<S> {
 
 // Whether a note says that a call was refused.
 fn is_refusal(note: &Note) -> bool
-    ensures { result ≡ is_refusal note.now }
+    ensures { result ≡ is_noted_refusal note.now }
 {
     match note {
         Note::Called { note, .. } => note.is_refusal(),
@@ -59,7 +59,7 @@ fn count_of(notes: &[Note]) -> usize
 
 // Whether a note says so.
 fn any_refusal(notes: &[Note]) -> bool
-    ensures { result ≡ list_any is_refusal notes.now }
+    ensures { result ≡ list_any is_noted_refusal notes.now }
 {
     notes.iter().any(|note| is_refusal(note))
 }

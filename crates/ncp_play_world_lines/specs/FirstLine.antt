@@ -18,20 +18,20 @@ if_sends side None = None
 if_sends side (Some pair) = if sends pair then Some (record { side = side; pair = pair }) else None
 
 -- the sender of a side whose sockets are all of these words
-abbrev pub sender_of : Option Side → List (List ℕ) → Option Watch
-sender_of None words = None
-sender_of (Some side) words = if_sends side (all_of (pair_first words))
+abbrev pub watch_of_side : Option Side → List (List ℕ) → Option Watch
+watch_of_side None words = None
+watch_of_side (Some side) words = if_sends side (all_of (pair_first words))
 
 -- what words ask to be watched: the word `watch`, a side, and the sockets of a sender there
-abbrev pub watch_of : List (List ℕ) → Option Watch
-watch_of [] = None
-watch_of (word ∷ []) = None
-watch_of (word ∷ side ∷ words) = if bytes_eq (codes "watch") word then sender_of (side_named side) words else None
+abbrev pub watch_asked : List (List ℕ) → Option Watch
+watch_asked [] = None
+watch_asked (word ∷ []) = None
+watch_asked (word ∷ side ∷ words) = if bytes_eq (codes "watch") word then watch_of_side (side_named side) words else None
 
 -- the first line of these hosts, behind which these words stand
 abbrev pub with_watch : TwoHosts → List (List ℕ) → Option FirstLine
 with_watch hosts [] = Some (record { hosts = hosts; watch = None })
-with_watch hosts (word ∷ words) = option_map (λ watch. record { hosts = hosts; watch = Some watch }) (watch_of (word ∷ words))
+with_watch hosts (word ∷ words) = option_map (λ watch. record { hosts = hosts; watch = Some watch }) (watch_asked (word ∷ words))
 
 abbrev pub if_watched : Read TwoHosts → Option FirstLine
 if_watched None = None

@@ -22,8 +22,8 @@ abbrev pub host_first : List ℕ → List (List ℕ) → Read ℕ
 host_first hosts words = if_one_of hosts (number_first largest_u8 words)
 
 -- a move of a message from a host: the host to which it is, and its link, are all of these words
-abbrev pub many_move_line : List ℕ → ℕ → Move → List (List ℕ) → Option ManyEvent
-many_move_line hosts from wanted words =
+abbrev pub many_move_of : List ℕ → ℕ → Move → List (List ℕ) → Option ManyEvent
+many_move_of hosts from wanted words =
     all_of (behind (host_first hosts words) (λ to words. behind (number_first largest_u8 words) (λ link words. Some (wanted_of wanted from to link, words))))
 
 -- a call names no peer, or one of the hosts
@@ -31,18 +31,18 @@ abbrev pub is_known : List ℕ → Option ℕ → Bool
 is_known hosts None = true
 is_known hosts (Some peer) = is_one_of peer hosts
 
-abbrev pub if_known : List ℕ → ℕ → Option Call → Option ManyEvent
-if_known hosts host None = None
-if_known hosts host (Some call) = if is_known hosts (peer_of_call call) then Some (events.Call host call) else None
+abbrev pub call_if_known : List ℕ → ℕ → Option Call → Option ManyEvent
+call_if_known hosts host None = None
+call_if_known hosts host (Some call) = if is_known hosts (peer_of_call call) then Some (events.Call host call) else None
 
 -- the call that words are, its peer among them
 abbrev pub many_call_line : List ℕ → ℕ → List (List ℕ) → Option ManyEvent
-many_call_line hosts host words = if_known hosts host (call_of None words)
+many_call_line hosts host words = call_if_known hosts host (call_of None words)
 
 -- a move, if the word in front is one, else a call
 abbrev pub many_move_or_call : List ℕ → ℕ → Option Move → List ℕ → List (List ℕ) → Option ManyEvent
 many_move_or_call hosts host None word words = many_call_line hosts host (word ∷ words)
-many_move_or_call hosts host (Some wanted) word words = many_move_line hosts host wanted words
+many_move_or_call hosts host (Some wanted) word words = many_move_of hosts host wanted words
 
 -- what words behind their host ask for: that it is asked for its next message, that something happens to a message
 -- from it, or a call

@@ -8,7 +8,7 @@ use Rattle.ncp_play_page.specs.Lines.{field}
 use Rattle.ncp_play_notes.specs.Arrived.{received_words}
 use Rattle.ncp_play_notes.specs.NoteLines.{front}
 use Rattle.ncp_play_world_lines.specs.declared.move_line.Moved.{Moved}
-use Rattle.ncp_play_world_lines.specs.Moves.{word_of}
+use Rattle.ncp_play_world_lines.specs.Moves.{word_of_move}
 
 -- what became of a message, as the host to which it came noted it
 abbrev pub came_words : HostNote → List ℕ
@@ -34,7 +34,7 @@ destination (Some to) = field (codes " ") to
 -- what stands before what came of a move
 abbrev pub move_front : Moved → List ℕ
 move_front moved =
-    front moved.heading ++ codes " " ++ word_of moved.wanted ++ destination moved.to ++ field (codes " ") moved.link ++ codes " "
+    front moved.heading ++ codes " " ++ word_of_move moved.wanted ++ destination moved.to ++ field (codes " ") moved.link ++ codes " "
 
 abbrev pub move_line : Moved → List ℕ → List ℕ
 move_line moved outcome = move_front moved ++ outcome ++ codes "\n"

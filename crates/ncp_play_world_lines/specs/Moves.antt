@@ -17,11 +17,11 @@ abbrev pub side_named : List ℕ → Option Side
 side_named word = if bytes_eq (codes "a") word then Some A else if bytes_eq (codes "b") word then Some B else None
 
 -- the word of a move
-abbrev pub word_of : Move → List ℕ
-word_of Deliver = codes "deliver"
-word_of Lose = codes "lose"
-word_of Dead = codes "dead"
-word_of Answer = codes "answer"
+abbrev pub word_of_move : Move → List ℕ
+word_of_move Deliver = codes "deliver"
+word_of_move Lose = codes "lose"
+word_of_move Dead = codes "dead"
+word_of_move Answer = codes "answer"
 
 abbrev pub all_moves : List Move
 all_moves = Deliver ∷ Lose ∷ Dead ∷ Answer ∷ []
@@ -29,7 +29,7 @@ all_moves = Deliver ∷ Lose ∷ Dead ∷ Answer ∷ []
 -- the one among these that a word names
 abbrev pub move_among : List Move → List ℕ → Option Move
 move_among [] word = None
-move_among (wanted ∷ moves) word = if bytes_eq (word_of wanted) word then Some wanted else move_among moves word
+move_among (wanted ∷ moves) word = if bytes_eq (word_of_move wanted) word then Some wanted else move_among moves word
 
 -- the move that a word names
 abbrev pub move_named : List ℕ → Option Move

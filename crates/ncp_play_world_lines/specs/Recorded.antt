@@ -22,44 +22,44 @@ use Rattle.ncp_transcript_many.specs.declared.many_note.ManyNote.{ManyNote}
 use Rattle.ncp_transcript_many.specs.declared.many_note.ManyNote.TheVariants as many
 
 -- the number of a side's host
-abbrev pub number_of : TwoHosts → Side → ℕ
-number_of hosts A = hosts.a
-number_of hosts B = hosts.b
+abbrev pub host_number_of : TwoHosts → Side → ℕ
+host_number_of hosts A = hosts.a
+host_number_of hosts B = hosts.b
 
 -- the type of an answer (BBN 1822, section 3)
-abbrev pub kind_of : Answer → ℕ
-kind_of answers.Rfnm = RFNM
-kind_of answers.Incomplete = INCOMPLETE
-kind_of answers.Dead = DESTINATION_DEAD
+abbrev pub kind_of_answer : Answer → ℕ
+kind_of_answer answers.Rfnm = RFNM
+kind_of_answer answers.Incomplete = INCOMPLETE
+kind_of_answer answers.Dead = DESTINATION_DEAD
 
 -- the record of a message at the interface of a host
 abbrev pub record_at : Direction → ℕ → List Bool → Recorded
 record_at direction host message = record { passage = placed direction host; message = message }
 
 -- what went out from a host
-abbrev pub sent_from : ℕ → HostNote → Option Recorded
-sent_from host (host_notes.Out message) = Some (record_at ToImp host message)
-sent_from host other = None
+abbrev pub recorded_from : ℕ → HostNote → Option Recorded
+recorded_from host (host_notes.Out message) = Some (record_at ToImp host message)
+recorded_from host other = None
 
 -- what came to a host: bits, or an answer to a message to this peer on this link
 abbrev pub came_to : ℕ → HostNote → Option Recorded
 came_to host (host_notes.In message received) = Some (record_at FromImp host message)
-came_to host (host_notes.Answered peer link answer received) = Some (record_at FromImp host (answer_bits (kind_of answer) peer link))
+came_to host (host_notes.Answered peer link answer received) = Some (record_at FromImp host (answer_bits (kind_of_answer answer) peer link))
 came_to host other = None
 
 -- what is recorded of a note, if anything is
-abbrev pub record_of : TwoHosts → Note → Option Recorded
-record_of hosts (notes.Out side note) = sent_from (number_of hosts side) note
-record_of hosts (notes.Came side link note) = came_to (number_of hosts (other side)) note
-record_of hosts (notes.Answered side link note) = came_to (number_of hosts side) note
-record_of hosts (notes.Called side note) = None
-record_of hosts (notes.Lost side link) = None
-record_of hosts (notes.FoundDead side link) = None
-record_of hosts (notes.Nothing side link wanted) = None
+abbrev pub recorded_of : TwoHosts → Note → Option Recorded
+recorded_of hosts (notes.Out side note) = recorded_from (host_number_of hosts side) note
+recorded_of hosts (notes.Came side link note) = came_to (host_number_of hosts (other side)) note
+recorded_of hosts (notes.Answered side link note) = came_to (host_number_of hosts side) note
+recorded_of hosts (notes.Called side note) = None
+recorded_of hosts (notes.Lost side link) = None
+recorded_of hosts (notes.FoundDead side link) = None
+recorded_of hosts (notes.Nothing side link wanted) = None
 
 -- what is recorded of a note of two to eight hosts, if anything is
 abbrev pub record_of_many : ManyNote → Option Recorded
-record_of_many (many.Out host note) = sent_from host note
+record_of_many (many.Out host note) = recorded_from host note
 record_of_many (many.Came from to link note) = came_to to note
 record_of_many (many.Answered from to link note) = came_to from note
 record_of_many (many.Called host note) = None
@@ -73,14 +73,14 @@ bytes_if None = []
 bytes_if (Some recorded) = bytes_of_record recorded
 
 abbrev pub note_bytes : TwoHosts → Note → List ℕ
-note_bytes hosts note = bytes_if (record_of hosts note)
+note_bytes hosts note = bytes_if (recorded_of hosts note)
 
 abbrev pub many_note_bytes : ManyNote → List ℕ
 many_note_bytes note = bytes_if (record_of_many note)
 
 -- what is recorded of notes, in order
 abbrev pub records_of : TwoHosts → List Note → List Recorded
-records_of hosts notes = flat_map (λ note. option_to_list (record_of hosts note)) notes
+records_of hosts notes = flat_map (λ note. option_to_list (recorded_of hosts note)) notes
 
 -- the file of these notes: one of version 2
 abbrev pub file_of_notes : TwoHosts → List Note → List ℕ

@@ -14,17 +14,17 @@ abbrev pub two_hosts : TwoHosts
 two_hosts = record { a = 1; b = 2 }
 
 -- RST in a message to host 2, and as it comes from host 1
-abbrev pub rst_out : List ℕ
-rst_out = 0 ∷ 2 ∷ 0 ∷ 0 ∷ 0 ∷ 8 ∷ 0 ∷ 1 ∷ 0 ∷ 12 ∷ []
+abbrev pub rst_out_bytes : List ℕ
+rst_out_bytes = 0 ∷ 2 ∷ 0 ∷ 0 ∷ 0 ∷ 8 ∷ 0 ∷ 1 ∷ 0 ∷ 12 ∷ []
 
-abbrev pub rst_came : List ℕ
-rst_came = 0 ∷ 1 ∷ 0 ∷ 0 ∷ 0 ∷ 8 ∷ 0 ∷ 1 ∷ 0 ∷ 12 ∷ []
+abbrev pub rst_came_bytes : List ℕ
+rst_came_bytes = 0 ∷ 1 ∷ 0 ∷ 0 ∷ 0 ∷ 8 ∷ 0 ∷ 1 ∷ 0 ∷ 12 ∷ []
 
 abbrev pub a_reset : List Note
 a_reset =
     notes.Called A (host_notes.Done (calls.Reset 2))
-    ∷ notes.Out A (host_notes.Out (bits_of_bytes rst_out))
-    ∷ notes.Came A 0 (host_notes.In (bits_of_bytes rst_came) (received.Control 1))
+    ∷ notes.Out A (host_notes.Out (bits_of_bytes rst_out_bytes))
+    ∷ notes.Came A 0 (host_notes.In (bits_of_bytes rst_came_bytes) (received.Control 1))
     ∷ notes.Answered A 0 (host_notes.Answered 2 0 answers.Rfnm received.Answered)
     ∷ []
 

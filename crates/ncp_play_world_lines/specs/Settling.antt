@@ -8,8 +8,8 @@ use Rattle.ncp_play_world_lines.specs.declared.settling.Trace.{Trace}
 use Rattle.ncp_play_world_lines.specs.declared.settling.Trace.TheVariants.{Noted, Settled}
 
 -- a line that is the one word, or one that asks for an event
-abbrev pub deed_of : {E : Type 0} → (List (List ℕ) → Option E) → List (List ℕ) → Option (Deed E)
-deed_of event_of words = if is_only (codes "settle") words then Some Settle else option_map Event (event_of words)
+abbrev pub deed_of_line : {E : Type 0} → (List (List ℕ) → Option E) → List (List ℕ) → Option (Deed E)
+deed_of_line event_of words = if is_only (codes "settle") words then Some Settle else option_map Event (event_of words)
 
 -- a trace of other notes
 abbrev pub trace_of : {M N : Type 0} → (M → N) → Trace M → Trace N

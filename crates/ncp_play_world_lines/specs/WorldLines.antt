@@ -14,42 +14,42 @@ use Rattle.ncp_transcript_two.specs.declared.event.Event.TheVariants as events
 use Rattle.ncp_play_world_lines.specs.Moves.{side_named, move_named}
 
 -- the peer of a side's calls, which no word names: the other host
-abbrev pub peer_of : TwoHosts → Side → ℕ
-peer_of hosts A = hosts.b
-peer_of hosts B = hosts.a
+abbrev pub peer_of_side : TwoHosts → Side → ℕ
+peer_of_side hosts A = hosts.b
+peer_of_side hosts B = hosts.a
 
 -- the event that a move of a side's message on a link is
-abbrev pub event_of : Side → Move → ℕ → Event
-event_of side moves.Deliver link = events.Deliver side link
-event_of side moves.Lose link = events.Lose side link
-event_of side moves.Dead link = events.Dead side link
-event_of side moves.Answer link = events.Answer side link
+abbrev pub event_of_move : Side → Move → ℕ → Event
+event_of_move side moves.Deliver link = events.Deliver side link
+event_of_move side moves.Lose link = events.Lose side link
+event_of_move side moves.Dead link = events.Dead side link
+event_of_move side moves.Answer link = events.Answer side link
 
 -- a move, whose link is all of these words
-abbrev pub move_line : Side → Move → List (List ℕ) → Option Event
-move_line side wanted words = option_map (event_of side wanted) (all_of (number_first largest_u8 words))
+abbrev pub move_of_words : Side → Move → List (List ℕ) → Option Event
+move_of_words side wanted words = option_map (event_of_move side wanted) (all_of (number_first largest_u8 words))
 
 -- the call that words are, its peer left out
-abbrev pub call_line : TwoHosts → Side → List (List ℕ) → Option Event
-call_line hosts side words = option_map (λ call. events.Call side call) (call_of (Some (peer_of hosts side)) words)
+abbrev pub call_event_of : TwoHosts → Side → List (List ℕ) → Option Event
+call_event_of hosts side words = option_map (λ call. events.Call side call) (call_of (Some (peer_of_side hosts side)) words)
 
 -- a move, if the word in front is one, else a call
 abbrev pub move_or_call : TwoHosts → Side → Option Move → List ℕ → List (List ℕ) → Option Event
-move_or_call hosts side None word words = call_line hosts side (word ∷ words)
-move_or_call hosts side (Some wanted) word words = move_line side wanted words
+move_or_call hosts side None word words = call_event_of hosts side (word ∷ words)
+move_or_call hosts side (Some wanted) word words = move_of_words side wanted words
 
 -- what words behind their side ask for: that its host is asked for its next message, that something happens to
 -- its message on a link, or a call
-abbrev pub asked_of : TwoHosts → Side → List (List ℕ) → Option Event
-asked_of hosts side [] = None
-asked_of hosts side (word ∷ words) =
+abbrev pub event_asked_of : TwoHosts → Side → List (List ℕ) → Option Event
+event_asked_of hosts side [] = None
+event_asked_of hosts side (word ∷ words) =
     if bytes_eq (codes "out") word then alone (events.Out side) words else move_or_call hosts side (move_named word) word words
 
-abbrev pub asked_by : TwoHosts → Option Side → List (List ℕ) → Option Event
-asked_by hosts None words = None
-asked_by hosts (Some side) words = asked_of hosts side words
+abbrev pub event_asked_by : TwoHosts → Option Side → List (List ℕ) → Option Event
+event_asked_by hosts None words = None
+event_asked_by hosts (Some side) words = event_asked_of hosts side words
 
 -- what a line of these words asks for; its side stands in front
 abbrev pub world_line_of : TwoHosts → List (List ℕ) → Option Event
 world_line_of hosts [] = None
-world_line_of hosts (word ∷ words) = asked_by hosts (side_named word) words
+world_line_of hosts (word ∷ words) = event_asked_by hosts (side_named word) words

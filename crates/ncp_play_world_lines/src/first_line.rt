@@ -2,7 +2,7 @@
 ghost use Rattle.std.specs.Prelude.{◌≡◌, ◌≢◌, IfSome};
 ghost use Rattle.ncp_play_script.specs.Arguments.{pair_first};
 ghost use Rattle.ncp_play_script.specs.Calls.{all_of};
-ghost use Rattle.ncp_play_world_lines.specs.FirstLine.{if_sends, watch_of, first_line_of};
+ghost use Rattle.ncp_play_world_lines.specs.FirstLine.{if_sends, watch_asked, first_line_of};
 
 use crate::moves::side_named;
 use ncp_model::Pair;
@@ -40,7 +40,7 @@ fn sender_of(side: Side, words: &mut Words<'_>) -> Option<Watch>
 
 // What all words ask to be watched.
 fn watch_of(words: &mut Words<'_>) -> Option<Watch>
-    ensures { result ≡ watch_of words.old }
+    ensures { result ≡ watch_asked words.old }
 {
     let word = words.next_word()?;
     let side = words.next_word()?;

@@ -12,12 +12,12 @@ ghost use Rattle.ncp_transcript_many.specs.declared.many_note.ManyNote.TheVarian
 ghost use Rattle.ncp_play_files.specs.declared.file.Direction.TheVariants.{ToImp, FromImp};
 ghost use Rattle.ncp_play_files.specs.Versions.{placed};
 ghost use Rattle.ncp_play_world_lines.specs.ManyNotes.{many_note_lines};
-ghost use Rattle.ncp_play_world_lines.specs.Recorded.{file_of_notes, kind_of, record_of_many};
-ghost use Rattle.ncp_play_world_lines.specs.RecordedExamples.{two_hosts, rst_out, rst_came, a_reset, unrecorded};
+ghost use Rattle.ncp_play_world_lines.specs.Recorded.{file_of_notes, kind_of_answer, record_of_many};
+ghost use Rattle.ncp_play_world_lines.specs.RecordedExamples.{two_hosts, rst_out_bytes, rst_came_bytes, a_reset, unrecorded};
 
 /// RST goes out from host 1, comes to host 2, and host 1 is answered: 80 bits, 80 bits and 32.
 pub fn a_reset_is_recorded_so()
-    ensures { file_of_notes two_hosts a_reset ≡ codes "NCPJ" ++ (72 ∷ 1 ∷ 0 ∷ 80 ∷ rst_out) ++ (73 ∷ 2 ∷ 0 ∷ 80 ∷ rst_came) ++ (73 ∷ 1 ∷ 0 ∷ 32 ∷ 5 ∷ 2 ∷ 0 ∷ 0 ∷ []) }
+    ensures { file_of_notes two_hosts a_reset ≡ codes "NCPJ" ++ (72 ∷ 1 ∷ 0 ∷ 80 ∷ rst_out_bytes) ++ (73 ∷ 2 ∷ 0 ∷ 80 ∷ rst_came_bytes) ++ (73 ∷ 1 ∷ 0 ∷ 32 ∷ 5 ∷ 2 ∷ 0 ∷ 0 ∷ []) }
 {}
 
 /// Where nothing went out, came or was answered, the file is its header alone.
@@ -27,9 +27,9 @@ pub fn losses_are_not_recorded()
 
 /// The types of answers: 5 is RFNM, 7 Destination Dead, 9 Incomplete Transmission (BBN Report 1822, section 3).
 pub fn answers_have_these_types()
-    ensures rfnm { kind_of answers.Rfnm ≡ RFNM }
-    ensures dead { kind_of answers.Dead ≡ DESTINATION_DEAD }
-    ensures incomplete { kind_of answers.Incomplete ≡ INCOMPLETE }
+    ensures rfnm { kind_of_answer answers.Rfnm ≡ RFNM }
+    ensures dead { kind_of_answer answers.Dead ≡ DESTINATION_DEAD }
+    ensures incomplete { kind_of_answer answers.Incomplete ≡ INCOMPLETE }
     ensures numbers { (RFNM ≡ 5) × (DESTINATION_DEAD ≡ 7) × (INCOMPLETE ≡ 9) }
 {}
 

@@ -5,7 +5,7 @@ ghost use Rattle.ncp_host.specs.Host.{is_one_of};
 ghost use Rattle.ncp_proof_runs.specs.Peers.{peer_of_call};
 ghost use Rattle.ncp_play_script.specs.HostLines.{alone};
 ghost use Rattle.ncp_transcript_many.specs.ManyHappening.{wanted_of};
-ghost use Rattle.ncp_play_world_lines.specs.ManyLines.{host_first, many_move_line, is_known, many_call_line, many_asked_of, many_line_of};
+ghost use Rattle.ncp_play_world_lines.specs.ManyLines.{host_first, many_move_of, is_known, many_call_line, many_asked_of, many_line_of};
 
 use crate::moves::move_named;
 use ncp_play_script::{Words, call_named};
@@ -50,7 +50,7 @@ fn wanted_of(wanted: Move, from: u8, to: u8, link: u8) -> ManyEvent
 
 // A move, behind the word that names it.
 fn move_line(hosts: &[u8], from: u8, wanted: Move, words: &mut Words<'_>) -> Option<ManyEvent>
-    ensures { result ≡ many_move_line hosts.now from wanted words.old }
+    ensures { result ≡ many_move_of hosts.now from wanted words.old }
 {
     let to = host_first(hosts, words)?;
     let link = words.next_u8()?;

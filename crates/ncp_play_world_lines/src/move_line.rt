@@ -1,6 +1,6 @@
 //! The line of what happened to a message that the subnet had.
 ghost use Rattle.std.specs.Prelude.{◌≡◌, ◌+◌, ◌≤◌, ◌++◌, codes, length};
-ghost use Rattle.ncp_play_world_lines.specs.Moves.{word_of};
+ghost use Rattle.ncp_play_world_lines.specs.Moves.{word_of_move};
 ghost use Rattle.ncp_play_world_lines.specs.MoveLines.{came_words, answer_word, answer_words, destination, move_front, move_line};
 
 use crate::moves::word_of;
@@ -42,7 +42,7 @@ pub(crate) const LONGEST_LINE: usize = LONGEST_MOVE + LONGEST_RECEIVED + 1;
 // Appends the word of a move.
 fn push_word(page: &mut Page, wanted: Move)
     requires { length page.old + LONGEST_WORD ≤ PAGE_SIZE }
-    ensures bytes { page.new ≡ page.old ++ word_of wanted }
+    ensures bytes { page.new ≡ page.old ++ word_of_move wanted }
     ensures len { length page.new ≤ length page.old + LONGEST_WORD }
 {
     page.push_text(word_of(wanted).as_bytes());

@@ -1,6 +1,6 @@
 //! The words that name sides and moves.
 ghost use Rattle.std.specs.Prelude.{◌≡◌};
-ghost use Rattle.ncp_play_world_lines.specs.Moves.{letter_of, side_named, word_of, move_among, move_named};
+ghost use Rattle.ncp_play_world_lines.specs.Moves.{letter_of, side_named, word_of_move, move_among, move_named};
 
 use ncp_transcript_two::{Move, Side};
 
@@ -34,7 +34,7 @@ pub(crate) fn side_named(word: &[u8]) -> Option<Side>
 
 /// The word of a move.
 pub(crate) fn word_of(wanted: Move) -> &'static str
-    ensures { result.now ≡ word_of wanted }
+    ensures { result.now ≡ word_of_move wanted }
 {
     match wanted {
         Move::Deliver => "deliver",

@@ -5,7 +5,7 @@ ghost use Rattle.ncp_subnet.specs.Messages.{answer_bits};
 ghost use Rattle.ncp_transcript_two.specs.Between.{other};
 ghost use Rattle.ncp_play_stream.specs.Pieces.{lost_pieces};
 ghost use Rattle.ncp_play_files.specs.Versions.{placed};
-ghost use Rattle.ncp_play_world_lines.specs.Recorded.{number_of, kind_of, sent_from, came_to, bytes_if, note_bytes, many_note_bytes};
+ghost use Rattle.ncp_play_world_lines.specs.Recorded.{host_number_of, kind_of_answer, recorded_from, came_to, bytes_if, note_bytes, many_note_bytes};
 
 use ncp_bits::Bits;
 use ncp_leader::{DESTINATION_DEAD, INCOMPLETE, Leader, MAX_KIND, RFNM, put_leader};
@@ -30,7 +30,7 @@ fn other(side: Side) -> Side
 
 // The number of a side's host.
 fn number_of(hosts: TwoHosts, side: Side) -> u8
-    ensures { result ≡ number_of hosts side }
+    ensures { result ≡ host_number_of hosts side }
 {
     match side {
         Side::A => hosts.a,
@@ -40,7 +40,7 @@ fn number_of(hosts: TwoHosts, side: Side) -> u8
 
 // The type of an answer.
 fn kind_of(answer: Answer) -> u8
-    ensures kind { result ≡ kind_of answer }
+    ensures kind { result ≡ kind_of_answer answer }
     ensures fits { result ≤ MAX_KIND }
 {
     match answer {
@@ -53,7 +53,7 @@ fn kind_of(answer: Answer) -> u8
 // An answer to a message to a host on a link, as the subnet gives it.
 #[tactic(auto, unfolding(ncp_subnet::specs::Messages::answer_bits))]
 fn answer_bits(answer: Answer, peer: u8, link: u8) -> Bits
-    ensures { result ≡ answer_bits (kind_of answer) peer link }
+    ensures { result ≡ answer_bits (kind_of_answer answer) peer link }
 {
     put_leader(&Leader {
         flags: 0,
@@ -76,7 +76,7 @@ fn passage_at(direction: Direction, host: u8) -> Passage
 
 // Says what went out from a host, if a message did.
 fn say_sent<W: Sink>(out: &mut Outlet<'_, W>, host: u8, note: &HostNote) -> Result<(), Failed>
-    ensures told { SaysOrBreaks W.Sink out.old (bytes_if (sent_from host note.now)) result out.new }
+    ensures told { SaysOrBreaks W.Sink out.old (bytes_if (recorded_from host note.now)) result out.new }
     ensures writes { credit W.Sink out.old ≤ credit W.Sink out.new + lost_pieces (is_err result) }
     ensures mark { write_failed W.Sink out.new ≡ (write_failed W.Sink out.old || is_err result) }
     ensures same_outlet { SameOutlet out.old out.new }

@@ -2,7 +2,7 @@
 ghost use Rattle.std.specs.Prelude.{◌≡◌, ◌∷◌, IfOk, OnErr};
 ghost use Rattle.ncp_play_script.specs.Calls.{NamesGive, NamesGiveBehind};
 ghost use Rattle.ncp_play_script.specs.HostLines.{alone};
-ghost use Rattle.ncp_play_world_lines.specs.WorldLines.{peer_of, event_of, move_line, call_line, asked_of, world_line_of};
+ghost use Rattle.ncp_play_world_lines.specs.WorldLines.{peer_of_side, event_of_move, move_of_words, call_event_of, event_asked_of, world_line_of};
 
 use crate::moves::{move_named, side_named};
 use ncp_play_script::{TwoHosts, Words, call_named};
@@ -14,7 +14,7 @@ const OUT: &[u8] = b"out";
 
 // The host that the calls of a side are to.
 fn peer_of(hosts: TwoHosts, side: Side) -> u8
-    ensures { result ≡ peer_of hosts side }
+    ensures { result ≡ peer_of_side hosts side }
 {
     match side {
         Side::A => hosts.b,
@@ -24,7 +24,7 @@ fn peer_of(hosts: TwoHosts, side: Side) -> u8
 
 // A move of a message as an event.
 fn event_of(side: Side, wanted: Move, link: u8) -> Event
-    ensures { result ≡ event_of side wanted link }
+    ensures { result ≡ event_of_move side wanted link }
 {
     match wanted {
         Move::Deliver => Event::Deliver { side, link },
@@ -36,7 +36,7 @@ fn event_of(side: Side, wanted: Move, link: u8) -> Event
 
 // A move, behind the word that names it.
 fn move_line(side: Side, wanted: Move, words: &mut Words<'_>) -> Option<Event>
-    ensures { result ≡ move_line side wanted words.old }
+    ensures { result ≡ move_of_words side wanted words.old }
 {
     let link = words.next_u8()?;
     if words.is_empty() {
@@ -65,7 +65,7 @@ fn call_line(
     word: &[u8],
     words: &mut Words<'_>,
 ) -> Result<Option<Event>, AllocError>
-    ensures event { IfOk result (λ event. event ≡ call_line hosts side (word.now ∷ words.old)) }
+    ensures event { IfOk result (λ event. event ≡ call_event_of hosts side (word.now ∷ words.old)) }
     ensures memory { OnErr result (NamesGive (word.now ∷ words.old)) }
 {
     let Some(call) = call_named(alloc, word, words, Some(peer_of(hosts, side)))? else {
@@ -81,7 +81,7 @@ fn asked_of(
     side: Side,
     words: &mut Words<'_>,
 ) -> Result<Option<Event>, AllocError>
-    ensures event { IfOk result (λ event. event ≡ asked_of hosts side words.old) }
+    ensures event { IfOk result (λ event. event ≡ event_asked_of hosts side words.old) }
     ensures memory { OnErr result (NamesGive words.old) }
 {
     let Some(word) = words.next_word() else {

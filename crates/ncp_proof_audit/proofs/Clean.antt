@@ -3,7 +3,6 @@ use Rattle.std.proofs.Common.{◌≡◌, ℕ, Bool, true, false, not, ◌&&◌, 
 use Rattle.std.proofs.lemmas.List.Elements.{All-nil, All-cons}
 use Rattle.std.specs.List.{flat_map, list_any}
 use Rattle.ncp_play_files.specs.declared.file.Direction.{Direction}
-use Rattle.ncp_play_files.specs.declared.file.Direction.TheVariants as goes
 use Rattle.ncp_play_files.specs.declared.file.FileFault.{FileFault}
 use Rattle.ncp_play_files.specs.declared.version.Version.TheVariants.{Two}
 use Rattle.ncp_play_files.specs.Versions.{Recorded, placed, next_in, IsOf, bytes_of_record, file_bytes}
@@ -14,36 +13,33 @@ use Rattle.ncp_play_page.specs.Lines.{number_after}
 use Rattle.ncp_play_audit.specs.FindingLines.{is_told, told_line}
 use Rattle.ncp_play_audit.specs.Audited.{audit_lines, is_clean, AuditedAs, HasVerdict}
 use Rattle.ncp_play_script.specs.declared.first_lines.TwoHosts.{TwoHosts}
-use Rattle.ncp_play_world_lines.specs.Recorded.{record_of, records_of, file_of_notes, record_of_many, records_of_many, file_of_many_notes}
+use Rattle.ncp_play_world_lines.specs.Recorded.{recorded_of, records_of, file_of_notes, record_of_many, records_of_many, file_of_many_notes}
 use Rattle.ncp_transcript.specs.declared.note.HostNote.{HostNote}
-use Rattle.ncp_transcript.specs.declared.note.HostNote.TheVariants as of_host
 use Rattle.ncp_transcript_many.specs.declared.many_note.ManyNote.{ManyNote}
-use Rattle.ncp_transcript_many.specs.declared.many_note.ManyNote.TheVariants as many
 use Rattle.ncp_transcript_two.specs.declared.side.Side.TheVariants.{A, B}
 use Rattle.ncp_transcript_two.specs.declared.note.Note.{Note}
-use Rattle.ncp_transcript_two.specs.declared.note.Note.TheVariants as two
 use Rattle.ncp_transcript_two.specs.Between.{Hosts}
 use Rattle.ncp_transcript_two.specs.Transcript.{IsTranscript}
 use Rattle.ncp_transcript_many.specs.Crowd.{Crowd, crowd_of}
 use Rattle.ncp_transcript_many.specs.ManyHappening.{by_numbers}
 use Rattle.ncp_transcript_many.proofs.TwoOfMany.{two-by-numbers}
 use Rattle.ncp_transcript_many.specs.ManyTranscript.{IsManyTranscript}
-use Rattle.ncp_terms.specs.declared.answer.Answer.TheVariants as answers
+use Rattle.ncp_terms.specs.declared.answer.Answer.{Answer}
 use Rattle.ncp_umpire.specs.declared.finding.Finding.{Finding}
 use Rattle.ncp_umpire.specs.declared.umpire.Umpire.{Umpire}
 use Rattle.ncp_umpire.specs.declared.way.Way.{Way}
 use Rattle.ncp_umpire.specs.declared.way.Way.TheVariants.{ToImp, FromImp}
 use Rattle.ncp_umpire.specs.Judged.{new_umpire, record_findings, after_record}
 use Rattle.ncp_proof_umpire.specs.Worlds.{goes_from}
-use Rattle.ncp_proof_umpire_many.specs.Files.{found_in}
+use Rattle.ncp_proof_umpire_many.specs.Files.{findings_in}
 use Rattle.ncp_proof_umpire_many.specs.ManyFiles.{came_at, passing, many_file, AllFit}
 use Rattle.ncp_proof_umpire_many.proofs.Among.{none_found, all_fit}
 
 -- ---- the two forms of a record
 
 abbrev direction_of : Way → Direction
-direction_of ToImp = goes.ToImp
-direction_of FromImp = goes.FromImp
+direction_of ToImp = Direction.ToImp
+direction_of FromImp = Direction.FromImp
 
 abbrev as_record : ℕ × Way × List Bool → Recorded
 as_record one = record { passage = placed (direction_of one.1) one.0; message = one.2 }
@@ -56,50 +52,50 @@ joined : (xs ys : List (ℕ × Way × List Bool)) → as_records (xs ++ ys) ≡ 
 joined [] ys = refl
 joined (x ∷ xs) ys = ap (λ (rs : List Recorded). as_record x ∷ rs) (joined xs ys)
 
-out_is : (host : ℕ) (note : HostNote) → option_to_list (record_of_many (many.Out host note)) ≡ as_records (goes_from host note)
-out_is host (of_host.Out message) = refl
-out_is host (of_host.Refused call fault) = refl
-out_is host (of_host.Done call) = refl
-out_is host (of_host.Took peer pair bytes text) = refl
-out_is host (of_host.State peer pair told) = refl
-out_is host (of_host.Phase peer flags) = refl
-out_is host (of_host.Echoed peer byte) = refl
-out_is host (of_host.Errors peer errors) = refl
-out_is host (of_host.Counts peer counts) = refl
-out_is host (of_host.Waiting peer place command) = refl
-out_is host (of_host.Kept peer link message) = refl
-out_is host (of_host.Ignored ignored) = refl
-out_is host of_host.Nothing = refl
-out_is host (of_host.In message received) = refl
-out_is host (of_host.Answered peer link answer received) = refl
+out_is : (host : ℕ) (note : HostNote) → option_to_list (record_of_many (ManyNote.Out host note)) ≡ as_records (goes_from host note)
+out_is host (HostNote.Out message) = refl
+out_is host (HostNote.Refused call fault) = refl
+out_is host (HostNote.Done call) = refl
+out_is host (HostNote.Took peer pair bytes text) = refl
+out_is host (HostNote.State peer pair told) = refl
+out_is host (HostNote.Phase peer flags) = refl
+out_is host (HostNote.Echoed peer byte) = refl
+out_is host (HostNote.Errors peer errors) = refl
+out_is host (HostNote.Counts peer counts) = refl
+out_is host (HostNote.Waiting peer place command) = refl
+out_is host (HostNote.Kept peer link message) = refl
+out_is host (HostNote.Ignored ignored) = refl
+out_is host HostNote.Nothing = refl
+out_is host (HostNote.In message received) = refl
+out_is host (HostNote.Answered peer link answer received) = refl
 
-came_is : (from to link : ℕ) (note : HostNote) → option_to_list (record_of_many (many.Came from to link note)) ≡ as_records (came_at to note)
-came_is from to link (of_host.Out message) = refl
-came_is from to link (of_host.Refused call fault) = refl
-came_is from to link (of_host.Done call) = refl
-came_is from to link (of_host.Took peer pair bytes text) = refl
-came_is from to link (of_host.State peer pair told) = refl
-came_is from to link (of_host.Phase peer flags) = refl
-came_is from to link (of_host.Echoed peer byte) = refl
-came_is from to link (of_host.Errors peer errors) = refl
-came_is from to link (of_host.Counts peer counts) = refl
-came_is from to link (of_host.Waiting peer place command) = refl
-came_is from to link (of_host.Kept peer on message) = refl
-came_is from to link (of_host.Ignored ignored) = refl
-came_is from to link of_host.Nothing = refl
-came_is from to link (of_host.In message received) = refl
-came_is from to link (of_host.Answered peer on answers.Rfnm received) = refl
-came_is from to link (of_host.Answered peer on answers.Incomplete received) = refl
-came_is from to link (of_host.Answered peer on answers.Dead received) = refl
+came_is : (from to link : ℕ) (note : HostNote) → option_to_list (record_of_many (ManyNote.Came from to link note)) ≡ as_records (came_at to note)
+came_is from to link (HostNote.Out message) = refl
+came_is from to link (HostNote.Refused call fault) = refl
+came_is from to link (HostNote.Done call) = refl
+came_is from to link (HostNote.Took peer pair bytes text) = refl
+came_is from to link (HostNote.State peer pair told) = refl
+came_is from to link (HostNote.Phase peer flags) = refl
+came_is from to link (HostNote.Echoed peer byte) = refl
+came_is from to link (HostNote.Errors peer errors) = refl
+came_is from to link (HostNote.Counts peer counts) = refl
+came_is from to link (HostNote.Waiting peer place command) = refl
+came_is from to link (HostNote.Kept peer on message) = refl
+came_is from to link (HostNote.Ignored ignored) = refl
+came_is from to link HostNote.Nothing = refl
+came_is from to link (HostNote.In message received) = refl
+came_is from to link (HostNote.Answered peer on Answer.Rfnm received) = refl
+came_is from to link (HostNote.Answered peer on Answer.Incomplete received) = refl
+came_is from to link (HostNote.Answered peer on Answer.Dead received) = refl
 
 one_is : (n : ManyNote) → option_to_list (record_of_many n) ≡ as_records (passing n)
-one_is (many.Called host note) = refl
-one_is (many.Out host note) = out_is host note
-one_is (many.Came from to link note) = came_is from to link note
-one_is (many.Lost from to link) = refl
-one_is (many.FoundDead from to link) = refl
-one_is (many.Answered from to link note) = came_is to from link note
-one_is (many.Nothing event) = refl
+one_is (ManyNote.Called host note) = refl
+one_is (ManyNote.Out host note) = out_is host note
+one_is (ManyNote.Came from to link note) = came_is from to link note
+one_is (ManyNote.Lost from to link) = refl
+one_is (ManyNote.FoundDead from to link) = refl
+one_is (ManyNote.Answered from to link note) = came_is to from link note
+one_is (ManyNote.Nothing event) = refl
 
 all_are : (notes : List ManyNote) → records_of_many notes ≡ as_records (many_file notes)
 all_are [] = refl
@@ -120,16 +116,16 @@ empty_front : (xs ys : List Finding) → xs ++ ys ≡ [] → (xs ≡ []) × (ys 
 empty_front [] ys e = (refl, e)
 empty_front (x ∷ xs) ys e = absurd (cc e)
 
-clean : (standard : Bool) (file : List (ℕ × Way × List Bool)) (umpire : Umpire) (number : ℕ) → found_in umpire file ≡ [] → (audit_lines standard umpire number (as_records file) ≡ []) × (is_clean standard umpire (as_records file) ≡ true)
+clean : (standard : Bool) (file : List (ℕ × Way × List Bool)) (umpire : Umpire) (number : ℕ) → findings_in umpire file ≡ [] → (audit_lines standard umpire number (as_records file) ≡ []) × (is_clean standard umpire (as_records file) ≡ true)
 clean standard [] umpire number e = (refl, refl)
 clean standard ((host, ToImp, bits) ∷ more) umpire number e =
-    let p = empty_front (record_findings umpire ToImp host bits) (found_in (after_record umpire ToImp host bits) more) e in
+    let p = empty_front (record_findings umpire ToImp host bits) (findings_in (after_record umpire ToImp host bits) more) e in
     let rest = clean standard more (after_record umpire ToImp host bits) (number_after number) p.1 in (
       ap (λ (fs : List Finding). flat_map (told_line standard number host) fs ++ audit_lines standard (after_record umpire ToImp host bits) (number_after number) (as_records more)) p.0 ∙ rest.0,
       ap (λ (fs : List Finding). not (list_any (is_told standard) fs) && is_clean standard (after_record umpire ToImp host bits) (as_records more)) p.0 ∙ rest.1,
     )
 clean standard ((host, FromImp, bits) ∷ more) umpire number e =
-    let p = empty_front (record_findings umpire FromImp host bits) (found_in (after_record umpire FromImp host bits) more) e in
+    let p = empty_front (record_findings umpire FromImp host bits) (findings_in (after_record umpire FromImp host bits) more) e in
     let rest = clean standard more (after_record umpire FromImp host bits) (number_after number) p.1 in (
       ap (λ (fs : List Finding). flat_map (told_line standard number host) fs ++ audit_lines standard (after_record umpire FromImp host bits) (number_after number) (as_records more)) p.0 ∙ rest.0,
       ap (λ (fs : List Finding). not (list_any (is_told standard) fs) && is_clean standard (after_record umpire FromImp host bits) (as_records more)) p.0 ∙ rest.1,
@@ -156,21 +152,21 @@ module _ (standard : Bool) (notes : List ManyNote) (now : Crowd) (t : IsManyTran
 
 -- ---- two hosts
 
-same_record : (hosts : TwoHosts) (n : Note) → record_of hosts n ≡ record_of_many (by_numbers hosts.a hosts.b n)
-same_record hosts (two.Called A note) = refl
-same_record hosts (two.Called B note) = refl
-same_record hosts (two.Out A note) = refl
-same_record hosts (two.Out B note) = refl
-same_record hosts (two.Came A link note) = refl
-same_record hosts (two.Came B link note) = refl
-same_record hosts (two.Lost A link) = refl
-same_record hosts (two.Lost B link) = refl
-same_record hosts (two.FoundDead A link) = refl
-same_record hosts (two.FoundDead B link) = refl
-same_record hosts (two.Answered A link note) = refl
-same_record hosts (two.Answered B link note) = refl
-same_record hosts (two.Nothing A link wanted) = refl
-same_record hosts (two.Nothing B link wanted) = refl
+same_record : (hosts : TwoHosts) (n : Note) → recorded_of hosts n ≡ record_of_many (by_numbers hosts.a hosts.b n)
+same_record hosts (Note.Called A note) = refl
+same_record hosts (Note.Called B note) = refl
+same_record hosts (Note.Out A note) = refl
+same_record hosts (Note.Out B note) = refl
+same_record hosts (Note.Came A link note) = refl
+same_record hosts (Note.Came B link note) = refl
+same_record hosts (Note.Lost A link) = refl
+same_record hosts (Note.Lost B link) = refl
+same_record hosts (Note.FoundDead A link) = refl
+same_record hosts (Note.FoundDead B link) = refl
+same_record hosts (Note.Answered A link note) = refl
+same_record hosts (Note.Answered B link note) = refl
+same_record hosts (Note.Nothing A link wanted) = refl
+same_record hosts (Note.Nothing B link wanted) = refl
 
 same_records : (hosts : TwoHosts) (notes : List Note) → records_of hosts notes ≡ records_of_many (map (by_numbers hosts.a hosts.b) notes)
 same_records hosts [] = refl

@@ -6,7 +6,7 @@ ghost use Rattle.ncp_play_world_lines.specs.Recorded.{file_of_notes, file_of_man
 ghost use Rattle.ncp_transcript_two.specs.declared.note.Note.{Note};
 ghost use Rattle.ncp_transcript_two.specs.Between.{Hosts};
 ghost use Rattle.ncp_transcript_two.specs.Transcript.{IsTranscript};
-ghost use Rattle.ncp_transcript_many.specs.declared.many_note.ManyNote.{ManyNote as Noted};
+ghost use Rattle.ncp_transcript_many.specs.declared.many_note.ManyNote.{ManyNote};
 ghost use Rattle.ncp_transcript_many.specs.Crowd.{Crowd};
 ghost use Rattle.ncp_transcript_many.specs.ManyTranscript.{IsManyTranscript};
 ghost use Rattle.ncp_umpire.specs.Judged.{new_umpire};
@@ -14,8 +14,8 @@ ghost use Rattle.ncp_umpire.specs.Judged.{new_umpire};
 /// What is recorded of the notes of two to eight hosts is a file without fault, of which `audit` writes no line, and answers
 /// that there is no finding, with `--standard` and without.
 pub fn what_is_recorded_of_many_is_clean()
-    ensures lines { (standard : Bool) (notes : List Noted) (now : Crowd) (text : List ℕ) (fault : Option FileFault) → IsManyTranscript notes now → AuditedAs standard (new_umpire false) (file_of_many_notes notes) text fault → (text ≡ []) × (fault ≡ None) }
-    ensures verdict { (standard : Bool) (notes : List Noted) (now : Crowd) (good : Bool) → IsManyTranscript notes now → HasVerdict standard (new_umpire false) (file_of_many_notes notes) good → good ≡ true }
+    ensures lines { (standard : Bool) (notes : List ManyNote) (now : Crowd) (text : List ℕ) (fault : Option FileFault) → IsManyTranscript notes now → AuditedAs standard (new_umpire false) (file_of_many_notes notes) text fault → (text ≡ []) × (fault ≡ None) }
+    ensures verdict { (standard : Bool) (notes : List ManyNote) (now : Crowd) (good : Bool) → IsManyTranscript notes now → HasVerdict standard (new_umpire false) (file_of_many_notes notes) good → good ≡ true }
 {}
 
 /// The same of two hosts.

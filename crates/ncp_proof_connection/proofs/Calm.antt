@@ -10,7 +10,6 @@ use Rattle.ncp_model.specs.Pairs.{sends, receives}
 use Rattle.ncp_model.specs.End.{End, or_new}
 use Rattle.ncp_model.specs.Texts.{Rfnm, Incomplete, Dead}
 use Rattle.ncp_model.specs.Happenings.{Happening, happens}
-use Rattle.ncp_model.specs.Happenings as all
 use Rattle.ncp_proof_connection.proofs.ReceiverActs.{only_receives}
 
 -- no request to send is among these
@@ -25,9 +24,9 @@ Left before = (or_new before).left ≡ true → ((or_new before).leaving ≡ fal
 
 -- What a sender's end heard stays, unless an RTS or a CLS comes: it may be there no more. And it stays left.
 abbrev pub keeps_link : Happening → Bool
-keeps_link (all.Rts_comes on taken by_peer) = false
-keeps_link all.Cls_comes = false
-keeps_link all.Is_cleared = false
+keeps_link (Happening.Rts_comes on taken by_peer) = false
+keeps_link Happening.Cls_comes = false
+keeps_link Happening.Is_cleared = false
 keeps_link what = true
 
 abbrev pub SenderCalm : Option End → Option End → Type 0
@@ -35,144 +34,144 @@ SenderCalm before after = ((or_new after).heard ≡ true → ((or_new before).he
     × ((or_new before).left ≡ true → (or_new after).left ≡ true)
 
 pub sender_calm : (pair : Pair) (what : Happening) (before : Option End) → sends pair ≡ true → keeps_link what ≡ true → Left before → SenderCalm before (happens pair what before).after
-sender_calm pair (all.Asks_to_send a b n full) None sd c d = (λ h. (grind arith, grind arith), λ l. grind arith)
-sender_calm pair (all.Asks_to_send a b n full) (Some e) sd c d = (λ h. (grind arith, grind arith), λ l. let m = d l in let m0 = m.0 in let m1 = m.1 in grind arith)
-sender_calm pair (all.Asks_to_receive a on n full) None sd c d = (λ h. (grind arith, grind arith), λ l. grind arith)
-sender_calm pair (all.Asks_to_receive a on n full) (Some e) sd c d = (λ h. (grind arith, grind arith), λ l. let m = d l in let m0 = m.0 in let m1 = m.1 in grind arith)
-sender_calm pair (all.Closes full) None sd c d = (λ h. (h, refl), λ l. l)
-sender_calm pair (all.Closes full) (Some e) sd c d = (λ h. (grind arith, grind arith), λ l. let m = d l in let m0 = m.0 in let m1 = m.1 in grind arith)
-sender_calm pair (all.Gives text) None sd c d = (λ h. (h, refl), λ l. l)
-sender_calm pair (all.Gives text) (Some e) sd c d = (λ h. (grind arith, grind arith), λ l. let m = d l in let m0 = m.0 in let m1 = m.1 in grind arith)
-sender_calm pair (all.Takes n) None sd c d = (λ h. (h, refl), λ l. l)
-sender_calm pair (all.Takes n) (Some e) sd c d = (λ h. (grind arith, grind arith), λ l. let m = d l in let m0 = m.0 in let m1 = m.1 in grind arith)
-sender_calm pair (all.Allocates a b full) None sd c d = (λ h. (h, refl), λ l. l)
-sender_calm pair (all.Allocates a b full) (Some e) sd c d = (λ h. (grind arith, grind arith), λ l. let m = d l in let m0 = m.0 in let m1 = m.1 in grind arith)
-sender_calm pair (all.Calls_back a b full) None sd c d = (λ h. (h, refl), λ l. l)
-sender_calm pair (all.Calls_back a b full) (Some e) sd c d = (λ h. (grind arith, grind arith), λ l. let m = d l in let m0 = m.0 in let m1 = m.1 in grind arith)
-sender_calm pair (all.Interrupts full) None sd c d = (λ h. (h, refl), λ l. l)
-sender_calm pair (all.Interrupts full) (Some e) sd c d = (λ h. (grind arith, grind arith), λ l. let m = d l in let m0 = m.0 in let m1 = m.1 in grind arith)
-sender_calm pair (all.Rts_comes on taken n) before sd c d = absurd (both_ways false refl c)
-sender_calm pair (all.Str_comes a n) None sd c d = (λ h. (grind arith, grind arith), λ l. grind arith)
-sender_calm pair (all.Str_comes a n) (Some e) sd c d = (λ h. (grind arith, grind arith), λ l. let m = d l in let m0 = m.0 in let m1 = m.1 in grind arith)
-sender_calm pair all.Cls_comes before sd c d = absurd (both_ways false refl c)
-sender_calm pair (all.All_comes on a b) None sd c d = (λ h. (h, refl), λ l. l)
-sender_calm pair (all.All_comes on a b) (Some e) sd c d = (λ h. (grind arith, grind arith), λ l. let m = d l in let m0 = m.0 in let m1 = m.1 in grind arith)
-sender_calm pair (all.Gvb_comes on a b) None sd c d = (λ h. (h, refl), λ l. l)
-sender_calm pair (all.Gvb_comes on a b) (Some e) sd c d = (λ h. (grind arith, grind arith), λ l. let m = d l in let m0 = m.0 in let m1 = m.1 in grind arith)
-sender_calm pair (all.Ret_comes on a b) None sd c d = (λ h. (h, refl), λ l. l)
-sender_calm pair (all.Ret_comes on a b) (Some e) sd c d = (λ h. (grind arith, grind arith), λ l. let m = d l in let m0 = m.0 in let m1 = m.1 in grind arith)
-sender_calm pair (all.Inr_comes on) None sd c d = (λ h. (h, refl), λ l. l)
-sender_calm pair (all.Inr_comes on) (Some e) sd c d = (λ h. (grind arith, grind arith), λ l. let m = d l in let m0 = m.0 in let m1 = m.1 in grind arith)
-sender_calm pair (all.Ins_comes on) None sd c d = (λ h. (h, refl), λ l. l)
-sender_calm pair (all.Ins_comes on) (Some e) sd c d = (λ h. (grind arith, grind arith), λ l. let m = d l in let m0 = m.0 in let m1 = m.1 in grind arith)
-sender_calm pair (all.Text_comes head n text) None sd c d = (λ h. (h, refl), λ l. l)
-sender_calm pair (all.Text_comes head n text) (Some e) sd c d = (λ h. (grind arith, grind arith), λ l. let m = d l in let m0 = m.0 in let m1 = m.1 in grind arith)
-sender_calm pair all.Text_goes_out None sd c d = (λ h. (h, refl), λ l. l)
-sender_calm pair all.Text_goes_out (Some e) sd c d = (λ h. (grind arith, grind arith), λ l. let m = d l in let m0 = m.0 in let m1 = m.1 in grind arith)
-sender_calm pair (all.Is_answered Rfnm) None sd c d = (λ h. (h, refl), λ l. l)
-sender_calm pair (all.Is_answered Rfnm) (Some e) sd c d = (λ h. (grind arith, grind arith), λ l. let m = d l in let m0 = m.0 in let m1 = m.1 in grind arith)
-sender_calm pair (all.Is_answered Incomplete) before sd c d = (λ h. (h, refl), λ l. l)
-sender_calm pair (all.Is_answered Dead) before sd c d = (λ h. (h, refl), λ l. l)
-sender_calm pair all.Is_cleared before sd c d = absurd (both_ways false refl c)
+sender_calm pair (Happening.Asks_to_send a b n full) None sd c d = (λ h. (grind arith, grind arith), λ l. grind arith)
+sender_calm pair (Happening.Asks_to_send a b n full) (Some e) sd c d = (λ h. (grind arith, grind arith), λ l. let m = d l in let m0 = m.0 in let m1 = m.1 in grind arith)
+sender_calm pair (Happening.Asks_to_receive a on n full) None sd c d = (λ h. (grind arith, grind arith), λ l. grind arith)
+sender_calm pair (Happening.Asks_to_receive a on n full) (Some e) sd c d = (λ h. (grind arith, grind arith), λ l. let m = d l in let m0 = m.0 in let m1 = m.1 in grind arith)
+sender_calm pair (Happening.Closes full) None sd c d = (λ h. (h, refl), λ l. l)
+sender_calm pair (Happening.Closes full) (Some e) sd c d = (λ h. (grind arith, grind arith), λ l. let m = d l in let m0 = m.0 in let m1 = m.1 in grind arith)
+sender_calm pair (Happening.Gives text) None sd c d = (λ h. (h, refl), λ l. l)
+sender_calm pair (Happening.Gives text) (Some e) sd c d = (λ h. (grind arith, grind arith), λ l. let m = d l in let m0 = m.0 in let m1 = m.1 in grind arith)
+sender_calm pair (Happening.Takes n) None sd c d = (λ h. (h, refl), λ l. l)
+sender_calm pair (Happening.Takes n) (Some e) sd c d = (λ h. (grind arith, grind arith), λ l. let m = d l in let m0 = m.0 in let m1 = m.1 in grind arith)
+sender_calm pair (Happening.Allocates a b full) None sd c d = (λ h. (h, refl), λ l. l)
+sender_calm pair (Happening.Allocates a b full) (Some e) sd c d = (λ h. (grind arith, grind arith), λ l. let m = d l in let m0 = m.0 in let m1 = m.1 in grind arith)
+sender_calm pair (Happening.Calls_back a b full) None sd c d = (λ h. (h, refl), λ l. l)
+sender_calm pair (Happening.Calls_back a b full) (Some e) sd c d = (λ h. (grind arith, grind arith), λ l. let m = d l in let m0 = m.0 in let m1 = m.1 in grind arith)
+sender_calm pair (Happening.Interrupts full) None sd c d = (λ h. (h, refl), λ l. l)
+sender_calm pair (Happening.Interrupts full) (Some e) sd c d = (λ h. (grind arith, grind arith), λ l. let m = d l in let m0 = m.0 in let m1 = m.1 in grind arith)
+sender_calm pair (Happening.Rts_comes on taken n) before sd c d = absurd (both_ways false refl c)
+sender_calm pair (Happening.Str_comes a n) None sd c d = (λ h. (grind arith, grind arith), λ l. grind arith)
+sender_calm pair (Happening.Str_comes a n) (Some e) sd c d = (λ h. (grind arith, grind arith), λ l. let m = d l in let m0 = m.0 in let m1 = m.1 in grind arith)
+sender_calm pair Happening.Cls_comes before sd c d = absurd (both_ways false refl c)
+sender_calm pair (Happening.All_comes on a b) None sd c d = (λ h. (h, refl), λ l. l)
+sender_calm pair (Happening.All_comes on a b) (Some e) sd c d = (λ h. (grind arith, grind arith), λ l. let m = d l in let m0 = m.0 in let m1 = m.1 in grind arith)
+sender_calm pair (Happening.Gvb_comes on a b) None sd c d = (λ h. (h, refl), λ l. l)
+sender_calm pair (Happening.Gvb_comes on a b) (Some e) sd c d = (λ h. (grind arith, grind arith), λ l. let m = d l in let m0 = m.0 in let m1 = m.1 in grind arith)
+sender_calm pair (Happening.Ret_comes on a b) None sd c d = (λ h. (h, refl), λ l. l)
+sender_calm pair (Happening.Ret_comes on a b) (Some e) sd c d = (λ h. (grind arith, grind arith), λ l. let m = d l in let m0 = m.0 in let m1 = m.1 in grind arith)
+sender_calm pair (Happening.Inr_comes on) None sd c d = (λ h. (h, refl), λ l. l)
+sender_calm pair (Happening.Inr_comes on) (Some e) sd c d = (λ h. (grind arith, grind arith), λ l. let m = d l in let m0 = m.0 in let m1 = m.1 in grind arith)
+sender_calm pair (Happening.Ins_comes on) None sd c d = (λ h. (h, refl), λ l. l)
+sender_calm pair (Happening.Ins_comes on) (Some e) sd c d = (λ h. (grind arith, grind arith), λ l. let m = d l in let m0 = m.0 in let m1 = m.1 in grind arith)
+sender_calm pair (Happening.Text_comes head n text) None sd c d = (λ h. (h, refl), λ l. l)
+sender_calm pair (Happening.Text_comes head n text) (Some e) sd c d = (λ h. (grind arith, grind arith), λ l. let m = d l in let m0 = m.0 in let m1 = m.1 in grind arith)
+sender_calm pair Happening.Text_goes_out None sd c d = (λ h. (h, refl), λ l. l)
+sender_calm pair Happening.Text_goes_out (Some e) sd c d = (λ h. (grind arith, grind arith), λ l. let m = d l in let m0 = m.0 in let m1 = m.1 in grind arith)
+sender_calm pair (Happening.Is_answered Rfnm) None sd c d = (λ h. (h, refl), λ l. l)
+sender_calm pair (Happening.Is_answered Rfnm) (Some e) sd c d = (λ h. (grind arith, grind arith), λ l. let m = d l in let m0 = m.0 in let m1 = m.1 in grind arith)
+sender_calm pair (Happening.Is_answered Incomplete) before sd c d = (λ h. (h, refl), λ l. l)
+sender_calm pair (Happening.Is_answered Dead) before sd c d = (λ h. (h, refl), λ l. l)
+sender_calm pair Happening.Is_cleared before sd c d = absurd (both_ways false refl c)
 
 -- an RTS that comes to an end that heard none
 pub sender_hears_rts : (pair : Pair) (on n : ℕ) (before : Option End) → sends pair ≡ true → Left before → (or_new before).heard ≡ false
-    → ((or_new (happens pair (all.Rts_comes on false n) before).after).heard ≡ true → (or_new (happens pair (all.Rts_comes on false n) before).after).link ≡ on)
-    × ((or_new before).left ≡ true → (or_new (happens pair (all.Rts_comes on false n) before).after).left ≡ true)
+    → ((or_new (happens pair (Happening.Rts_comes on false n) before).after).heard ≡ true → (or_new (happens pair (Happening.Rts_comes on false n) before).after).link ≡ on)
+    × ((or_new before).left ≡ true → (or_new (happens pair (Happening.Rts_comes on false n) before).after).left ≡ true)
 sender_hears_rts pair on n None sd d u = (λ h. grind arith, λ l. grind arith)
 sender_hears_rts pair on n (Some e) sd d u = (λ h. grind arith, λ l. let m = d l in let m0 = m.0 in let m1 = m.1 in grind arith)
 
 -- a CLS that comes to an end to which none came: one that is left is there no more
 pub sender_hears_cls : (pair : Pair) (before : Option End) → sends pair ≡ true → (or_new before).cls ≡ false
-    → (or_new (happens pair all.Cls_comes before).after).heard ≡ true → ((or_new before).left ≡ false) × ((or_new before).heard ≡ true) × ((or_new (happens pair all.Cls_comes before).after).link ≡ (or_new before).link)
+    → (or_new (happens pair Happening.Cls_comes before).after).heard ≡ true → ((or_new before).left ≡ false) × ((or_new before).heard ≡ true) × ((or_new (happens pair Happening.Cls_comes before).after).link ≡ (or_new before).link)
 sender_hears_cls pair None sd c = λ h. (refl, grind arith, grind arith)
 sender_hears_cls pair (Some e) sd c = λ h. (grind arith, grind arith, grind arith)
 
 -- A receiver asks with its link alone, and makes an RTS then alone.
 abbrev pub asks_link : Happening → Bool
-asks_link (all.Asks_to_receive with_room on own full) = true
+asks_link (Happening.Asks_to_receive with_room on own full) = true
 asks_link what = false
 
 abbrev pub ReceiverCalm : Option End → Option End → Type 0
 ReceiverCalm before after = (or_new after).asked ≡ true → ((or_new before).asked ≡ true) × ((or_new after).link ≡ (or_new before).link)
 
 pub receiver_calm : (pair : Pair) (what : Happening) (before : Option End) → receives pair ≡ true → asks_link what ≡ false → ReceiverCalm before (happens pair what before).after
-receiver_calm pair (all.Asks_to_send a b n full) before rd c = rw (only_receives pair rd) (λ h. (h, refl))
-receiver_calm pair (all.Asks_to_receive a on n full) before rd c = absurd (both_ways true c refl)
-receiver_calm pair (all.Closes full) None rd c = λ h. (h, refl)
-receiver_calm pair (all.Closes full) (Some e) rd c = λ h. (grind arith, grind arith)
-receiver_calm pair (all.Gives text) None rd c = λ h. (h, refl)
-receiver_calm pair (all.Gives text) (Some e) rd c = λ h. (grind arith, grind arith)
-receiver_calm pair (all.Takes n) None rd c = λ h. (h, refl)
-receiver_calm pair (all.Takes n) (Some e) rd c = λ h. (grind arith, grind arith)
-receiver_calm pair (all.Allocates a b full) None rd c = λ h. (h, refl)
-receiver_calm pair (all.Allocates a b full) (Some e) rd c = λ h. (grind arith, grind arith)
-receiver_calm pair (all.Calls_back a b full) None rd c = λ h. (h, refl)
-receiver_calm pair (all.Calls_back a b full) (Some e) rd c = λ h. (grind arith, grind arith)
-receiver_calm pair (all.Interrupts full) None rd c = λ h. (h, refl)
-receiver_calm pair (all.Interrupts full) (Some e) rd c = λ h. (grind arith, grind arith)
-receiver_calm pair (all.Rts_comes on taken n) None rd c = λ h. (grind arith, grind arith)
-receiver_calm pair (all.Rts_comes on taken n) (Some e) rd c = λ h. (grind arith, grind arith)
-receiver_calm pair (all.Str_comes a n) None rd c = λ h. (grind arith, grind arith)
-receiver_calm pair (all.Str_comes a n) (Some e) rd c = λ h. (grind arith, grind arith)
-receiver_calm pair all.Cls_comes None rd c = λ h. (grind arith, grind arith)
-receiver_calm pair all.Cls_comes (Some e) rd c = λ h. (grind arith, grind arith)
-receiver_calm pair (all.All_comes on a b) None rd c = λ h. (h, refl)
-receiver_calm pair (all.All_comes on a b) (Some e) rd c = λ h. (grind arith, grind arith)
-receiver_calm pair (all.Gvb_comes on a b) None rd c = λ h. (h, refl)
-receiver_calm pair (all.Gvb_comes on a b) (Some e) rd c = λ h. (grind arith, grind arith)
-receiver_calm pair (all.Ret_comes on a b) None rd c = λ h. (h, refl)
-receiver_calm pair (all.Ret_comes on a b) (Some e) rd c = λ h. (grind arith, grind arith)
-receiver_calm pair (all.Inr_comes on) None rd c = λ h. (h, refl)
-receiver_calm pair (all.Inr_comes on) (Some e) rd c = λ h. (grind arith, grind arith)
-receiver_calm pair (all.Ins_comes on) None rd c = λ h. (h, refl)
-receiver_calm pair (all.Ins_comes on) (Some e) rd c = λ h. (grind arith, grind arith)
-receiver_calm pair (all.Text_comes head n text) None rd c = λ h. (h, refl)
-receiver_calm pair (all.Text_comes head n text) (Some e) rd c = λ h. (grind arith, grind arith)
-receiver_calm pair all.Text_goes_out None rd c = λ h. (h, refl)
-receiver_calm pair all.Text_goes_out (Some e) rd c = λ h. (grind arith, grind arith)
-receiver_calm pair (all.Is_answered Rfnm) None rd c = λ h. (h, refl)
-receiver_calm pair (all.Is_answered Rfnm) (Some e) rd c = λ h. (grind arith, grind arith)
-receiver_calm pair (all.Is_answered Incomplete) before rd c = λ h. (h, refl)
-receiver_calm pair (all.Is_answered Dead) before rd c = λ h. (h, refl)
-receiver_calm pair all.Is_cleared before rd c = λ h. absurd (both_ways false refl h)
+receiver_calm pair (Happening.Asks_to_send a b n full) before rd c = rw (only_receives pair rd) (λ h. (h, refl))
+receiver_calm pair (Happening.Asks_to_receive a on n full) before rd c = absurd (both_ways true c refl)
+receiver_calm pair (Happening.Closes full) None rd c = λ h. (h, refl)
+receiver_calm pair (Happening.Closes full) (Some e) rd c = λ h. (grind arith, grind arith)
+receiver_calm pair (Happening.Gives text) None rd c = λ h. (h, refl)
+receiver_calm pair (Happening.Gives text) (Some e) rd c = λ h. (grind arith, grind arith)
+receiver_calm pair (Happening.Takes n) None rd c = λ h. (h, refl)
+receiver_calm pair (Happening.Takes n) (Some e) rd c = λ h. (grind arith, grind arith)
+receiver_calm pair (Happening.Allocates a b full) None rd c = λ h. (h, refl)
+receiver_calm pair (Happening.Allocates a b full) (Some e) rd c = λ h. (grind arith, grind arith)
+receiver_calm pair (Happening.Calls_back a b full) None rd c = λ h. (h, refl)
+receiver_calm pair (Happening.Calls_back a b full) (Some e) rd c = λ h. (grind arith, grind arith)
+receiver_calm pair (Happening.Interrupts full) None rd c = λ h. (h, refl)
+receiver_calm pair (Happening.Interrupts full) (Some e) rd c = λ h. (grind arith, grind arith)
+receiver_calm pair (Happening.Rts_comes on taken n) None rd c = λ h. (grind arith, grind arith)
+receiver_calm pair (Happening.Rts_comes on taken n) (Some e) rd c = λ h. (grind arith, grind arith)
+receiver_calm pair (Happening.Str_comes a n) None rd c = λ h. (grind arith, grind arith)
+receiver_calm pair (Happening.Str_comes a n) (Some e) rd c = λ h. (grind arith, grind arith)
+receiver_calm pair Happening.Cls_comes None rd c = λ h. (grind arith, grind arith)
+receiver_calm pair Happening.Cls_comes (Some e) rd c = λ h. (grind arith, grind arith)
+receiver_calm pair (Happening.All_comes on a b) None rd c = λ h. (h, refl)
+receiver_calm pair (Happening.All_comes on a b) (Some e) rd c = λ h. (grind arith, grind arith)
+receiver_calm pair (Happening.Gvb_comes on a b) None rd c = λ h. (h, refl)
+receiver_calm pair (Happening.Gvb_comes on a b) (Some e) rd c = λ h. (grind arith, grind arith)
+receiver_calm pair (Happening.Ret_comes on a b) None rd c = λ h. (h, refl)
+receiver_calm pair (Happening.Ret_comes on a b) (Some e) rd c = λ h. (grind arith, grind arith)
+receiver_calm pair (Happening.Inr_comes on) None rd c = λ h. (h, refl)
+receiver_calm pair (Happening.Inr_comes on) (Some e) rd c = λ h. (grind arith, grind arith)
+receiver_calm pair (Happening.Ins_comes on) None rd c = λ h. (h, refl)
+receiver_calm pair (Happening.Ins_comes on) (Some e) rd c = λ h. (grind arith, grind arith)
+receiver_calm pair (Happening.Text_comes head n text) None rd c = λ h. (h, refl)
+receiver_calm pair (Happening.Text_comes head n text) (Some e) rd c = λ h. (grind arith, grind arith)
+receiver_calm pair Happening.Text_goes_out None rd c = λ h. (h, refl)
+receiver_calm pair Happening.Text_goes_out (Some e) rd c = λ h. (grind arith, grind arith)
+receiver_calm pair (Happening.Is_answered Rfnm) None rd c = λ h. (h, refl)
+receiver_calm pair (Happening.Is_answered Rfnm) (Some e) rd c = λ h. (grind arith, grind arith)
+receiver_calm pair (Happening.Is_answered Incomplete) before rd c = λ h. (h, refl)
+receiver_calm pair (Happening.Is_answered Dead) before rd c = λ h. (h, refl)
+receiver_calm pair Happening.Is_cleared before rd c = λ h. absurd (both_ways false refl h)
 
 pub makes_no_rts : (pair : Pair) (what : Happening) (before : Option End) → receives pair ≡ true → asks_link what ≡ false → no_rts (happens pair what before).made ≡ true
-makes_no_rts pair (all.Asks_to_send a b n full) None rd c = grind arith
-makes_no_rts pair (all.Asks_to_send a b n full) (Some e) rd c = grind arith
-makes_no_rts pair (all.Asks_to_receive a on n full) before rd c = absurd (both_ways true c refl)
-makes_no_rts pair (all.Closes full) None rd c = refl
-makes_no_rts pair (all.Closes full) (Some e) rd c = grind arith
-makes_no_rts pair (all.Gives text) before rd c = refl
-makes_no_rts pair (all.Takes n) None rd c = refl
-makes_no_rts pair (all.Takes n) (Some e) rd c = grind arith
-makes_no_rts pair (all.Allocates a b full) None rd c = refl
-makes_no_rts pair (all.Allocates a b full) (Some e) rd c = grind arith
-makes_no_rts pair (all.Calls_back a b full) None rd c = refl
-makes_no_rts pair (all.Calls_back a b full) (Some e) rd c = grind arith
-makes_no_rts pair (all.Interrupts full) None rd c = refl
-makes_no_rts pair (all.Interrupts full) (Some e) rd c = grind arith
-makes_no_rts pair (all.Rts_comes on taken n) None rd c = grind arith
-makes_no_rts pair (all.Rts_comes on taken n) (Some e) rd c = grind arith
-makes_no_rts pair (all.Str_comes a n) None rd c = grind arith
-makes_no_rts pair (all.Str_comes a n) (Some e) rd c = grind arith
-makes_no_rts pair all.Cls_comes None rd c = grind arith
-makes_no_rts pair all.Cls_comes (Some e) rd c = grind arith
-makes_no_rts pair (all.All_comes on a b) None rd c = refl
-makes_no_rts pair (all.All_comes on a b) (Some e) rd c = grind arith
-makes_no_rts pair (all.Gvb_comes on a b) None rd c = refl
-makes_no_rts pair (all.Gvb_comes on a b) (Some e) rd c = grind arith
-makes_no_rts pair (all.Ret_comes on a b) None rd c = refl
-makes_no_rts pair (all.Ret_comes on a b) (Some e) rd c = grind arith
-makes_no_rts pair (all.Inr_comes on) None rd c = refl
-makes_no_rts pair (all.Inr_comes on) (Some e) rd c = grind arith
-makes_no_rts pair (all.Ins_comes on) None rd c = refl
-makes_no_rts pair (all.Ins_comes on) (Some e) rd c = grind arith
-makes_no_rts pair (all.Text_comes head n text) None rd c = refl
-makes_no_rts pair (all.Text_comes head n text) (Some e) rd c = grind arith
-makes_no_rts pair all.Text_goes_out before rd c = refl
-makes_no_rts pair (all.Is_answered Rfnm) None rd c = refl
-makes_no_rts pair (all.Is_answered Rfnm) (Some e) rd c = grind arith
-makes_no_rts pair (all.Is_answered Incomplete) before rd c = refl
-makes_no_rts pair (all.Is_answered Dead) before rd c = refl
-makes_no_rts pair all.Is_cleared before rd c = refl
+makes_no_rts pair (Happening.Asks_to_send a b n full) None rd c = grind arith
+makes_no_rts pair (Happening.Asks_to_send a b n full) (Some e) rd c = grind arith
+makes_no_rts pair (Happening.Asks_to_receive a on n full) before rd c = absurd (both_ways true c refl)
+makes_no_rts pair (Happening.Closes full) None rd c = refl
+makes_no_rts pair (Happening.Closes full) (Some e) rd c = grind arith
+makes_no_rts pair (Happening.Gives text) before rd c = refl
+makes_no_rts pair (Happening.Takes n) None rd c = refl
+makes_no_rts pair (Happening.Takes n) (Some e) rd c = grind arith
+makes_no_rts pair (Happening.Allocates a b full) None rd c = refl
+makes_no_rts pair (Happening.Allocates a b full) (Some e) rd c = grind arith
+makes_no_rts pair (Happening.Calls_back a b full) None rd c = refl
+makes_no_rts pair (Happening.Calls_back a b full) (Some e) rd c = grind arith
+makes_no_rts pair (Happening.Interrupts full) None rd c = refl
+makes_no_rts pair (Happening.Interrupts full) (Some e) rd c = grind arith
+makes_no_rts pair (Happening.Rts_comes on taken n) None rd c = grind arith
+makes_no_rts pair (Happening.Rts_comes on taken n) (Some e) rd c = grind arith
+makes_no_rts pair (Happening.Str_comes a n) None rd c = grind arith
+makes_no_rts pair (Happening.Str_comes a n) (Some e) rd c = grind arith
+makes_no_rts pair Happening.Cls_comes None rd c = grind arith
+makes_no_rts pair Happening.Cls_comes (Some e) rd c = grind arith
+makes_no_rts pair (Happening.All_comes on a b) None rd c = refl
+makes_no_rts pair (Happening.All_comes on a b) (Some e) rd c = grind arith
+makes_no_rts pair (Happening.Gvb_comes on a b) None rd c = refl
+makes_no_rts pair (Happening.Gvb_comes on a b) (Some e) rd c = grind arith
+makes_no_rts pair (Happening.Ret_comes on a b) None rd c = refl
+makes_no_rts pair (Happening.Ret_comes on a b) (Some e) rd c = grind arith
+makes_no_rts pair (Happening.Inr_comes on) None rd c = refl
+makes_no_rts pair (Happening.Inr_comes on) (Some e) rd c = grind arith
+makes_no_rts pair (Happening.Ins_comes on) None rd c = refl
+makes_no_rts pair (Happening.Ins_comes on) (Some e) rd c = grind arith
+makes_no_rts pair (Happening.Text_comes head n text) None rd c = refl
+makes_no_rts pair (Happening.Text_comes head n text) (Some e) rd c = grind arith
+makes_no_rts pair Happening.Text_goes_out before rd c = refl
+makes_no_rts pair (Happening.Is_answered Rfnm) None rd c = refl
+makes_no_rts pair (Happening.Is_answered Rfnm) (Some e) rd c = grind arith
+makes_no_rts pair (Happening.Is_answered Incomplete) before rd c = refl
+makes_no_rts pair (Happening.Is_answered Dead) before rd c = refl
+makes_no_rts pair Happening.Is_cleared before rd c = refl

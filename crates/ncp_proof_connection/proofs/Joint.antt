@@ -10,10 +10,10 @@ use Rattle.ncp_terms.specs.declared.command.Command.TheVariants.{Rts, Str, Cls, 
 use Rattle.ncp_model.specs.declared.pair.Pair.{Pair}
 use Rattle.ncp_model.specs.Act.{is_data_link}
 use Rattle.ncp_model.specs.End.{End, new_end, or_new, is_going, is_live}
-use Rattle.ncp_proof_watch.specs.Sound.{Sound}
+use Rattle.ncp_proof_watch.specs.Sound.{SoundEnd}
 use Rattle.ncp_proof_watch.specs.Histories.{Past, IsBeginning}
 use Rattle.ncp_proof_connection.specs.Connections.{Text, No_text, Away, Here}
-use Rattle.ncp_proof_connection.specs.Ledger.{sum_of, text_messages, text_bits, is_out}
+use Rattle.ncp_proof_connection.specs.Ledger.{sum_of, text_messages, text_bits, is_text_out}
 use Rattle.ncp_proof_connection.proofs.Lines.{Kind, Request, Close, Data, Alien, Marks, Same, Ahead, Well}
 use Rattle.ncp_model.specs.Amounts.{granted_messages, granted_bits, returned_messages, returned_bits}
 
@@ -64,7 +64,7 @@ abbrev pub StandsAt : Option End → Type 0
 StandsAt None = ⊤
 StandsAt (Some e) = Stands e
 
-pub well : (pair : Pair) (e : End) → Sound pair e → (e.left ≡ true → (e.asked || e.heard) ≡ true) → (e.cls ≡ true → e.heard ≡ true) × (e.left ≡ true → e.cls ≡ false)
+pub well : (pair : Pair) (e : End) → SoundEnd pair e → (e.left ≡ true → (e.asked || e.heard) ≡ true) → (e.cls ≡ true → e.heard ≡ true) × (e.left ≡ true → e.cls ≡ false)
 well pair e s t = (λ c. grind arith, λ l. grind arith)
 
 -- what a live receiver got
@@ -102,7 +102,7 @@ Sized size link (Away li of_size bits) = (of_size ≡ size) × (li ≡ link)
 Sized size link (Here li) = li ≡ link
 
 pub record Core (s : End) (g : List Bool) (r : End) (h : List Bool) (p q : List Command) (t : Text) : Type 0 where
-  pub out : s.busy ≡ is_out t
+  pub out : s.busy ≡ is_text_out t
   pub sized : Sized s.size s.link t
   pub begun : IsBeginning h g
   pub dead : r.opened ≡ false → h ≡ []
@@ -128,7 +128,7 @@ false_or : (b : Bool) → (b ≡ true → ⊥) → b ≡ false
 false_or true f = absurd (f refl)
 false_or false f = refl
 
-pub firm : (pair : Pair) (e : End) → Sound pair e → (e.left ≡ true → (e.asked || e.heard) ≡ true) → e.room ≤ 65536 → Firm e
+pub firm : (pair : Pair) (e : End) → SoundEnd pair e → (e.left ≡ true → (e.asked || e.heard) ≡ true) → e.room ≤ 65536 → Firm e
 firm pair e s t m = record {
   marks = λ o. (s.asked o, s.heard o);
   opens = λ g a o. s.opens (grind arith);
@@ -169,7 +169,7 @@ receiver_well e f = record {
   there = f.there;
 }
 
-pub no_text : (s : End) (t : Text) → s.busy ≡ is_out t → s.busy ≡ false → t ≡ No_text
+pub no_text : (s : End) (t : Text) → s.busy ≡ is_text_out t → s.busy ≡ false → t ≡ No_text
 no_text s No_text k e = refl
 no_text s (Away li n bits) k e = absurd (both_ways s.busy e k)
 no_text s (Here li) k e = absurd (both_ways s.busy e k)

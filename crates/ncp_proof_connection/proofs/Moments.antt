@@ -13,9 +13,8 @@ use Rattle.ncp_model.specs.Act.{Act, Stays, answer, leaves, closing}
 use Rattle.ncp_model.specs.Calls.{bits_to_take, emptied, take_bits}
 use Rattle.ncp_model.specs.Texts.{Rfnm, Incomplete, Dead}
 use Rattle.ncp_model.specs.Happenings.{Happening, Outcome, of_take, happens}
-use Rattle.ncp_model.specs.Happenings as all
 use Rattle.ncp_model.specs.Leading.{suits}
-use Rattle.ncp_proof_watch.specs.Histories.{Past, no_past, is_accepted, is_admitted, taken_out, adds, opens, IsBeginning}
+use Rattle.ncp_proof_watch.specs.Histories.{Past, no_past, is_outcome_accepted, is_admitted, taken_out, adds, opens, IsBeginning}
 use Rattle.ncp_proof_watch.specs.Books.{BooksAt}
 use Rattle.ncp_proof_watch.specs.Sound.{SoundAt}
 use Rattle.ncp_proof_connection.specs.Connections.{Text}
@@ -55,40 +54,40 @@ abbrev pub then_past : Pair → Happening → Option End → Past → Past
 then_past pair what before past = adds what (happens pair what before).outcome (if opens before (happens pair what before).after then no_past else past)
 
 pub none-kept : (pair : Pair) (what : Happening) (before : Option End) (past : Past) → sends pair ≡ false → suits pair what ≡ true → SoundAt pair before → NoneYet before past → NoneYet (happens pair what before).after (then_past pair what before past)
-none-kept pair (all.Asks_to_send of_size with_room own full) None past n l s k = grind arith
-none-kept pair (all.Asks_to_send of_size with_room own full) (Some e) past n l s k = grind arith
-none-kept pair (all.Asks_to_receive with_room on own full) None past n l s k = grind arith
-none-kept pair (all.Asks_to_receive with_room on own full) (Some e) past n l s k = grind arith
-none-kept pair (all.Closes full) None past n l s k = tt
-none-kept pair (all.Closes full) (Some e) past n l s k = grind arith
-none-kept pair (all.Gives text) None past n l s k = tt
-none-kept pair (all.Gives text) (Some e) past n l s k = grind arith
-none-kept pair (all.Takes bytes) None past n l s k = tt
-none-kept pair (all.Takes bytes) (Some e) past n l s k = grind (arith, append-nil)
-none-kept pair (all.Allocates m b full) None past n l s k = tt
-none-kept pair (all.Allocates m b full) (Some e) past n l s k = grind arith
-none-kept pair (all.Calls_back m b full) None past n l s k = tt
-none-kept pair (all.Calls_back m b full) (Some e) past n l s k = grind arith
-none-kept pair (all.Interrupts full) None past n l s k = tt
-none-kept pair (all.Interrupts full) (Some e) past n l s k = grind arith
-none-kept pair (all.Rts_comes on taken by_peer) None past n l s k = grind arith
-none-kept pair (all.Rts_comes on taken by_peer) (Some e) past n l s k = grind arith
-none-kept pair (all.Str_comes of_size by_peer) None past n l s k = grind arith
-none-kept pair (all.Str_comes of_size by_peer) (Some e) past n l s k = grind arith
-none-kept pair all.Cls_comes None past n l s k = grind arith
-none-kept pair all.Cls_comes (Some e) past n l s k = grind arith
-none-kept pair (all.All_comes on m b) before past n l s k = absurd (cc (n, l))
-none-kept pair (all.Gvb_comes on m b) before past n l s k = absurd (cc (n, l))
-none-kept pair (all.Ret_comes on m b) None past n l s k = tt
-none-kept pair (all.Ret_comes on m b) (Some e) past n l s k = grind arith
-none-kept pair (all.Inr_comes on) before past n l s k = absurd (cc (n, l))
-none-kept pair (all.Ins_comes on) None past n l s k = tt
-none-kept pair (all.Ins_comes on) (Some e) past n l s k = grind arith
-none-kept pair (all.Text_comes head of_size text) None past n l s k = tt
-none-kept pair (all.Text_comes head of_size text) (Some e) past n l s k = grind arith
-none-kept pair all.Text_goes_out before past n l s k = absurd (cc (n, l))
-none-kept pair (all.Is_answered how) before past n l s k = absurd (cc (n, l))
-none-kept pair all.Is_cleared before past n l s k = tt
+none-kept pair (Happening.Asks_to_send of_size with_room own full) None past n l s k = grind arith
+none-kept pair (Happening.Asks_to_send of_size with_room own full) (Some e) past n l s k = grind arith
+none-kept pair (Happening.Asks_to_receive with_room on own full) None past n l s k = grind arith
+none-kept pair (Happening.Asks_to_receive with_room on own full) (Some e) past n l s k = grind arith
+none-kept pair (Happening.Closes full) None past n l s k = tt
+none-kept pair (Happening.Closes full) (Some e) past n l s k = grind arith
+none-kept pair (Happening.Gives text) None past n l s k = tt
+none-kept pair (Happening.Gives text) (Some e) past n l s k = grind arith
+none-kept pair (Happening.Takes bytes) None past n l s k = tt
+none-kept pair (Happening.Takes bytes) (Some e) past n l s k = grind (arith, append-nil)
+none-kept pair (Happening.Allocates m b full) None past n l s k = tt
+none-kept pair (Happening.Allocates m b full) (Some e) past n l s k = grind arith
+none-kept pair (Happening.Calls_back m b full) None past n l s k = tt
+none-kept pair (Happening.Calls_back m b full) (Some e) past n l s k = grind arith
+none-kept pair (Happening.Interrupts full) None past n l s k = tt
+none-kept pair (Happening.Interrupts full) (Some e) past n l s k = grind arith
+none-kept pair (Happening.Rts_comes on taken by_peer) None past n l s k = grind arith
+none-kept pair (Happening.Rts_comes on taken by_peer) (Some e) past n l s k = grind arith
+none-kept pair (Happening.Str_comes of_size by_peer) None past n l s k = grind arith
+none-kept pair (Happening.Str_comes of_size by_peer) (Some e) past n l s k = grind arith
+none-kept pair Happening.Cls_comes None past n l s k = grind arith
+none-kept pair Happening.Cls_comes (Some e) past n l s k = grind arith
+none-kept pair (Happening.All_comes on m b) before past n l s k = absurd (cc (n, l))
+none-kept pair (Happening.Gvb_comes on m b) before past n l s k = absurd (cc (n, l))
+none-kept pair (Happening.Ret_comes on m b) None past n l s k = tt
+none-kept pair (Happening.Ret_comes on m b) (Some e) past n l s k = grind arith
+none-kept pair (Happening.Inr_comes on) before past n l s k = absurd (cc (n, l))
+none-kept pair (Happening.Ins_comes on) None past n l s k = tt
+none-kept pair (Happening.Ins_comes on) (Some e) past n l s k = grind arith
+none-kept pair (Happening.Text_comes head of_size text) None past n l s k = tt
+none-kept pair (Happening.Text_comes head of_size text) (Some e) past n l s k = grind arith
+none-kept pair Happening.Text_goes_out before past n l s k = absurd (cc (n, l))
+none-kept pair (Happening.Is_answered how) before past n l s k = absurd (cc (n, l))
+none-kept pair Happening.Is_cleared before past n l s k = tt
 
 -- What a take takes out: nothing, or the front of what an end holds that opened and is not left.
 
@@ -99,7 +98,7 @@ bits-out pair n e P k = go (e.leaving && emptied e n)
     go true = k
     go false = k
 
-take-out : (pair : Pair) (bytes : ℕ) (before : Option End) (P : List Bool → Type 0) → P [] → ((e : End) (n : ℕ) → before ≡ Some e → e.left ≡ false → e.opened ≡ true → P (take n e.stored)) → P (taken_out (happens pair (all.Takes bytes) before).outcome)
+take-out : (pair : Pair) (bytes : ℕ) (before : Option End) (P : List Bool → Type 0) → P [] → ((e : End) (n : ℕ) → before ≡ Some e → e.left ≡ false → e.opened ≡ true → P (take n e.stored)) → P (taken_out (happens pair (Happening.Takes bytes) before).outcome)
 take-out pair bytes None P none some = none
 take-out pair bytes (Some e) P none some = go e.left e.opened (receives pair) refl refl
   where
@@ -110,18 +109,18 @@ take-out pair bytes (Some e) P none some = go e.left e.opened (receives pair) re
     go false true false a b = none
     go false true true a b = bits-out pair (bits_to_take bytes e) e P (some e (bits_to_take bytes e) refl a b)
 
-take-opens-not : (pair : Pair) (bytes : ℕ) (before : Option End) → opens before (happens pair (all.Takes bytes) before).after ≡ false
+take-opens-not : (pair : Pair) (bytes : ℕ) (before : Option End) → opens before (happens pair (Happening.Takes bytes) before).after ≡ false
 take-opens-not pair bytes None = refl
 take-opens-not pair bytes (Some e) = grind arith
 
 -- what is taken goes on as it was got
-takes-front : (pair : Pair) (bytes : ℕ) (before : Option End) (past : Past) → BooksAt before past → IsBeginning past.taken past.got → IsBeginning (past.taken ++ taken_out (happens pair (all.Takes bytes) before).outcome) past.got
+takes-front : (pair : Pair) (bytes : ℕ) (before : Option End) (past : Past) → BooksAt before past → IsBeginning past.taken past.got → IsBeginning (past.taken ++ taken_out (happens pair (Happening.Takes bytes) before).outcome) past.got
 takes-front pair bytes before past books k = take-out pair bytes before (λ (out : List Bool). IsBeginning (past.taken ++ out) past.got)
     (subst (λ (l : List Bool). IsBeginning l past.got) (sym (append-nil past.taken)) k)
     (λ e n is l o. begins-front past.got past.taken e.stored n ((subst (λ (x : Option End). BooksAt x past) is books).held o l))
 
 -- and begins what is given
-takes-begins : (pair : Pair) (bytes : ℕ) (before : Option End) (past : Past) (g : List Bool) → BooksAt before past → (is_live before ≡ true → IsBeginning past.got g) → IsBeginning past.taken g → IsBeginning (past.taken ++ taken_out (happens pair (all.Takes bytes) before).outcome) g
+takes-begins : (pair : Pair) (bytes : ℕ) (before : Option End) (past : Past) (g : List Bool) → BooksAt before past → (is_live before ≡ true → IsBeginning past.got g) → IsBeginning past.taken g → IsBeginning (past.taken ++ taken_out (happens pair (Happening.Takes bytes) before).outcome) g
 takes-begins pair bytes before past g books got k = take-out pair bytes before (λ (out : List Bool). IsBeginning (past.taken ++ out) g)
     (subst (λ (l : List Bool). IsBeginning l g) (sym (append-nil past.taken)) k)
     (λ e n is l o. begins-on (past.taken ++ take n e.stored) past.got g
@@ -143,15 +142,15 @@ front-kept pair what before past books k live = go (opens before (happens pair w
     o : Outcome
     o = (happens pair what before).outcome
 
-    anew : (what : Happening) (o : Outcome) → ((bytes : ℕ) → what ≡ all.Takes bytes → ⊥) → IsBeginning (adds what o no_past).taken (adds what o no_past).got
-    anew (all.Takes bytes) o f = absurd (f bytes refl)
-    anew (all.Asks_to_receive with_room on own full) o f = asked-begins (is_accepted o) [] [] ([], refl)
+    anew : (what : Happening) (o : Outcome) → ((bytes : ℕ) → what ≡ Happening.Takes bytes → ⊥) → IsBeginning (adds what o no_past).taken (adds what o no_past).got
+    anew (Happening.Takes bytes) o f = absurd (f bytes refl)
+    anew (Happening.Asks_to_receive with_room on own full) o f = asked-begins (is_outcome_accepted o) [] [] ([], refl)
     anew what o f = ((adds what o no_past).got, refl)
 
     further : (what : Happening) → IsBeginning past.taken past.got → IsBeginning (adds what (happens pair what before).outcome past).taken (adds what (happens pair what before).outcome past).got
-    further (all.Takes bytes) f = takes-front pair bytes before past books f
-    further (all.Asks_to_receive with_room on own full) f = asked-begins (is_accepted (happens pair (all.Asks_to_receive with_room on own full) before).outcome) past.taken past.got f
-    further (all.Text_comes head of_size text) f = begins-more past.taken past.got (if is_admitted (happens pair (all.Text_comes head of_size text) before).outcome then text else []) f
+    further (Happening.Takes bytes) f = takes-front pair bytes before past books f
+    further (Happening.Asks_to_receive with_room on own full) f = asked-begins (is_outcome_accepted (happens pair (Happening.Asks_to_receive with_room on own full) before).outcome) past.taken past.got f
+    further (Happening.Text_comes head of_size text) f = begins-more past.taken past.got (if is_admitted (happens pair (Happening.Text_comes head of_size text) before).outcome then text else []) f
     further what f = f
 
     go : (b : Bool) → opens before (happens pair what before).after ≡ b → IsBeginning (adds what o (if b then no_past else past)).taken (adds what o (if b then no_past else past)).got
@@ -159,9 +158,9 @@ front-kept pair what before past books k live = go (opens before (happens pair w
     go false e = further what (k (live-before (is_live before) (is_live (happens pair what before).after) e live))
 
 -- what was taken stays, or is nothing, or is what a take leaves
-taken-or : (what : Happening) (o : Outcome) (past : Past) (P : List Bool → Type 0) → P past.taken → P [] → ((bytes : ℕ) → what ≡ all.Takes bytes → P (past.taken ++ taken_out o)) → P (adds what o past).taken
-taken-or (all.Takes bytes) o past P k n t = t bytes refl
-taken-or (all.Asks_to_receive with_room on own full) o past P k n t = go (is_accepted o)
+taken-or : (what : Happening) (o : Outcome) (past : Past) (P : List Bool → Type 0) → P past.taken → P [] → ((bytes : ℕ) → what ≡ Happening.Takes bytes → P (past.taken ++ taken_out o)) → P (adds what o past).taken
+taken-or (Happening.Takes bytes) o past P k n t = t bytes refl
+taken-or (Happening.Asks_to_receive with_room on own full) o past P k n t = go (is_outcome_accepted o)
   where
     go : (b : Bool) → P (if b then [] else past.taken)
     go true = n
@@ -183,7 +182,7 @@ receiver-begins pair what before past g books got k = go (opens before (happens 
 
 -- at the sender: what is given only grows, but where it opens
 given-grows : (what : Happening) (o : Outcome) (past : Past) → (more : List Bool) × ((adds what o past).given ≡ past.given ++ more)
-given-grows (all.Gives text) o past = (_, refl)
+given-grows (Happening.Gives text) o past = (_, refl)
 given-grows what o past = ([], sym (append-nil past.given))
 
 pub sender-begins : (pair : Pair) (what : Happening) (before : Option End) (past : Past) (taken : List Bool) → (opens before (happens pair what before).after ≡ true → taken ≡ []) → IsBeginning taken past.given → IsBeginning taken (then_past pair what before past).given
@@ -196,48 +195,48 @@ sender-begins pair what before past taken none k = go (opens before (happens pai
 -- A sender opens by a request, its own or its peer's.
 
 pub opens-by-request : (pair : Pair) (what : Happening) (before : Option End) → sends pair ≡ true
-    → ((of_size with_room own : ℕ) (full : Bool) → what ≡ all.Asks_to_send of_size with_room own full → ⊥) → ((on by_peer : ℕ) (taken : Bool) → what ≡ all.Rts_comes on taken by_peer → ⊥)
+    → ((of_size with_room own : ℕ) (full : Bool) → what ≡ Happening.Asks_to_send of_size with_room own full → ⊥) → ((on by_peer : ℕ) (taken : Bool) → what ≡ Happening.Rts_comes on taken by_peer → ⊥)
     → opens before (happens pair what before).after ≡ false
-opens-by-request pair (all.Asks_to_send of_size with_room own full) before s f g = absurd (f of_size with_room own full refl)
-opens-by-request pair (all.Rts_comes on taken by_peer) before s f g = absurd (g on by_peer taken refl)
-opens-by-request pair (all.Asks_to_receive with_room on own full) None s f g = grind arith
-opens-by-request pair (all.Asks_to_receive with_room on own full) (Some e) s f g = grind arith
-opens-by-request pair (all.Closes full) None s f g = refl
-opens-by-request pair (all.Closes full) (Some e) s f g = grind arith
-opens-by-request pair (all.Gives text) None s f g = refl
-opens-by-request pair (all.Gives text) (Some e) s f g = grind arith
-opens-by-request pair (all.Takes bytes) None s f g = refl
-opens-by-request pair (all.Takes bytes) (Some e) s f g = grind arith
-opens-by-request pair (all.Allocates m b full) None s f g = refl
-opens-by-request pair (all.Allocates m b full) (Some e) s f g = grind arith
-opens-by-request pair (all.Calls_back m b full) None s f g = refl
-opens-by-request pair (all.Calls_back m b full) (Some e) s f g = grind arith
-opens-by-request pair (all.Interrupts full) None s f g = refl
-opens-by-request pair (all.Interrupts full) (Some e) s f g = grind arith
-opens-by-request pair (all.Str_comes of_size by_peer) None s f g = grind arith
-opens-by-request pair (all.Str_comes of_size by_peer) (Some e) s f g = grind arith
-opens-by-request pair all.Cls_comes None s f g = grind arith
-opens-by-request pair all.Cls_comes (Some e) s f g = grind arith
-opens-by-request pair (all.All_comes on m b) None s f g = refl
-opens-by-request pair (all.All_comes on m b) (Some e) s f g = grind arith
-opens-by-request pair (all.Gvb_comes on m b) None s f g = refl
-opens-by-request pair (all.Gvb_comes on m b) (Some e) s f g = grind arith
-opens-by-request pair (all.Ret_comes on m b) None s f g = refl
-opens-by-request pair (all.Ret_comes on m b) (Some e) s f g = grind arith
-opens-by-request pair (all.Inr_comes on) None s f g = refl
-opens-by-request pair (all.Inr_comes on) (Some e) s f g = grind arith
-opens-by-request pair (all.Ins_comes on) None s f g = refl
-opens-by-request pair (all.Ins_comes on) (Some e) s f g = grind arith
-opens-by-request pair (all.Text_comes head of_size text) None s f g = refl
-opens-by-request pair (all.Text_comes head of_size text) (Some e) s f g = grind arith
-opens-by-request pair all.Text_goes_out None s f g = refl
-opens-by-request pair all.Text_goes_out (Some e) s f g = grind arith
-opens-by-request pair (all.Is_answered Rfnm) None s f g = refl
-opens-by-request pair (all.Is_answered Incomplete) None s f g = refl
-opens-by-request pair (all.Is_answered Dead) None s f g = refl
-opens-by-request pair (all.Is_answered how) (Some e) s f g = grind arith
-opens-by-request pair all.Is_cleared None s f g = refl
-opens-by-request pair all.Is_cleared (Some e) s f g = grind arith
+opens-by-request pair (Happening.Asks_to_send of_size with_room own full) before s f g = absurd (f of_size with_room own full refl)
+opens-by-request pair (Happening.Rts_comes on taken by_peer) before s f g = absurd (g on by_peer taken refl)
+opens-by-request pair (Happening.Asks_to_receive with_room on own full) None s f g = grind arith
+opens-by-request pair (Happening.Asks_to_receive with_room on own full) (Some e) s f g = grind arith
+opens-by-request pair (Happening.Closes full) None s f g = refl
+opens-by-request pair (Happening.Closes full) (Some e) s f g = grind arith
+opens-by-request pair (Happening.Gives text) None s f g = refl
+opens-by-request pair (Happening.Gives text) (Some e) s f g = grind arith
+opens-by-request pair (Happening.Takes bytes) None s f g = refl
+opens-by-request pair (Happening.Takes bytes) (Some e) s f g = grind arith
+opens-by-request pair (Happening.Allocates m b full) None s f g = refl
+opens-by-request pair (Happening.Allocates m b full) (Some e) s f g = grind arith
+opens-by-request pair (Happening.Calls_back m b full) None s f g = refl
+opens-by-request pair (Happening.Calls_back m b full) (Some e) s f g = grind arith
+opens-by-request pair (Happening.Interrupts full) None s f g = refl
+opens-by-request pair (Happening.Interrupts full) (Some e) s f g = grind arith
+opens-by-request pair (Happening.Str_comes of_size by_peer) None s f g = grind arith
+opens-by-request pair (Happening.Str_comes of_size by_peer) (Some e) s f g = grind arith
+opens-by-request pair Happening.Cls_comes None s f g = grind arith
+opens-by-request pair Happening.Cls_comes (Some e) s f g = grind arith
+opens-by-request pair (Happening.All_comes on m b) None s f g = refl
+opens-by-request pair (Happening.All_comes on m b) (Some e) s f g = grind arith
+opens-by-request pair (Happening.Gvb_comes on m b) None s f g = refl
+opens-by-request pair (Happening.Gvb_comes on m b) (Some e) s f g = grind arith
+opens-by-request pair (Happening.Ret_comes on m b) None s f g = refl
+opens-by-request pair (Happening.Ret_comes on m b) (Some e) s f g = grind arith
+opens-by-request pair (Happening.Inr_comes on) None s f g = refl
+opens-by-request pair (Happening.Inr_comes on) (Some e) s f g = grind arith
+opens-by-request pair (Happening.Ins_comes on) None s f g = refl
+opens-by-request pair (Happening.Ins_comes on) (Some e) s f g = grind arith
+opens-by-request pair (Happening.Text_comes head of_size text) None s f g = refl
+opens-by-request pair (Happening.Text_comes head of_size text) (Some e) s f g = grind arith
+opens-by-request pair Happening.Text_goes_out None s f g = refl
+opens-by-request pair Happening.Text_goes_out (Some e) s f g = grind arith
+opens-by-request pair (Happening.Is_answered Rfnm) None s f g = refl
+opens-by-request pair (Happening.Is_answered Incomplete) None s f g = refl
+opens-by-request pair (Happening.Is_answered Dead) None s f g = refl
+opens-by-request pair (Happening.Is_answered how) (Some e) s f g = grind arith
+opens-by-request pair Happening.Is_cleared None s f g = refl
+opens-by-request pair Happening.Is_cleared (Some e) s f g = grind arith
 
 -- Where it opens, the receiver asked in the same round, and nothing was got yet: so nothing was taken.
 
@@ -275,12 +274,12 @@ module _ (s : End) (g : List Bool) (ro : Option End) (rp : Past) (p q : List Com
       go Receiver_ahead j = absurd (both_ways s.left l j.left)
 
 -- an end that opens had not, and is not left
-pub ask-opens : (pair : Pair) (of_size with_room own : ℕ) (full : Bool) (o : Option End) → opens o (happens pair (all.Asks_to_send of_size with_room own full) o).after ≡ true
+pub ask-opens : (pair : Pair) (of_size with_room own : ℕ) (full : Bool) (o : Option End) → opens o (happens pair (Happening.Asks_to_send of_size with_room own full) o).after ≡ true
     → ((or_new o).opened ≡ false) × ((or_new o).left ≡ false) × ((or_new o).heard ≡ true)
 ask-opens pair of_size with_room own full None e = (refl, refl, grind arith)
 ask-opens pair of_size with_room own full (Some x) e = (grind arith, grind arith, grind arith)
 
-pub request-opens : (pair : Pair) (on by_peer : ℕ) (taken : Bool) (o : Option End) → opens o (happens pair (all.Rts_comes on taken by_peer) o).after ≡ true
+pub request-opens : (pair : Pair) (on by_peer : ℕ) (taken : Bool) (o : Option End) → opens o (happens pair (Happening.Rts_comes on taken by_peer) o).after ≡ true
     → ((or_new o).opened ≡ false) × ((or_new o).left ≡ false)
 request-opens pair on by_peer taken None e = (refl, refl)
 request-opens pair on by_peer taken (Some x) e = (grind arith, grind arith)

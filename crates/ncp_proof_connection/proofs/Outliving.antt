@@ -12,11 +12,10 @@ use Rattle.ncp_model.specs.Pairs.{sends, turned}
 use Rattle.ncp_model.specs.End.{End, or_new, is_live, is_open}
 use Rattle.ncp_model.specs.Texts.{Answer, Rfnm, Incomplete, Dead}
 use Rattle.ncp_model.specs.Happenings.{Happening, happens}
-use Rattle.ncp_model.specs.Happenings as all
 use Rattle.ncp_proof_watch.specs.Histories.{Watched, no_past, opens, watches, IsBeginning}
 use Rattle.ncp_proof_watch.specs.Books.{BooksAt}
-use Rattle.ncp_proof_connection.specs.Connections.{Text, No_text, Away, Here, Connection, sender_does, receiver_does, is_call, command_comes, Event, Sender_calls, Receiver_calls, Comes_to_sender, Comes_to_receiver, Text_goes_out, Text_comes, Text_is_answered, sender_hears, receiver_hears, comes_to_sender, comes_to_receiver, text_comes, text_is_answered, occurs}
-use Rattle.ncp_proof_connection.specs.Ledger.{BothOpen, MessagesAgree, BitsAgree, Parted, Held, Begins}
+use Rattle.ncp_proof_connection.specs.Connections.{Text, No_text, Away, Here, Connection, sender_does, receiver_does, is_call, command_comes, ConnectionEvent, Sender_calls, Receiver_calls, Comes_to_sender, Comes_to_receiver, Text_goes_out, Text_comes, Text_is_answered, sender_hears, receiver_hears, comes_to_sender, comes_to_receiver, text_comes, text_is_answered, occurs}
+use Rattle.ncp_proof_connection.specs.Ledger.{BothOpenOnConnection, MessagesAgreeOnConnection, BitsAgreeOnConnection, PartedOnConnection, Held, BeginsOnConnection}
 use Rattle.ncp_proof_connection.specs.Clearings.{Hosted, new_hosted, text_dropped, text_over, is_at_sender, misses, Change, Occurs, Sender_is_cleared, Receiver_is_cleared, Starts_anew, starts_anew, changes, change_from, change, OutStaysOpened}
 use Rattle.ncp_proof_connection.proofs.SenderActs.{opens_none}
 use Rattle.ncp_proof_connection.proofs.Whole.{Inv, sender_calls_keep, receiver_calls_keep, comes_to_sender_keeps, comes_to_receiver_keeps, text_comes_keeps, text_is_answered_keeps, keeps, new_core, ever, both_open, what_was_held, what_begins, out_is_opened}
@@ -54,16 +53,16 @@ Fit pair false false w = Nobody w
 -- Clearings.
 
 -- a clearing leaves the histories
-given-stays : (pair : Pair) (o : Watched) → o.past.given ≡ (watches pair all.Is_cleared o).past.given
+given-stays : (pair : Pair) (o : Watched) → o.past.given ≡ (watches pair Happening.Is_cleared o).past.given
 given-stays pair o = rw (opens_none o.end) refl
 
-taken-stays : (pair : Pair) (o : Watched) → o.past.taken ≡ (watches pair all.Is_cleared o).past.taken
+taken-stays : (pair : Pair) (o : Watched) → o.past.taken ≡ (watches pair Happening.Is_cleared o).past.taken
 taken-stays pair o = rw (opens_none o.end) refl
 
-pub fit_clear_sender : (pair : Pair) (a b : Bool) (w : Connection) (p' lost : List Command) → p' ++ lost ≡ w.to_receiver → Fit pair a b w → Fit pair false b (record (sender_does pair all.Is_cleared w) { to_receiver = p' })
+pub fit_clear_sender : (pair : Pair) (a b : Bool) (w : Connection) (p' lost : List Command) → p' ++ lost ≡ w.to_receiver → Fit pair a b w → Fit pair false b (record (sender_does pair Happening.Is_cleared w) { to_receiver = p' })
 fit_clear_sender pair true true w p' lost e k = record { gone = refl; ghost = w.sender; given = kept; to_ghost = w.to_sender; lost = lost; inv = whole k }
   where
-    kept : w.sender.past.given ≡ (watches pair all.Is_cleared w.sender).past.given
+    kept : w.sender.past.given ≡ (watches pair Happening.Is_cleared w.sender).past.given
     kept = rw (opens_none w.sender.end) refl
 
     whole : Inv pair w → Inv pair (record w { to_receiver = p' ++ lost; violated = w.violated || false })
@@ -73,11 +72,11 @@ fit_clear_sender pair true false w p' lost e k = record {
   no_sender = refl;
   no_receiver = k.gone;
   safe = or_from w.violated false k.inv.local.safe refl;
-  begins = subst (λ (x : List Bool). IsBeginning x (watches pair all.Is_cleared w.sender).past.given) k.taken (subst (λ (x : List Bool). IsBeginning k.ghost.past.taken x) (given-stays pair w.sender) k.inv.moment.begins);
+  begins = subst (λ (x : List Bool). IsBeginning x (watches pair Happening.Is_cleared w.sender).past.given) k.taken (subst (λ (x : List Bool). IsBeginning k.ghost.past.taken x) (given-stays pair w.sender) k.inv.moment.begins);
 }
 fit_clear_sender pair false true w p' lost e k = record { gone = refl; ghost = k.ghost; given = k.given ∙ kept; to_ghost = k.to_ghost; lost = lost ++ k.lost; inv = whole k.inv }
   where
-    kept : w.sender.past.given ≡ (watches pair all.Is_cleared w.sender).past.given
+    kept : w.sender.past.given ≡ (watches pair Happening.Is_cleared w.sender).past.given
     kept = rw (opens_none w.sender.end) refl
 
     whole : Inv pair (record w { sender = k.ghost; to_sender = k.to_ghost; to_receiver = w.to_receiver ++ k.lost }) → Inv pair (record w { sender = k.ghost; to_sender = k.to_ghost; to_receiver = p' ++ (lost ++ k.lost); violated = w.violated || false })
@@ -90,7 +89,7 @@ fit_clear_sender pair false false w p' lost e k = record {
   begins = subst (λ (x : List Bool). IsBeginning w.receiver.past.taken x) (given-stays pair w.sender) k.begins;
 }
 
-pub fit_clear_receiver : (pair : Pair) (a b : Bool) (w : Connection) (q' lost : List Command) → q' ++ lost ≡ w.to_sender → Fit pair a b w → Fit pair a false (record (receiver_does pair all.Is_cleared w) { to_sender = q' })
+pub fit_clear_receiver : (pair : Pair) (a b : Bool) (w : Connection) (q' lost : List Command) → q' ++ lost ≡ w.to_sender → Fit pair a b w → Fit pair a false (record (receiver_does pair Happening.Is_cleared w) { to_sender = q' })
 fit_clear_receiver pair true true w q' lost e k = record { gone = refl; ghost = w.receiver; taken = taken-stays (turned pair) w.receiver; to_ghost = w.to_receiver; lost = lost; inv = whole k }
   where
     whole : Inv pair w → Inv pair (record w { to_sender = q' ++ lost; violated = w.violated || false })
@@ -155,7 +154,7 @@ module _ (pair : Pair) (sd : sends pair ≡ true) where
     gone = k.gone;
     ghost = k.ghost;
     taken = k.taken;
-    to_ghost = k.to_ghost ++ (happens pair (all.Is_answered Rfnm) w.sender.end).made;
+    to_ghost = k.to_ghost ++ (happens pair (Happening.Is_answered Rfnm) w.sender.end).made;
     lost = k.lost;
     inv = text_is_answered_keeps pair sd Rfnm (Here li) (record w { receiver = k.ghost; to_receiver = k.to_ghost; to_sender = w.to_sender ++ k.lost }) k.inv.local k.inv.moment k.inv.core;
   }
@@ -209,7 +208,7 @@ module _ (pair : Pair) (sd : sends pair ≡ true) where
     gone = k.gone;
     ghost = k.ghost;
     given = k.given;
-    to_ghost = k.to_ghost ++ (happens (turned pair) (all.Text_comes head n bits) w.receiver.end).made;
+    to_ghost = k.to_ghost ++ (happens (turned pair) (Happening.Text_comes head n bits) w.receiver.end).made;
     lost = k.lost;
     inv = text_comes_keeps pair sd head (Away li n bits) (record w { sender = k.ghost; to_sender = k.to_ghost; to_receiver = w.to_receiver ++ k.lost }) k.inv.local k.inv.moment k.inv.core;
   }
@@ -225,11 +224,11 @@ module _ (pair : Pair) (sd : sends pair ≡ true) where
     moment = k.moment;
   }
 
-  not_opened : (before : Option End) → opens before (happens pair (all.Is_answered Rfnm) before).after ≡ false
+  not_opened : (before : Option End) → opens before (happens pair (Happening.Is_answered Rfnm) before).after ≡ false
   not_opened None = refl
   not_opened (Some e) = grind arith
 
-  text_opens_not : (head : List Bool) (n : ℕ) (bits : List Bool) (before : Option End) → opens before (happens (turned pair) (all.Text_comes head n bits) before).after ≡ false
+  text_opens_not : (head : List Bool) (n : ℕ) (bits : List Bool) (before : Option End) → opens before (happens (turned pair) (Happening.Text_comes head n bits) before).after ≡ false
   text_opens_not head n bits None = refl
   text_opens_not head n bits (Some e) = grind arith
 
@@ -246,14 +245,14 @@ module _ (pair : Pair) (sd : sends pair ≡ true) where
   answer_missed Rfnm true No_text w k = k
   answer_missed Rfnm true (Away li n bits) w k = k
   answer_missed Rfnm true (Here li) w k =
-      let made : List Command = (happens pair (all.Is_answered Rfnm) k.ghost.end).made in
+      let made : List Command = (happens pair (Happening.Is_answered Rfnm) k.ghost.end).made in
       record {
         gone = k.gone;
-        ghost = watches pair (all.Is_answered Rfnm) k.ghost;
+        ghost = watches pair (Happening.Is_answered Rfnm) k.ghost;
         given = subst (λ (b : Bool). (if b then no_past else k.ghost.past).given ≡ w.sender.past.given) (sym (not_opened k.ghost.end)) k.given;
         to_ghost = k.to_ghost;
         lost = k.lost ++ made;
-        inv = subst (λ (x : List Command). Inv pair (record w { sender = watches pair (all.Is_answered Rfnm) k.ghost; to_sender = k.to_ghost; to_receiver = x; text = No_text })) (append_assoc w.to_receiver k.lost made)
+        inv = subst (λ (x : List Command). Inv pair (record w { sender = watches pair (Happening.Is_answered Rfnm) k.ghost; to_sender = k.to_ghost; to_receiver = x; text = No_text })) (append_assoc w.to_receiver k.lost made)
             (remarked _ w.violated k.inv.local.safe
             (text_is_answered_keeps pair sd Rfnm (Here li) (record w { sender = k.ghost; to_sender = k.to_ghost; to_receiver = w.to_receiver ++ k.lost }) k.inv.local k.inv.moment k.inv.core));
       }
@@ -268,14 +267,14 @@ module _ (pair : Pair) (sd : sends pair ≡ true) where
   text_missed head false t w k = record { no_sender = k.no_sender; no_receiver = k.no_receiver; safe = k.safe; begins = k.begins }
   text_missed head true No_text w k = k
   text_missed head true (Away li n bits) w k =
-      let made : List Command = (happens (turned pair) (all.Text_comes head n bits) k.ghost.end).made in
+      let made : List Command = (happens (turned pair) (Happening.Text_comes head n bits) k.ghost.end).made in
       record {
         gone = k.gone;
-        ghost = watches (turned pair) (all.Text_comes head n bits) k.ghost;
+        ghost = watches (turned pair) (Happening.Text_comes head n bits) k.ghost;
         taken = subst (λ (b : Bool). (if b then no_past else k.ghost.past).taken ≡ w.receiver.past.taken) (sym (text_opens_not head n bits k.ghost.end)) k.taken;
         to_ghost = k.to_ghost;
         lost = k.lost ++ made;
-        inv = subst (λ (x : List Command). Inv pair (record w { receiver = watches (turned pair) (all.Text_comes head n bits) k.ghost; to_receiver = k.to_ghost; to_sender = x; text = Here li })) (append_assoc w.to_sender k.lost made)
+        inv = subst (λ (x : List Command). Inv pair (record w { receiver = watches (turned pair) (Happening.Text_comes head n bits) k.ghost; to_receiver = k.to_ghost; to_sender = x; text = Here li })) (append_assoc w.to_sender k.lost made)
             (remarked _ w.violated k.inv.local.safe
             (text_comes_keeps pair sd head (Away li n bits) (record w { receiver = k.ghost; to_receiver = k.to_ghost; to_sender = w.to_sender ++ k.lost }) k.inv.local k.inv.moment k.inv.core));
       }
@@ -283,7 +282,7 @@ module _ (pair : Pair) (sd : sends pair ≡ true) where
 
   -- Every change.
 
-  fit_occurs : (e : Event) (a b : Bool) (w : Connection) → Fit pair a b w → Fit pair a b (if (if is_at_sender e then a else b) then occurs pair e w else misses e w)
+  fit_occurs : (e : ConnectionEvent) (a b : Bool) (w : Connection) → Fit pair a b w → Fit pair a b (if (if is_at_sender e then a else b) then occurs pair e w else misses e w)
   fit_occurs (Sender_calls what) false b w k = k
   fit_occurs (Sender_calls what) true b w k = go (is_call what) refl
     where
@@ -309,7 +308,7 @@ module _ (pair : Pair) (sd : sends pair ≡ true) where
       go true c = fit_comes_to_receiver n a w.to_receiver w c k
       go false c = k
   fit_occurs Text_goes_out false b w k = k
-  fit_occurs Text_goes_out true b w k = fit_sends all.Text_goes_out b w (λ u m. keeps pair sd Text_goes_out u m) k
+  fit_occurs Text_goes_out true b w k = fit_sends Happening.Text_goes_out b w (λ u m. keeps pair sd Text_goes_out u m) k
   fit_occurs (Text_comes head) a false w k = text_missed head a w.text w k
   fit_occurs (Text_comes head) a true w k = fit_text_comes head a w.text w k
   fit_occurs (Text_is_answered how) false b w k = answer_missed how b w.text w k
@@ -362,7 +361,7 @@ module _ (pair : Pair) (sd : sends pair ≡ true) where
   dead : (o : Option End) → o ≡ None → is_live o ≡ true → ⊥
   dead o e k = both_ways (is_live o) (rw e refl) k
 
-  pub fit_open : (a b : Bool) (w : Connection) → Fit pair a b w → BothOpen w → MessagesAgree w × BitsAgree w × Parted w
+  pub fit_open : (a b : Bool) (w : Connection) → Fit pair a b w → BothOpenOnConnection w → MessagesAgreeOnConnection w × BitsAgreeOnConnection w × PartedOnConnection w
   fit_open true true w k o = both_open pair sd w k o
   fit_open true false w k o = absurd (shut w.receiver.end k.gone o.1)
   fit_open false true w k o = absurd (shut w.sender.end k.gone o.0)
@@ -374,7 +373,7 @@ module _ (pair : Pair) (sd : sends pair ≡ true) where
   fit_held false true w k = what_was_held pair sd (record w { sender = k.ghost; to_sender = k.to_ghost; to_receiver = w.to_receiver ++ k.lost }) k.inv
   fit_held false false w k = λ v. absurd (dead w.receiver.end k.no_receiver v)
 
-  pub fit_begins : (a b : Bool) (w : Connection) → Fit pair a b w → Begins w
+  pub fit_begins : (a b : Bool) (w : Connection) → Fit pair a b w → BeginsOnConnection w
   fit_begins true true w k = what_begins pair sd w k
   fit_begins true false w k = λ v. absurd (dead w.receiver.end k.gone v)
   fit_begins false true w k = λ v. (let m = what_begins pair sd (record w { sender = k.ghost; to_sender = k.to_ghost; to_receiver = w.to_receiver ++ k.lost }) k.inv v in (m.0, m.1 ∙ k.given))

@@ -8,8 +8,7 @@ use Rattle.ncp_terms.specs.declared.command.Command.TheVariants.{Rts, Str, Cls, 
 use Rattle.ncp_model.specs.declared.pair.Pair.{Pair}
 use Rattle.ncp_model.specs.declared.call_fault.CallFault.{CallFault}
 use Rattle.ncp_model.specs.declared.outcomes.Heard.{Heard}
-use Rattle.ncp_model.specs.declared.outcomes.Heard.TheVariants as heard
-use Rattle.ncp_model.specs.declared.outcomes.Took.TheVariants as took
+use Rattle.ncp_model.specs.declared.outcomes.Took.{Took}
 use Rattle.ncp_model.specs.declared.limits.TheConstants.{MAX_OWN, MAX_BY_PEER, MAX_COUNT}
 use Rattle.ncp_model.specs.Pairs.{sends, receives, is_proper}
 use Rattle.ncp_model.specs.End.{End, new_end, or_new, is_going, is_over, is_live}
@@ -17,8 +16,7 @@ use Rattle.ncp_model.specs.Act.{Act, Stays, Becomes, answer, end_after, made_by_
 use Rattle.ncp_model.specs.Calls.{ask_send, ask_receive, asked_to_receive, close, give, take_held, bits_to_take, emptied, allocate, call_back, interrupt, interrupting, is_too_much}
 use Rattle.ncp_model.specs.Commands.{hear_str, hear_cls, hear_cls_end, hear_ret, hear_ins, at_open, ret_at, interrupted}
 use Rattle.ncp_model.specs.Texts.{hear_text, made_by_text}
-use Rattle.ncp_model.specs.Happenings.{Happening, Outcome, of_call, of_take, of_hearing, of_text, is_violation}
-use Rattle.ncp_model.specs.Happenings as all
+use Rattle.ncp_model.specs.Happenings.{Happening, Outcome, outcome_of_call, of_take, of_hearing, outcome_of_text, is_violation}
 use Rattle.ncp_proof_watch.specs.Histories.{Past, no_past, adds, opens}
 use Rattle.ncp_proof_connection.specs.Connections.{Text, Away, Here}
 use Rattle.ncp_proof_connection.proofs.Lines.{Data}
@@ -110,18 +108,18 @@ only_receives pair e = grind arith
 not_over : (e : End) → is_going e ≡ false → is_over e ≡ false
 not_over e v = and_left e.left e.cls (or_parts e.leaving e.left v).1
 
-refused : {what : Happening} {before : Option End} {past : Past} {s : End} {g : List Bool} {p q : List Command} {t : Text} {f : CallFault} → ((x : Past) → (adds what (all.Refused f) x).got ≡ x.got)
-    → Core s g (or_new before) (live_got before past) p q t → Keeps what before past s g p q t made_by_call of_call (Stays (Err f))
+refused : {what : Happening} {before : Option End} {past : Past} {s : End} {g : List Bool} {p q : List Command} {t : Text} {f : CallFault} → ((x : Past) → (adds what (Outcome.Refused f) x).got ≡ x.got)
+    → Core s g (or_new before) (live_got before past) p q t → Keeps what before past s g p q t made_by_call outcome_of_call (Stays (Err f))
 refused {f = f} y k = stays (Err f) refl refl y k
 
 module _ (pair : Pair) (rd : receives pair ≡ true) (past : Past) (s : End) (g : List Bool) (p q : List Command) (t : Text) (fs : Firm s) where
   pub rk-ask_send : (of_size with_room own : ℕ) (full : Bool) (before : Option End) → Core s g (or_new before) (live_got before past) p q t
-      → Keeps (all.Asks_to_send of_size with_room own full) before past s g p q t made_by_call of_call (ask_send pair of_size with_room own full before)
+      → Keeps (Happening.Asks_to_send of_size with_room own full) before past s g p q t made_by_call outcome_of_call (ask_send pair of_size with_room own full before)
   rk-ask_send of_size with_room own full before k =
       choose (not (sends pair)) (λ _. refused (λ _. refl) k) (λ e. absurd (both_ways (sends pair) (only_receives pair rd) (not-false (sends pair) e)))
 
   pub rk-ask_receive : (with_room on own : ℕ) (full : Bool) (before : Option End) → is_data_link on ≡ true → Firm (or_new before) → Core s g (or_new before) (live_got before past) p q t
-      → Keeps (all.Asks_to_receive with_room on own full) before past s g p q t made_by_call of_call (ask_receive pair with_room on own full before)
+      → Keeps (Happening.Asks_to_receive with_room on own full) before past s g p q t made_by_call outcome_of_call (ask_receive pair with_room on own full before)
   rk-ask_receive with_room on own full before d fr k =
       choose (not (receives pair)) (λ _. refused (λ _. refl) k) (λ _.
       choose (not (is_room with_room)) (λ _. refused (λ _. refl) k) (λ _.
@@ -135,7 +133,7 @@ module _ (pair : Pair) (rd : receives pair ≡ true) (past : Past) (s : End) (g 
       (r_asks s g (or_new before) (live_got before past) p q t fs fr on with_room pair.local pair.remote none v d k)))))))
 
   pub rk-close : (full : Bool) (before : Option End) → Firm (or_new before) → stands before ≡ true → Core s g (or_new before) (live_got before past) p q t
-      → Keeps (all.Closes full) before past s g p q t made_by_close of_call (close pair full before)
+      → Keeps (Happening.Closes full) before past s g p q t made_by_close outcome_of_call (close pair full before)
   rk-close full None fr st k = stays _ refl refl (λ _. refl) k
   rk-close full (Some e) fr st k =
       choose (e.left || (e.leaving && sends pair)) (λ _. stays _ refl refl (λ _. refl) k) (λ c.
@@ -147,7 +145,7 @@ module _ (pair : Pair) (rd : receives pair ≡ true) (past : Past) (s : End) (g 
       (λ o. r_leaves s g e (live_got (Some e) past) p q t fs fr pair.local pair.remote l (and_parts (e.asked || e.heard) (nat_le e.room 65536) st).0 k))))
 
   pub rk-give : (text : List Bool) (before : Option End) → Core s g (or_new before) (live_got before past) p q t
-      → Keeps (all.Gives text) before past s g p q t (λ _. []) of_call (give pair text before)
+      → Keeps (Happening.Gives text) before past s g p q t (λ _. []) outcome_of_call (give pair text before)
   rk-give text None k = stays _ refl refl (λ _. refl) k
   rk-give text (Some e) k =
       choose (is_going e) (λ _. stays _ refl refl (λ _. refl) k) (λ v.
@@ -155,7 +153,7 @@ module _ (pair : Pair) (rd : receives pair ≡ true) (past : Past) (s : End) (g 
       choose (not (sends pair)) (λ _. stays _ refl refl (λ _. refl) k) (λ x. absurd (both_ways (sends pair) (only_receives pair rd) (not-false (sends pair) x)))))
 
   pub rk-take : (bytes : ℕ) (before : Option End) → Firm (or_new before) → Core s g (or_new before) (live_got before past) p q t
-      → Keeps (all.Takes bytes) before past s g p q t made_by_take of_take (take_held pair bytes before)
+      → Keeps (Happening.Takes bytes) before past s g p q t made_by_take of_take (take_held pair bytes before)
   rk-take bytes None fr k = stays _ refl refl (λ _. refl) k
   rk-take bytes (Some e) fr k =
       choose e.left (λ _. stays _ refl refl (λ _. refl) k) (λ l.
@@ -172,7 +170,7 @@ module _ (pair : Pair) (rd : receives pair ≡ true) (past : Past) (s : End) (g 
       (λ v. becomes e2 (Ok (take n e.stored, None)) refl (and_left e.left e.cls l) (λ x. x) (λ _. refl) (rw (append-nil q) k2)))))
 
   pub rk-allocate : (m b : ℕ) (full : Bool) (before : Option End) → Firm (or_new before) → Core s g (or_new before) (live_got before past) p q t
-      → Keeps (all.Allocates m b full) before past s g p q t made_by_call of_call (allocate pair m b full before)
+      → Keeps (Happening.Allocates m b full) before past s g p q t made_by_call outcome_of_call (allocate pair m b full before)
   rk-allocate m b full None fr k = refused (λ _. refl) k
   rk-allocate m b full (Some e) fr k =
       choose (is_going e) (λ _. refused (λ _. refl) k) (λ v.
@@ -187,7 +185,7 @@ module _ (pair : Pair) (rd : receives pair ≡ true) (past : Past) (s : End) (g 
       becomes _ _ refl (not_over e v) (λ x. x) (λ _. refl) (r_allocates s g e (live_got (Some e) past) p q t fs fr e.link m b refl v f.0 f.1 lm lb k))))))
 
   pub rk-call_back : (m b : ℕ) (full : Bool) (before : Option End) → Firm (or_new before) → Core s g (or_new before) (live_got before past) p q t
-      → Keeps (all.Calls_back m b full) before past s g p q t made_by_call of_call (call_back pair m b full before)
+      → Keeps (Happening.Calls_back m b full) before past s g p q t made_by_call outcome_of_call (call_back pair m b full before)
   rk-call_back m b full None fr k = refused (λ _. refl) k
   rk-call_back m b full (Some e) fr k =
       choose (is_going e) (λ _. refused (λ _. refl) k) (λ v.
@@ -200,7 +198,7 @@ module _ (pair : Pair) (rd : receives pair ≡ true) (past : Past) (s : End) (g 
       (r_makes s g e (live_got (Some e) past) p q t fs fr (Gvb e.link m b) (record e { recall = true }) e.link refl refl refl refl v f.0 f.1 refl refl refl refl refl k))))))
 
   pub rk-interrupt : (full : Bool) (before : Option End) → Firm (or_new before) → Core s g (or_new before) (live_got before past) p q t
-      → Keeps (all.Interrupts full) before past s g p q t made_by_call of_call (interrupt pair full before)
+      → Keeps (Happening.Interrupts full) before past s g p q t made_by_call outcome_of_call (interrupt pair full before)
   rk-interrupt full None fr k = refused (λ _. refl) k
   rk-interrupt full (Some e) fr k =
       choose (is_going e) (λ _. refused (λ _. refl) k) (λ v.
@@ -213,7 +211,7 @@ module _ (pair : Pair) (rd : receives pair ≡ true) (past : Past) (s : End) (g 
   -- What comes.
 
   pub rk-str : (i j n by_peer : ℕ) (before : Option End) → nat_lt by_peer MAX_BY_PEER ≡ true → Firm (or_new before) → Core s g (or_new before) (live_got before past) (Str i j n ∷ p) q t
-      → Keeps (all.Str_comes n by_peer) before past s g p q t made_by_hearing of_hearing (hear_str pair n by_peer before)
+      → Keeps (Happening.Str_comes n by_peer) before past s g p q t made_by_hearing of_hearing (hear_str pair n by_peer before)
   rk-str i j n by_peer before few fr k =
       let u = r_unheard s g (or_new before) (live_got before past) p q t fs fr i j n k in
       let o = unheard (or_new before) fr u.0 in
@@ -221,7 +219,7 @@ module _ (pair : Pair) (rd : receives pair ≡ true) (past : Past) (s : End) (g 
       (λ c. absurd (both_ways (not (receives pair) || n == 0 || (or_new before).heard) (let x = u.0 in let y = u.1 in grind arith) c)) (λ _.
       choose (is_none before && nat_le MAX_BY_PEER by_peer)
       (λ c. absurd (both_ways (nat_le MAX_BY_PEER by_peer) (grind arith) (and_parts (is_none before) (nat_le MAX_BY_PEER by_peer) c).1)) (λ _.
-      becomes (met (record (or_new before) { heard = true; size = n })) heard.Nothing refl (str_over (or_new before) fr) (λ x. absurd (both_ways (or_new before).opened o x)) (λ _. refl)
+      becomes (met (record (or_new before) { heard = true; size = n })) Heard.Nothing refl (str_over (or_new before) fr) (λ x. absurd (both_ways (or_new before).opened o x)) (λ _. refl)
       (rw (append-nil q) (r_hears s g (or_new before) (live_got before past) p q t fs fr i j n k))))
     where
       str_over : (e : End) → Firm e → is_over e ≡ false
@@ -232,27 +230,27 @@ module _ (pair : Pair) (rd : receives pair ≡ true) (past : Past) (s : End) (g 
           go false c = grind arith
 
   pub rk-cls_end : (i j : ℕ) (e : End) → Firm e → Core s g e (live_got (Some e) past) (Cls i j ∷ p) q t
-      → Keeps all.Cls_comes (Some e) past s g p q t made_by_hearing of_hearing (hear_cls_end pair e)
+      → Keeps Happening.Cls_comes (Some e) past s g p q t made_by_hearing of_hearing (hear_cls_end pair e)
   rk-cls_end i j e fr k =
       let h = live_got (Some e) past in
       let u = r_close_fits s g e h p q t fs fr i j k in
       choose e.cls (λ c. absurd (both_ways e.cls u.0 c)) (λ _.
       choose (e.left || e.leaving) (λ c.
-      closes (record e { cls = true }) heard.Nothing refl (λ x. x) (λ _. refl)
+      closes (record e { cls = true }) Heard.Nothing refl (λ x. x) (λ _. refl)
       (λ o. rw (append-nil q) (r_ended s g e h p q t fs fr i j (and_parts e.left true o).0 k))
       (λ o. let l : e.left ≡ false = grind arith in
       rw (append-nil q) (r_shut s g e h p q t fs fr i j (record e { cls = true }) l refl (grind arith) refl k))) (λ c.
       let l = or_parts e.left e.leaving c in
       choose (sends pair && e.busy) (λ b. absurd (both_ways (sends pair) (only_receives pair rd) (and_parts (sends pair) e.busy b).0)) (λ _.
       choose (receives pair && nat_lt 0 (length e.stored)) (λ _.
-      becomes (record e { cls = true; leaving = true }) heard.Nothing refl (and_left e.left true l.0) (λ x. x) (λ _. refl)
+      becomes (record e { cls = true; leaving = true }) Heard.Nothing refl (and_left e.left true l.0) (λ x. x) (λ _. refl)
       (rw (append-nil q) (r_shut s g e h p q t fs fr i j (record e { cls = true; leaving = true }) l.0 refl refl refl k))) (λ _.
-      closes (leaves (record e { cls = true })) (heard.Reply (closing pair)) refl (λ x. x) (λ _. refl)
+      closes (leaves (record e { cls = true })) (Heard.Reply (closing pair)) refl (λ x. x) (λ _. refl)
       (λ o. r_replies s g e h p q t fs fr i j pair.local pair.remote l.0 k)
       (λ o. absurd (both_ways true o refl))))))
 
   pub rk-cls : (i j : ℕ) (before : Option End) → Firm (or_new before) → Core s g (or_new before) (live_got before past) (Cls i j ∷ p) q t
-      → Keeps all.Cls_comes before past s g p q t made_by_hearing of_hearing (hear_cls pair before)
+      → Keeps Happening.Cls_comes before past s g p q t made_by_hearing of_hearing (hear_cls pair before)
   rk-cls i j None fr k = absurd (both_ways false refl (r_close_fits s g new_end [] p q t fs fr i j k).1)
   rk-cls i j (Some e) fr k = choose (not (is_proper pair)) (λ c. absurd (both_ways (is_proper pair) (not-true (is_proper pair) c) (grind arith))) (λ _. rk-cls_end i j e fr k)
 
@@ -261,27 +259,27 @@ module _ (pair : Pair) (rd : receives pair ≡ true) (past : Past) (s : End) (g 
       → Core s g (or_new before) (live_got before past) (c ∷ p) q t → Keeps what before past s g p q t made_by_hearing of_hearing (at_open c act before)
   rk-open what c on act None d y fr f k = absurd (both_ways false refl (r_there s g new_end [] p q t fs fr c on d k).0)
   rk-open what c on act (Some e) d y fr f k =
-      choose (is_going e) (λ v. stays _ refl refl (y all.Late) (r_late s g e (live_got (Some e) past) p q t fs fr c on d v k)) (λ v.
+      choose (is_going e) (λ v. stays _ refl refl (y Outcome.Late) (r_late s g e (live_got (Some e) past) p q t fs fr c on d v k)) (λ v.
       choose (not e.opened) (λ o. absurd (both_ways e.opened (not-true e.opened o) (r_fits s g e (live_got (Some e) past) p q t fs fr c on d v k).opened)) (λ _. f e v fr k))
 
   pub rk-ret : (on m b : ℕ) (before : Option End) → Firm (or_new before) → Core s g (or_new before) (live_got before past) (Ret on m b ∷ p) q t
-      → Keeps (all.Ret_comes on m b) before past s g p q t made_by_hearing of_hearing (hear_ret on m b before)
-  rk-ret on m b before fr k = rk-open (all.Ret_comes on m b) (Ret on m b) on (ret_at on m b) before refl (λ _ _. refl) fr
+      → Keeps (Happening.Ret_comes on m b) before past s g p q t made_by_hearing of_hearing (hear_ret on m b before)
+  rk-ret on m b before fr k = rk-open (Happening.Ret_comes on m b) (Ret on m b) on (ret_at on m b) before refl (λ _ _. refl) fr
       (λ e v fr k. let w = r_enough s g e (live_got (Some e) past) p q t fs fr on m b v k in
       let w0 = w.0 in let w1 = w.1 in
       choose (nat_lt e.messages m || nat_lt e.bits b) (λ c. absurd (both_ways (nat_lt e.messages m || nat_lt e.bits b) (grind arith) c)) (λ _.
-      becomes (record e { messages = e.messages - m; bits = e.bits - b; recall = false }) heard.Nothing refl (not_over e v) (λ x. x) (λ _. refl) (rw (append-nil q) (r_ret s g e (live_got (Some e) past) p q t fs fr on m b v k)))) k
+      becomes (record e { messages = e.messages - m; bits = e.bits - b; recall = false }) Heard.Nothing refl (not_over e v) (λ x. x) (λ _. refl) (rw (append-nil q) (r_ret s g e (live_got (Some e) past) p q t fs fr on m b v k)))) k
 
   pub rk-ins : (on : ℕ) (before : Option End) → Firm (or_new before) → Core s g (or_new before) (live_got before past) (Ins on ∷ p) q t
-      → Keeps (all.Ins_comes on) before past s g p q t made_by_hearing of_hearing (hear_ins on before)
-  rk-ins on before fr k = rk-open (all.Ins_comes on) (Ins on) on interrupted before refl (λ _ _. refl) fr
-      (λ e v fr k. becomes (record e { interrupts = min (e.interrupts + 1) MAX_COUNT }) heard.Nothing refl (not_over e v) (λ x. x) (λ _. refl) (rw (append-nil q) (r_ins s g e (live_got (Some e) past) p q t fs fr on v k))) k
+      → Keeps (Happening.Ins_comes on) before past s g p q t made_by_hearing of_hearing (hear_ins on before)
+  rk-ins on before fr k = rk-open (Happening.Ins_comes on) (Ins on) on interrupted before refl (λ _ _. refl) fr
+      (λ e v fr k. becomes (record e { interrupts = min (e.interrupts + 1) MAX_COUNT }) Heard.Nothing refl (not_over e v) (λ x. x) (λ _. refl) (rw (append-nil q) (r_ins s g e (live_got (Some e) past) p q t fs fr on v k))) k
 
 -- A text comes.
 
 module _ (pair : Pair) (rd : receives pair ≡ true) (past : Past) (s : End) (g : List Bool) (p q : List Command) (fs : Firm s) (head : List Bool) (li n : ℕ) (bits : List Bool) where
   pub rk-text : (before : Option End) → Firm (or_new before) → Core s g (or_new before) (live_got before past) p q (Away li n bits)
-      → Keeps (all.Text_comes head n bits) before past s g p q (Here li) (made_by_text head bits) of_text (hear_text n bits before)
+      → Keeps (Happening.Text_comes head n bits) before past s g p q (Here li) (made_by_text head bits) outcome_of_text (hear_text n bits before)
   rk-text None fr k = absurd (both_ways false refl (text_opened s g new_end [] p q fs fr li n bits k))
   rk-text (Some e) fr k =
       choose (is_going e) (λ v. stays _ refl refl (λ x. append-nil x.got) (text_late s g e (live_got (Some e) past) p q fs fr li n bits v k)) (λ v.
@@ -291,4 +289,4 @@ module _ (pair : Pair) (rd : receives pair ≡ true) (past : Past) (s : End) (g 
       let w0 = w.0 in let w1 = w.1 in let w2 = w.2 in
       choose (not (n == e.size)) (λ c. absurd (both_ways (not (n == e.size)) (grind arith) c)) (λ _.
       choose (e.messages == 0 || nat_lt e.bits (length bits)) (λ c. absurd (both_ways (e.messages == 0 || nat_lt e.bits (length bits)) (grind arith) c)) (λ _.
-      admits (record e { messages = e.messages - 1; bits = e.bits - length bits; stored = e.stored ++ bits }) took.Admitted bits refl (not_over e v) o o (λ _. refl) (rw (append-nil q) (text_admitted s g e (live_got (Some e) past) p q fs fr li n bits v k))))))
+      admits (record e { messages = e.messages - 1; bits = e.bits - length bits; stored = e.stored ++ bits }) Took.Admitted bits refl (not_over e v) o o (λ _. refl) (rw (append-nil q) (text_admitted s g e (live_got (Some e) past) p q fs fr li n bits v k))))))

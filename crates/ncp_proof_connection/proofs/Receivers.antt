@@ -11,7 +11,7 @@ use Rattle.ncp_model.specs.Act.{met, leaves, is_data_link}
 use Rattle.ncp_model.specs.Calls.{asked_to_receive}
 use Rattle.ncp_model.specs.End.{End, new_end, is_going}
 use Rattle.ncp_proof_connection.specs.Connections.{Text, Away, Here}
-use Rattle.ncp_proof_connection.specs.Ledger.{sum_of, is_out}
+use Rattle.ncp_proof_connection.specs.Ledger.{sum_of, is_text_out}
 use Rattle.ncp_proof_connection.proofs.Lines.{Kind, Request, Close, Data, Marks, Same, Ahead, Comes, same_swap, same_asks, ahead_asks, same_leaves, ahead_leaves, same_ends, same_data, same_number, same_hears_request, behind_hears_request, same_close_fits, same_hears_close, same_left_ends, same_replies, behind_ends, same_data_fits}
 use Rattle.ncp_proof_connection.proofs.Joint.{to_sender_kind, to_receiver_kind, kinds, kinds_more, sum_more, sum_same, sender_marks, receiver_marks, Books, Place, Together, Sender_ahead, Receiver_ahead, Joint, Sized, Core, Firm, sender_well, receiver_well, no_text, unasked, unheard, begun_empty}
 use Rattle.ncp_proof_connection.proofs.Numbers.{books_as, books_receiver, books_receiver_going, books_new}
@@ -113,7 +113,7 @@ module _ (s : End) (g : List Bool) (r : End) (h : List Bool) (p q : List Command
       joint Receiver_ahead k2 = rw (kinds_more to_sender_kind q (Cls i j ∷ [])) (ahead_leaves (receiver_marks r) (sender_marks s) (kinds to_sender_kind q) (kinds to_receiver_kind p) l e k2)
 
   -- no receiver, and nothing got
-  gone : (d : Place) (p' q' : List Command) → s.busy ≡ is_out t → Sized s.size s.link t → Joint d s g new_end [] p' q' t → Core s g new_end [] p' q' t
+  gone : (d : Place) (p' q' : List Command) → s.busy ≡ is_text_out t → Sized s.size s.link t → Joint d s g new_end [] p' q' t → Core s g new_end [] p' q' t
   gone d p' q' out z k2 = record { out = out; sized = z; begun = begun_empty g; dead = λ e. refl; place = d; joint = k2 }
 
   -- and a CLS had come: the end is there no more

@@ -9,18 +9,16 @@ use Rattle.ncp_terms.specs.declared.command.Command.TheVariants.{Rts, Cls, All, 
 use Rattle.ncp_model.specs.declared.pair.Pair.{Pair}
 use Rattle.ncp_model.specs.declared.call_fault.CallFault.{CallFault}
 use Rattle.ncp_model.specs.declared.outcomes.Heard.{Heard}
-use Rattle.ncp_model.specs.declared.outcomes.Heard.TheVariants as heard
 use Rattle.ncp_model.specs.declared.limits.TheConstants.{MAX_OWN, MAX_BY_PEER, MAX_MESSAGES, MAX_AMOUNT, MAX_TEXT, MAX_COUNT}
 use Rattle.ncp_model.specs.Pairs.{sends, receives, is_proper}
 use Rattle.ncp_model.specs.End.{End, new_end, or_new, is_going, is_over}
 use Rattle.ncp_model.specs.Act.{Act, Stays, Becomes, answer, end_after, made_by_call, made_by_close, made_by_take, made_by_hearing, made_if_any, met, leaves, closing, is_room, is_data_link}
 use Rattle.ncp_model.specs.Calls.{ask_send, ask_receive, close, give, take_held, allocate, call_back, interrupt, interrupting}
 use Rattle.ncp_model.specs.Commands.{hear_rts, hear_cls, hear_cls_end, hear_all, hear_gvb, hear_inr, at_open, all_at, gvb_at, interrupted}
-use Rattle.ncp_model.specs.Texts.{cut, may_send, bytes_to_send, Answer, answered, Rfnm}
-use Rattle.ncp_model.specs.Happenings.{Happening, Outcome, of_call, of_take, of_hearing, of_cut, is_violation}
-use Rattle.ncp_model.specs.Happenings as all
+use Rattle.ncp_model.specs.Texts.{cut, may_send, bytes_to_send, Answer, end_answered, Rfnm}
+use Rattle.ncp_model.specs.Happenings.{Happening, Outcome, outcome_of_call, of_take, of_hearing, of_cut, is_violation}
 use Rattle.ncp_proof_watch.specs.Histories.{Past, no_past, adds, opens}
-use Rattle.ncp_proof_connection.specs.Connections.{Text, No_text, Here, text_after}
+use Rattle.ncp_proof_connection.specs.Connections.{Text, No_text, Here, text_after_outcome}
 use Rattle.ncp_proof_connection.proofs.Lines.{Data}
 use Rattle.ncp_proof_connection.proofs.Joint.{to_sender_kind, Core, Firm, unasked, unheard}
 use Rattle.ncp_proof_connection.proofs.Standing.{stands}
@@ -53,7 +51,7 @@ opens_again (Some x) = opens_same (Some x) x refl
 -- after an act at the sender's end
 pub record Keeps {A : Type 0} (what : Happening) (before : Option End) (past : Past) (r : End) (h : List Bool) (p q : List Command) (t : Text) (made_by : A → List Command) (of : A → Outcome) (act : Act A) : Type 0 where
   pub fine : is_violation (of (answer act)) ≡ false
-  pub core : Core (or_new (end_after before act)) (adds what (of (answer act)) (if opens before (end_after before act) then no_past else past)).given r h (p ++ made_by (answer act)) q (text_after (or_new before).link (of (answer act)) t)
+  pub core : Core (or_new (end_after before act)) (adds what (of (answer act)) (if opens before (end_after before act) then no_past else past)).given r h (p ++ made_by (answer act)) q (text_after_outcome (or_new before).link (of (answer act)) t)
 
 -- nothing is made
 quiet : {A : Type 0} (r : End) (h : List Bool) (p q : List Command) (made_by : A → List Command) (e : End) (g : List Bool) (a : A) (u : Text) → made_by a ≡ [] → Core e g r h p q u → Core e g r h (p ++ made_by a) q u
@@ -64,47 +62,47 @@ module _ {A : Type 0} {what : Happening} {before : Option End} {past : Past} {r 
   choose true k m = k refl
   choose false k m = m refl
 
-  stays : (a : A) → is_violation (of a) ≡ false → made_by a ≡ [] → text_after (or_new before).link (of a) t ≡ t → ((x : Past) → (adds what (of a) x).given ≡ x.given) → Core (or_new before) past.given r h p q t
+  stays : (a : A) → is_violation (of a) ≡ false → made_by a ≡ [] → text_after_outcome (or_new before).link (of a) t ≡ t → ((x : Past) → (adds what (of a) x).given ≡ x.given) → Core (or_new before) past.given r h p q t
       → Keeps what before past r h p q t made_by of (Stays a)
   stays a f m u g k = record {
     fine = f;
-    core = quiet r h p q made_by (or_new before) (adds what (of a) (if opens before before then no_past else past)).given a (text_after (or_new before).link (of a) t) m
+    core = quiet r h p q made_by (or_new before) (adds what (of a) (if opens before before then no_past else past)).given a (text_after_outcome (or_new before).link (of a) t) m
         (subst (λ (x : Text). Core (or_new before) (adds what (of a) (if opens before before then no_past else past)).given r h p q x) (sym u)
         (subst (λ (b : Bool). Core (or_new before) (adds what (of a) (if b then no_past else past)).given r h p q t) (sym (opens_again before))
         (subst (λ (x : List Bool). Core (or_new before) x r h p q t) (sym (g past)) k)));
   }
 
   -- the end stays as open as it was
-  becomes : (e : End) (a : A) → is_violation (of a) ≡ false → is_over e ≡ false → e.opened ≡ (or_new before).opened → Core e (adds what (of a) past).given r h (p ++ made_by a) q (text_after (or_new before).link (of a) t)
+  becomes : (e : End) (a : A) → is_violation (of a) ≡ false → is_over e ≡ false → e.opened ≡ (or_new before).opened → Core e (adds what (of a) past).given r h (p ++ made_by a) q (text_after_outcome (or_new before).link (of a) t)
       → Keeps what before past r h p q t made_by of (Becomes e a)
   becomes e a f o w k = record {
     fine = f;
-    core = subst (λ (x : Option End). Core (or_new x) (adds what (of a) (if opens before x then no_past else past)).given r h (p ++ made_by a) q (text_after (or_new before).link (of a) t)) (sym (ap (λ (b : Bool). cond b None (Some e)) o))
-        (subst (λ (b : Bool). Core e (adds what (of a) (if b then no_past else past)).given r h (p ++ made_by a) q (text_after (or_new before).link (of a) t)) (sym (opens_same before e w)) k);
+    core = subst (λ (x : Option End). Core (or_new x) (adds what (of a) (if opens before x then no_past else past)).given r h (p ++ made_by a) q (text_after_outcome (or_new before).link (of a) t)) (sym (ap (λ (b : Bool). cond b None (Some e)) o))
+        (subst (λ (b : Bool). Core e (adds what (of a) (if b then no_past else past)).given r h (p ++ made_by a) q (text_after_outcome (or_new before).link (of a) t)) (sym (opens_same before e w)) k);
   }
 
   -- it is a CLS that is made, or one that came: the end may be over
   closes : (e : End) (a : A) → is_violation (of a) ≡ false → e.opened ≡ (or_new before).opened
-      → (is_over e ≡ true → Core new_end (adds what (of a) past).given r h (p ++ made_by a) q (text_after (or_new before).link (of a) t))
-      → (is_over e ≡ false → Core e (adds what (of a) past).given r h (p ++ made_by a) q (text_after (or_new before).link (of a) t))
+      → (is_over e ≡ true → Core new_end (adds what (of a) past).given r h (p ++ made_by a) q (text_after_outcome (or_new before).link (of a) t))
+      → (is_over e ≡ false → Core e (adds what (of a) past).given r h (p ++ made_by a) q (text_after_outcome (or_new before).link (of a) t))
       → Keeps what before past r h p q t made_by of (Becomes e a)
   closes e a f w k m = go (is_over e) refl
     where
       go : (b : Bool) → is_over e ≡ b → Keeps what before past r h p q t made_by of (Becomes e a)
       go true o = record {
         fine = f;
-        core = subst (λ (x : Option End). Core (or_new x) (adds what (of a) (if opens before x then no_past else past)).given r h (p ++ made_by a) q (text_after (or_new before).link (of a) t)) (sym (ap (λ (b : Bool). cond b None (Some e)) o))
-            (subst (λ (b : Bool). Core new_end (adds what (of a) (if b then no_past else past)).given r h (p ++ made_by a) q (text_after (or_new before).link (of a) t)) (sym (opens_none before)) (k o));
+        core = subst (λ (x : Option End). Core (or_new x) (adds what (of a) (if opens before x then no_past else past)).given r h (p ++ made_by a) q (text_after_outcome (or_new before).link (of a) t)) (sym (ap (λ (b : Bool). cond b None (Some e)) o))
+            (subst (λ (b : Bool). Core new_end (adds what (of a) (if b then no_past else past)).given r h (p ++ made_by a) q (text_after_outcome (or_new before).link (of a) t)) (sym (opens_none before)) (k o));
       }
       go false o = becomes e a f o w (m o)
 
   -- the end may open
   begins : (e : End) (a : A) → is_violation (of a) ≡ false → is_over e ≡ false → (or_new before).opened ≡ false → ((x : Past) → (adds what (of a) x).given ≡ x.given)
-      → ((g : List Bool) → (e.opened ≡ true → g ≡ []) → (e.opened ≡ false → g ≡ past.given) → Core e g r h (p ++ made_by a) q (text_after (or_new before).link (of a) t))
+      → ((g : List Bool) → (e.opened ≡ true → g ≡ []) → (e.opened ≡ false → g ≡ past.given) → Core e g r h (p ++ made_by a) q (text_after_outcome (or_new before).link (of a) t))
       → Keeps what before past r h p q t made_by of (Becomes e a)
   begins e a f o w g k = record {
     fine = f;
-    core = subst (λ (x : Option End). Core (or_new x) (adds what (of a) (if opens before x then no_past else past)).given r h (p ++ made_by a) q (text_after (or_new before).link (of a) t)) (sym (ap (λ (b : Bool). cond b None (Some e)) o))
+    core = subst (λ (x : Option End). Core (or_new x) (adds what (of a) (if opens before x then no_past else past)).given r h (p ++ made_by a) q (text_after_outcome (or_new before).link (of a) t)) (sym (ap (λ (b : Bool). cond b None (Some e)) o))
         (k (adds what (of a) (if opens before (Some e) then no_past else past)).given (λ x. again ∙ go e.opened x (opens_new before e w)) (λ x. again ∙ went (opens_new before e w ∙ x)));
   }
     where
@@ -124,13 +122,13 @@ not_over : (e : End) → is_going e ≡ false → is_over e ≡ false
 not_over e v = and_left e.left e.cls (or_parts e.leaving e.left v).1
 
 -- a call that is refused, and whatever has no effect
-refused : {what : Happening} {before : Option End} {past : Past} {r : End} {h : List Bool} {p q : List Command} {t : Text} {f : CallFault} → ((x : Past) → (adds what (all.Refused f) x).given ≡ x.given)
-    → Core (or_new before) past.given r h p q t → Keeps what before past r h p q t made_by_call of_call (Stays (Err f))
+refused : {what : Happening} {before : Option End} {past : Past} {r : End} {h : List Bool} {p q : List Command} {t : Text} {f : CallFault} → ((x : Past) → (adds what (Outcome.Refused f) x).given ≡ x.given)
+    → Core (or_new before) past.given r h p q t → Keeps what before past r h p q t made_by_call outcome_of_call (Stays (Err f))
 refused {f = f} g k = stays (Err f) refl refl refl g k
 
 module _ (pair : Pair) (sd : sends pair ≡ true) (past : Past) (r : End) (h : List Bool) (p q : List Command) (t : Text) (fr : Firm r) where
   pub sk-ask_send : (of_size with_room own : ℕ) (full : Bool) (before : Option End) → Firm (or_new before) → Core (or_new before) past.given r h p q t
-      → Keeps (all.Asks_to_send of_size with_room own full) before past r h p q t made_by_call of_call (ask_send pair of_size with_room own full before)
+      → Keeps (Happening.Asks_to_send of_size with_room own full) before past r h p q t made_by_call outcome_of_call (ask_send pair of_size with_room own full before)
   sk-ask_send of_size with_room own full before fs k =
       choose (not (sends pair)) (λ _. refused (λ _. refl) k) (λ _.
       choose (of_size == 0) (λ _. refused (λ _. refl) k) (λ z.
@@ -144,12 +142,12 @@ module _ (pair : Pair) (sd : sends pair ≡ true) (past : Past) (r : End) (h : L
       (λ g x y. s_asks (or_new before) past.given r h p q t fs fr of_size with_room pair.local pair.remote g none v z x y k))))))))
 
   pub sk-ask_receive : (with_room on own : ℕ) (full : Bool) (before : Option End) → Core (or_new before) past.given r h p q t
-      → Keeps (all.Asks_to_receive with_room on own full) before past r h p q t made_by_call of_call (ask_receive pair with_room on own full before)
+      → Keeps (Happening.Asks_to_receive with_room on own full) before past r h p q t made_by_call outcome_of_call (ask_receive pair with_room on own full before)
   sk-ask_receive with_room on own full before k =
       choose (not (receives pair)) (λ _. refused (λ _. refl) k) (λ e. absurd (both_ways (receives pair) (only_sends pair sd) (not-false (receives pair) e)))
 
   pub sk-close : (full : Bool) (before : Option End) → Firm (or_new before) → stands before ≡ true → Core (or_new before) past.given r h p q t
-      → Keeps (all.Closes full) before past r h p q t made_by_close of_call (close pair full before)
+      → Keeps (Happening.Closes full) before past r h p q t made_by_close outcome_of_call (close pair full before)
   sk-close full None fs st k = stays _ refl refl refl (λ _. refl) k
   sk-close full (Some e) fs st k =
       choose (e.left || (e.leaving && sends pair)) (λ _. stays _ refl refl refl (λ _. refl) k) (λ c.
@@ -164,7 +162,7 @@ module _ (pair : Pair) (sd : sends pair ≡ true) (past : Past) (r : End) (h : L
       (λ o. s_leaves e past.given r h p q t fs fr pair.local pair.remote y l (and_parts (e.asked || e.heard) (nat_le e.room 65536) st).0 k))))
 
   pub sk-give : (text : List Bool) (before : Option End) → Firm (or_new before) → Core (or_new before) past.given r h p q t
-      → Keeps (all.Gives text) before past r h p q t (λ _. []) of_call (give pair text before)
+      → Keeps (Happening.Gives text) before past r h p q t (λ _. []) outcome_of_call (give pair text before)
   sk-give text None fs k = stays _ refl refl refl (λ x. append-nil x.given) k
   sk-give text (Some e) fs k =
       choose (is_going e) (λ _. stays _ refl refl refl (λ x. append-nil x.given) k) (λ v.
@@ -176,7 +174,7 @@ module _ (pair : Pair) (sd : sends pair ≡ true) (past : Past) (r : End) (h : L
       becomes (record e { stored = e.stored ++ text }) (Ok tt) refl (not_over e v) refl (rw (append-nil p) (s_gives e past.given r h p q t fs fr text v f.0 f.1 k)))))))
 
   pub sk-take : (bytes : ℕ) (before : Option End) → Core (or_new before) past.given r h p q t
-      → Keeps (all.Takes bytes) before past r h p q t made_by_take of_take (take_held pair bytes before)
+      → Keeps (Happening.Takes bytes) before past r h p q t made_by_take of_take (take_held pair bytes before)
   sk-take bytes None k = stays _ refl refl refl (λ _. refl) k
   sk-take bytes (Some e) k =
       choose e.left (λ _. stays _ refl refl refl (λ _. refl) k) (λ _.
@@ -184,7 +182,7 @@ module _ (pair : Pair) (sd : sends pair ≡ true) (past : Past) (r : End) (h : L
       choose (not (receives pair)) (λ _. stays _ refl refl refl (λ _. refl) k) (λ x. absurd (both_ways (receives pair) (only_sends pair sd) (not-false (receives pair) x)))))
 
   pub sk-allocate : (m b : ℕ) (full : Bool) (before : Option End) → Core (or_new before) past.given r h p q t
-      → Keeps (all.Allocates m b full) before past r h p q t made_by_call of_call (allocate pair m b full before)
+      → Keeps (Happening.Allocates m b full) before past r h p q t made_by_call outcome_of_call (allocate pair m b full before)
   sk-allocate m b full None k = refused (λ _. refl) k
   sk-allocate m b full (Some e) k =
       choose (is_going e) (λ _. refused (λ _. refl) k) (λ _.
@@ -192,7 +190,7 @@ module _ (pair : Pair) (sd : sends pair ≡ true) (past : Past) (r : End) (h : L
       choose (not (receives pair)) (λ _. refused (λ _. refl) k) (λ x. absurd (both_ways (receives pair) (only_sends pair sd) (not-false (receives pair) x)))))
 
   pub sk-call_back : (m b : ℕ) (full : Bool) (before : Option End) → Core (or_new before) past.given r h p q t
-      → Keeps (all.Calls_back m b full) before past r h p q t made_by_call of_call (call_back pair m b full before)
+      → Keeps (Happening.Calls_back m b full) before past r h p q t made_by_call outcome_of_call (call_back pair m b full before)
   sk-call_back m b full None k = refused (λ _. refl) k
   sk-call_back m b full (Some e) k =
       choose (is_going e) (λ _. refused (λ _. refl) k) (λ _.
@@ -200,7 +198,7 @@ module _ (pair : Pair) (sd : sends pair ≡ true) (past : Past) (r : End) (h : L
       choose (not (receives pair)) (λ _. refused (λ _. refl) k) (λ x. absurd (both_ways (receives pair) (only_sends pair sd) (not-false (receives pair) x)))))
 
   pub sk-interrupt : (full : Bool) (before : Option End) → Firm (or_new before) → Core (or_new before) past.given r h p q t
-      → Keeps (all.Interrupts full) before past r h p q t made_by_call of_call (interrupt pair full before)
+      → Keeps (Happening.Interrupts full) before past r h p q t made_by_call outcome_of_call (interrupt pair full before)
   sk-interrupt full None fs k = refused (λ _. refl) k
   sk-interrupt full (Some e) fs k =
       choose (is_going e) (λ _. refused (λ _. refl) k) (λ v.
@@ -212,14 +210,14 @@ module _ (pair : Pair) (sd : sends pair ≡ true) (past : Past) (r : End) (h : L
   -- What comes.
 
   pub sk-rts : (i j on by_peer : ℕ) (before : Option End) → nat_lt by_peer MAX_BY_PEER ≡ true → Firm (or_new before) → Core (or_new before) past.given r h p (Rts i j on ∷ q) t
-      → Keeps (all.Rts_comes on false by_peer) before past r h p q t made_by_hearing of_hearing (hear_rts pair on false by_peer before)
+      → Keeps (Happening.Rts_comes on false by_peer) before past r h p q t made_by_hearing of_hearing (hear_rts pair on false by_peer before)
   sk-rts i j on by_peer before few fs k =
       let u = s_unheard (or_new before) past.given r h p q t fs fr i j on k in
       choose (not (sends pair) || not (is_data_link on) || (or_new before).heard || false)
       (λ c. absurd (both_ways (not (sends pair) || not (is_data_link on) || (or_new before).heard || false) (let x = u.0 in let y = u.1 in grind arith) c)) (λ _.
       choose (is_none before && nat_le MAX_BY_PEER by_peer)
       (λ c. absurd (both_ways (nat_le MAX_BY_PEER by_peer) (grind arith) (and_parts (is_none before) (nat_le MAX_BY_PEER by_peer) c).1)) (λ _.
-      begins (met (record (or_new before) { heard = true; link = on })) heard.Nothing refl (rts_over (or_new before) fs) (unheard (or_new before) fs u.0) (λ _. refl)
+      begins (met (record (or_new before) { heard = true; link = on })) Heard.Nothing refl (rts_over (or_new before) fs) (unheard (or_new before) fs u.0) (λ _. refl)
       (λ g x y. rw (append-nil p) (s_hears (or_new before) past.given r h p q t fs fr i j on g x y k))))
     where
       rts_over : (e : End) → Firm e → is_over e ≡ false
@@ -230,12 +228,12 @@ module _ (pair : Pair) (sd : sends pair ≡ true) (past : Past) (r : End) (h : L
           go false c = grind arith
 
   pub sk-cls_end : (i j : ℕ) (e : End) → Firm e → Core e past.given r h p (Cls i j ∷ q) t
-      → Keeps all.Cls_comes (Some e) past r h p q t made_by_hearing of_hearing (hear_cls_end pair e)
+      → Keeps Happening.Cls_comes (Some e) past r h p q t made_by_hearing of_hearing (hear_cls_end pair e)
   sk-cls_end i j e fs k =
       let u = s_close_fits e past.given r h p q t fs fr i j k in
       choose e.cls (λ c. absurd (both_ways e.cls u.0 c)) (λ _.
       choose (e.left || e.leaving) (λ c.
-      closes (record e { cls = true }) heard.Nothing refl refl
+      closes (record e { cls = true }) Heard.Nothing refl refl
       (λ o. rw (append-nil p) (s_ended e past.given r h p q t fs fr i j (and_parts e.left true o).0 k))
       (λ o. let l : e.left ≡ false = grind arith in
       let v : e.leaving ≡ true = grind arith in
@@ -243,16 +241,16 @@ module _ (pair : Pair) (sd : sends pair ≡ true) (past : Past) (r : End) (h : L
       let l = or_parts e.left e.leaving c in
       choose (sends pair && e.busy) (λ b.
       let y = (and_parts (sends pair) e.busy b).1 in
-      becomes (record e { cls = true; leaving = true; stored = [] }) heard.Nothing refl (and_left e.left true l.0) refl
+      becomes (record e { cls = true; leaving = true; stored = [] }) Heard.Nothing refl (and_left e.left true l.0) refl
       (rw (append-nil p) (s_shut e past.given r h p q t fs fr i j (record e { cls = true; leaving = true; stored = [] }) l.0 (fs.out y).0 refl refl refl refl refl refl k))) (λ b.
       choose (receives pair && nat_lt 0 (length e.stored)) (λ x. absurd (both_ways (receives pair) (only_sends pair sd) (and_parts (receives pair) (nat_lt 0 (length e.stored)) x).0)) (λ _.
       let y : e.busy ≡ false = grind arith in
-      closes (leaves (record e { cls = true })) (heard.Reply (closing pair)) refl refl
+      closes (leaves (record e { cls = true })) (Heard.Reply (closing pair)) refl refl
       (λ o. s_replies e past.given r h p q t fs fr i j pair.local pair.remote l.0 y k)
       (λ o. absurd (both_ways true o refl))))))
 
   pub sk-cls : (i j : ℕ) (before : Option End) → Firm (or_new before) → Core (or_new before) past.given r h p (Cls i j ∷ q) t
-      → Keeps all.Cls_comes before past r h p q t made_by_hearing of_hearing (hear_cls pair before)
+      → Keeps Happening.Cls_comes before past r h p q t made_by_hearing of_hearing (hear_cls pair before)
   sk-cls i j None fs k = absurd (both_ways false refl (s_close_fits new_end past.given r h p q t fs fr i j k).1)
   sk-cls i j (Some e) fs k = choose (not (is_proper pair)) (λ c. absurd (both_ways (is_proper pair) (not-true (is_proper pair) c) (grind arith))) (λ _. sk-cls_end i j e fs k)
 
@@ -262,26 +260,26 @@ module _ (pair : Pair) (sd : sends pair ≡ true) (past : Past) (r : End) (h : L
       → Core (or_new before) past.given r h p (c ∷ q) t → Keeps what before past r h p q t made_by_hearing of_hearing (at_open c act before)
   sk-open what c on act None d g fs f k = absurd (both_ways false refl (s_there new_end past.given r h p q t fs fr c on d k).0)
   sk-open what c on act (Some e) d g fs f k =
-      choose (is_going e) (λ v. stays _ refl refl refl (g all.Late) (s_late e past.given r h p q t fs fr c on d v k)) (λ v.
+      choose (is_going e) (λ v. stays _ refl refl refl (g Outcome.Late) (s_late e past.given r h p q t fs fr c on d v k)) (λ v.
       choose (not e.opened) (λ o. absurd (both_ways e.opened (not-true e.opened o) (s_fits e past.given r h p q t fs fr c on d v k).opened)) (λ _. f e v fs k))
 
   pub sk-all : (on m b : ℕ) (before : Option End) → Firm (or_new before) → Core (or_new before) past.given r h p (All on m b ∷ q) t
-      → Keeps (all.All_comes on m b) before past r h p q t made_by_hearing of_hearing (hear_all on m b before)
-  sk-all on m b before fs k = sk-open (all.All_comes on m b) (All on m b) on (all_at on m b) before refl (λ _ _. refl) fs
+      → Keeps (Happening.All_comes on m b) before past r h p q t made_by_hearing of_hearing (hear_all on m b before)
+  sk-all on m b before fs k = sk-open (Happening.All_comes on m b) (All on m b) on (all_at on m b) before refl (λ _ _. refl) fs
       (λ e v fs k. let w = s_within e past.given r h p q t fs fr on m b v k in
       let w0 = w.0 in let w1 = w.1 in
       choose (nat_lt MAX_MESSAGES (e.messages + m) || nat_lt MAX_AMOUNT (e.bits + b)) (λ c. absurd (both_ways (nat_lt MAX_MESSAGES (e.messages + m) || nat_lt MAX_AMOUNT (e.bits + b)) (grind arith) c)) (λ _.
-      becomes (record e { messages = e.messages + m; bits = e.bits + b }) heard.Nothing refl (not_over e v) refl (rw (append-nil p) (s_all e past.given r h p q t fs fr on m b v k)))) k
+      becomes (record e { messages = e.messages + m; bits = e.bits + b }) Heard.Nothing refl (not_over e v) refl (rw (append-nil p) (s_all e past.given r h p q t fs fr on m b v k)))) k
 
   pub sk-gvb : (on m b : ℕ) (before : Option End) → Firm (or_new before) → Core (or_new before) past.given r h p (Gvb on m b ∷ q) t
-      → Keeps (all.Gvb_comes on m b) before past r h p q t made_by_hearing of_hearing (hear_gvb on m b before)
-  sk-gvb on m b before fs k = sk-open (all.Gvb_comes on m b) (Gvb on m b) on (gvb_at on m b) before refl (λ _ _. refl) fs
+      → Keeps (Happening.Gvb_comes on m b) before past r h p q t made_by_hearing of_hearing (hear_gvb on m b before)
+  sk-gvb on m b before fs k = sk-open (Happening.Gvb_comes on m b) (Gvb on m b) on (gvb_at on m b) before refl (λ _ _. refl) fs
       (λ e v fs k. becomes _ _ refl (not_over e v) refl (s_gvb e past.given r h p q t fs fr on m b v k)) k
 
   pub sk-inr : (on : ℕ) (before : Option End) → Firm (or_new before) → Core (or_new before) past.given r h p (Inr on ∷ q) t
-      → Keeps (all.Inr_comes on) before past r h p q t made_by_hearing of_hearing (hear_inr on before)
-  sk-inr on before fs k = sk-open (all.Inr_comes on) (Inr on) on interrupted before refl (λ _ _. refl) fs
-      (λ e v fs k. becomes (record e { interrupts = min (e.interrupts + 1) MAX_COUNT }) heard.Nothing refl (not_over e v) refl (rw (append-nil p) (s_inr e past.given r h p q t fs fr on v k))) k
+      → Keeps (Happening.Inr_comes on) before past r h p q t made_by_hearing of_hearing (hear_inr on before)
+  sk-inr on before fs k = sk-open (Happening.Inr_comes on) (Inr on) on interrupted before refl (λ _ _. refl) fs
+      (λ e v fs k. becomes (record e { interrupts = min (e.interrupts + 1) MAX_COUNT }) Heard.Nothing refl (not_over e v) refl (rw (append-nil p) (s_inr e past.given r h p q t fs fr on v k))) k
 
   -- Text goes out.
 
@@ -289,7 +287,7 @@ module _ (pair : Pair) (sd : sends pair ≡ true) (past : Past) (r : End) (h : L
   times k m a l = omega (arith, mul-le-mul_right k l, div-mul-le_self a k)
 
   pub sk-cut : (before : Option End) → Firm (or_new before) → Core (or_new before) past.given r h p q t
-      → Keeps all.Text_goes_out before past r h p q t (λ _. []) of_cut (cut pair before)
+      → Keeps Happening.Text_goes_out before past r h p q t (λ _. []) of_cut (cut pair before)
   sk-cut None fs k = stays _ refl refl refl (λ _. refl) k
   sk-cut (Some e) fs k =
       choose (may_send pair e) (λ m.
@@ -309,7 +307,7 @@ module _ (pair : Pair) (sd : sends pair ≡ true) (past : Past) (r : End) (h : L
 
 module _ (pair : Pair) (past : Past) (r : End) (h : List Bool) (p q : List Command) (li : ℕ) (fr : Firm r) where
   pub sk-taken : sends pair ≡ true → (before : Option End) → Firm (or_new before) → Core (or_new before) past.given r h p q (Here li)
-      → Keeps (all.Is_answered Rfnm) before past r h p q No_text made_if_any (λ _. all.Accepted) (answered pair Rfnm before)
+      → Keeps (Happening.Is_answered Rfnm) before past r h p q No_text made_if_any (λ _. Outcome.Accepted) (end_answered pair Rfnm before)
   sk-taken sd None fs k = absurd (both_ways false refl k.out)
   sk-taken sd (Some e) fs k =
       let e2 : End = record e { busy = false } in
@@ -330,6 +328,6 @@ module _ (pair : Pair) (past : Past) (r : End) (h : List Bool) (p q : List Comma
           go true c = absurd (both_ways e.leaving v (fs.cls c))
           go false c = grind arith
 
-  pub sk-not_delivered : (how : Answer) (before : Option End) (t : Text) → answered pair how before ≡ Stays None → Core (or_new before) past.given r h p q t
-      → Keeps (all.Is_answered how) before past r h p q t made_if_any (λ _. all.Accepted) (answered pair how before)
-  sk-not_delivered how before t e k = subst (λ (a : Act (Option Command)). Keeps (all.Is_answered how) before past r h p q t made_if_any (λ _. all.Accepted) a) (sym e) (stays None refl refl refl (λ _. refl) k)
+  pub sk-not_delivered : (how : Answer) (before : Option End) (t : Text) → end_answered pair how before ≡ Stays None → Core (or_new before) past.given r h p q t
+      → Keeps (Happening.Is_answered how) before past r h p q t made_if_any (λ _. Outcome.Accepted) (end_answered pair how before)
+  sk-not_delivered how before t e k = subst (λ (a : Act (Option Command)). Keeps (Happening.Is_answered how) before past r h p q t made_if_any (λ _. Outcome.Accepted) a) (sym e) (stays None refl refl refl (λ _. refl) k)

@@ -12,7 +12,7 @@ use Rattle.ncp_model.specs.Amounts.{back, granted_messages, granted_bits, return
 use Rattle.ncp_model.specs.Calls.{asked_to_send}
 use Rattle.ncp_model.specs.End.{End, new_end, is_going}
 use Rattle.ncp_proof_connection.specs.Connections.{Text, No_text, Away, Here}
-use Rattle.ncp_proof_connection.specs.Ledger.{sum_of, text_messages, text_bits, is_out}
+use Rattle.ncp_proof_connection.specs.Ledger.{sum_of, text_messages, text_bits, is_text_out}
 use Rattle.ncp_proof_connection.proofs.Lines.{Kind, Data, Marks, Same, Ahead, Comes, same_asks, ahead_asks, same_leaves, ahead_leaves, same_ends, same_data, same_number, same_hears_request, behind_hears_request, same_close_fits, same_hears_close, same_left_ends, same_replies, behind_ends, same_data_fits}
 use Rattle.ncp_proof_connection.proofs.Joint.{to_sender_kind, to_receiver_kind, kinds, kinds_more, sum_more, sum_same, sender_marks, receiver_marks, Books, Place, Together, Sender_ahead, Receiver_ahead, Joint, Sized, Core, Firm, sender_well, receiver_well, no_text, unasked, unheard, left_not_busy, begun_empty, sized_none}
 use Rattle.ncp_proof_connection.proofs.Numbers.{books_as, books_sender, books_going, books_opens, books_new}
@@ -170,7 +170,7 @@ module _ (s : End) (g : List Bool) (r : End) (h : List Bool) (p q : List Command
       joint Receiver_ahead j2 = absurd (both_ways s.left l j2.left)
 
   -- no sender, and no text
-  gone : (d : Place) (p' q' : List Command) → s.busy ≡ false → s.busy ≡ is_out t → IsBeginning h g → (r.opened ≡ false → h ≡ []) → Joint d new_end g r h p' q' t → Core new_end g r h p' q' t
+  gone : (d : Place) (p' q' : List Command) → s.busy ≡ false → s.busy ≡ is_text_out t → IsBeginning h g → (r.opened ≡ false → h ≡ []) → Joint d new_end g r h p' q' t → Core new_end g r h p' q' t
   gone d p' q' y out b e j2 = record { out = sym y ∙ out; sized = sized_none 0 0 t (no_text s t out y); begun = b; dead = e; place = d; joint = j2 }
 
   -- and a CLS had come: the end is there no more

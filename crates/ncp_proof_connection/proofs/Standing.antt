@@ -6,7 +6,6 @@ use Rattle.ncp_model.specs.End.{End, or_new}
 use Rattle.ncp_model.specs.Texts.{Rfnm, Incomplete, Dead}
 use Rattle.ncp_proof_watch.specs.Sound.{SoundAt}
 use Rattle.ncp_model.specs.Happenings.{Happening, happens}
-use Rattle.ncp_model.specs.Happenings as all
 use Rattle.ncp_proof_connection.proofs.Joint.{Firm, firm, new_firm}
 
 abbrev pub stands : Option End → Bool
@@ -17,47 +16,47 @@ abbrev pub StillStands : Pair → Happening → Option End → Type 0
 StillStands pair what before = stands before ≡ true → stands (happens pair what before).after ≡ true
 
 pub stands-after : (pair : Pair) (what : Happening) (before : Option End) → StillStands pair what before
-stands-after pair (all.Asks_to_send of_size with_room own full) None = λ s. grind arith
-stands-after pair (all.Asks_to_send of_size with_room own full) (Some e) = λ s. grind arith
-stands-after pair (all.Asks_to_receive with_room on own full) None = λ s. grind arith
-stands-after pair (all.Asks_to_receive with_room on own full) (Some e) = λ s. grind arith
-stands-after pair (all.Closes full) None = λ s. refl
-stands-after pair (all.Closes full) (Some e) = λ s. grind arith
-stands-after pair (all.Gives text) None = λ s. refl
-stands-after pair (all.Gives text) (Some e) = λ s. grind arith
-stands-after pair (all.Takes bytes) None = λ s. refl
-stands-after pair (all.Takes bytes) (Some e) = λ s. grind arith
-stands-after pair (all.Allocates m b full) None = λ s. refl
-stands-after pair (all.Allocates m b full) (Some e) = λ s. grind arith
-stands-after pair (all.Calls_back m b full) None = λ s. refl
-stands-after pair (all.Calls_back m b full) (Some e) = λ s. grind arith
-stands-after pair (all.Interrupts full) None = λ s. refl
-stands-after pair (all.Interrupts full) (Some e) = λ s. grind arith
-stands-after pair (all.Rts_comes on taken by_peer) None = λ s. grind arith
-stands-after pair (all.Rts_comes on taken by_peer) (Some e) = λ s. grind arith
-stands-after pair (all.Str_comes of_size by_peer) None = λ s. grind arith
-stands-after pair (all.Str_comes of_size by_peer) (Some e) = λ s. grind arith
-stands-after pair all.Cls_comes None = λ s. grind arith
-stands-after pair all.Cls_comes (Some e) = λ s. grind arith
-stands-after pair (all.All_comes on m b) None = λ s. refl
-stands-after pair (all.All_comes on m b) (Some e) = λ s. grind arith
-stands-after pair (all.Gvb_comes on m b) None = λ s. refl
-stands-after pair (all.Gvb_comes on m b) (Some e) = λ s. grind arith
-stands-after pair (all.Ret_comes on m b) None = λ s. refl
-stands-after pair (all.Ret_comes on m b) (Some e) = λ s. grind arith
-stands-after pair (all.Inr_comes on) None = λ s. refl
-stands-after pair (all.Inr_comes on) (Some e) = λ s. grind arith
-stands-after pair (all.Ins_comes on) None = λ s. refl
-stands-after pair (all.Ins_comes on) (Some e) = λ s. grind arith
-stands-after pair (all.Text_comes head of_size text) None = λ s. refl
-stands-after pair (all.Text_comes head of_size text) (Some e) = λ s. grind arith
-stands-after pair all.Text_goes_out None = λ s. refl
-stands-after pair all.Text_goes_out (Some e) = λ s. grind arith
-stands-after pair (all.Is_answered Rfnm) None = λ s. refl
-stands-after pair (all.Is_answered Rfnm) (Some e) = λ s. grind arith
-stands-after pair (all.Is_answered Incomplete) before = λ s. s
-stands-after pair (all.Is_answered Dead) before = λ s. s
-stands-after pair all.Is_cleared before = λ s. refl
+stands-after pair (Happening.Asks_to_send of_size with_room own full) None = λ s. grind arith
+stands-after pair (Happening.Asks_to_send of_size with_room own full) (Some e) = λ s. grind arith
+stands-after pair (Happening.Asks_to_receive with_room on own full) None = λ s. grind arith
+stands-after pair (Happening.Asks_to_receive with_room on own full) (Some e) = λ s. grind arith
+stands-after pair (Happening.Closes full) None = λ s. refl
+stands-after pair (Happening.Closes full) (Some e) = λ s. grind arith
+stands-after pair (Happening.Gives text) None = λ s. refl
+stands-after pair (Happening.Gives text) (Some e) = λ s. grind arith
+stands-after pair (Happening.Takes bytes) None = λ s. refl
+stands-after pair (Happening.Takes bytes) (Some e) = λ s. grind arith
+stands-after pair (Happening.Allocates m b full) None = λ s. refl
+stands-after pair (Happening.Allocates m b full) (Some e) = λ s. grind arith
+stands-after pair (Happening.Calls_back m b full) None = λ s. refl
+stands-after pair (Happening.Calls_back m b full) (Some e) = λ s. grind arith
+stands-after pair (Happening.Interrupts full) None = λ s. refl
+stands-after pair (Happening.Interrupts full) (Some e) = λ s. grind arith
+stands-after pair (Happening.Rts_comes on taken by_peer) None = λ s. grind arith
+stands-after pair (Happening.Rts_comes on taken by_peer) (Some e) = λ s. grind arith
+stands-after pair (Happening.Str_comes of_size by_peer) None = λ s. grind arith
+stands-after pair (Happening.Str_comes of_size by_peer) (Some e) = λ s. grind arith
+stands-after pair Happening.Cls_comes None = λ s. grind arith
+stands-after pair Happening.Cls_comes (Some e) = λ s. grind arith
+stands-after pair (Happening.All_comes on m b) None = λ s. refl
+stands-after pair (Happening.All_comes on m b) (Some e) = λ s. grind arith
+stands-after pair (Happening.Gvb_comes on m b) None = λ s. refl
+stands-after pair (Happening.Gvb_comes on m b) (Some e) = λ s. grind arith
+stands-after pair (Happening.Ret_comes on m b) None = λ s. refl
+stands-after pair (Happening.Ret_comes on m b) (Some e) = λ s. grind arith
+stands-after pair (Happening.Inr_comes on) None = λ s. refl
+stands-after pair (Happening.Inr_comes on) (Some e) = λ s. grind arith
+stands-after pair (Happening.Ins_comes on) None = λ s. refl
+stands-after pair (Happening.Ins_comes on) (Some e) = λ s. grind arith
+stands-after pair (Happening.Text_comes head of_size text) None = λ s. refl
+stands-after pair (Happening.Text_comes head of_size text) (Some e) = λ s. grind arith
+stands-after pair Happening.Text_goes_out None = λ s. refl
+stands-after pair Happening.Text_goes_out (Some e) = λ s. grind arith
+stands-after pair (Happening.Is_answered Rfnm) None = λ s. refl
+stands-after pair (Happening.Is_answered Rfnm) (Some e) = λ s. grind arith
+stands-after pair (Happening.Is_answered Incomplete) before = λ s. s
+stands-after pair (Happening.Is_answered Dead) before = λ s. s
+stands-after pair Happening.Is_cleared before = λ s. refl
 
 pub firm_of : (pair : Pair) (o : Option End) → SoundAt pair o → stands o ≡ true → Firm (or_new o)
 firm_of pair None s t = new_firm

@@ -14,19 +14,17 @@ use Rattle.ncp_proof_watch.specs.Sound.{SoundAt}
 use Rattle.ncp_proof_watch.specs.Books.{BooksAt}
 use Rattle.ncp_model.specs.Leading.{suits}
 use Rattle.ncp_model.specs.Happenings.{Happening, Outcome, Happened, happens, is_violation}
-use Rattle.ncp_model.specs.Happenings as all
 use Rattle.ncp_proof_watch.proofs.SoundEnds.{one_way, sound-after}
 use Rattle.ncp_proof_watch.proofs.BooksKept.{books-kept}
-use Rattle.ncp_proof_connection.specs.Connections.{Text, No_text, Away, Here, Connection, new_connection, sender_does, receiver_does, is_call, Event, Sender_calls, Receiver_calls, Comes_to_sender, Comes_to_receiver, Text_goes_out, Text_comes, Text_is_answered, comes_to_sender, comes_to_receiver, text_comes, text_is_answered, occurs, occur_from, occur}
-use Rattle.ncp_proof_connection.specs.Ledger.{sending, receiving, text_bits, BothOpen, MessagesAgree, BitsAgree, Parted, Held, Begins, OutIsOpened}
+use Rattle.ncp_proof_connection.specs.Connections.{Text, No_text, Away, Here, Connection, new_connection, sender_does, receiver_does, is_call, ConnectionEvent, Sender_calls, Receiver_calls, Comes_to_sender, Comes_to_receiver, Text_goes_out, Text_comes, Text_is_answered, comes_to_sender, comes_to_receiver, text_comes, text_is_answered, occurs, occur_from, occur}
+use Rattle.ncp_proof_connection.specs.Ledger.{sending, receiving, text_bits, BothOpenOnConnection, MessagesAgreeOnConnection, BitsAgreeOnConnection, PartedOnConnection, Held, BeginsOnConnection, OutIsOpened}
 use Rattle.ncp_proof_connection.proofs.Lines.{Alien}
 use Rattle.ncp_proof_connection.proofs.Joint.{to_sender_kind, to_receiver_kind, Place, Together, Sender_ahead, Receiver_ahead, Joint, Core, Firm, live_got, begun_empty}
 use Rattle.ncp_proof_connection.proofs.Numbers.{books_new}
 use Rattle.ncp_proof_connection.proofs.Senders.{going_parts}
 use Rattle.ncp_proof_connection.proofs.Standing.{stands, stands-after, firm_of}
 use Rattle.ncp_proof_connection.proofs.SenderActs.{sk-ask_send, sk-ask_receive, sk-close, sk-give, sk-take, sk-allocate, sk-call_back, sk-interrupt, sk-rts, sk-cls, sk-all, sk-gvb, sk-inr, sk-cut, sk-taken, sk-not_delivered}
-use Rattle.ncp_proof_connection.proofs.ReceiverActs.{rk-ask_send, rk-ask_receive, rk-close, rk-give, rk-take, rk-allocate, rk-call_back, rk-interrupt, rk-str, rk-cls, rk-ret, rk-ins, rk-text}
-use Rattle.ncp_proof_connection.proofs.ReceiverActs as R
+use Rattle.ncp_proof_connection.proofs.ReceiverActs.{rk-ask_send, rk-ask_receive, rk-close, rk-give, rk-take, rk-allocate, rk-call_back, rk-interrupt, rk-str, rk-cls, rk-ret, rk-ins, rk-text, live}
 use Rattle.ncp_proof_connection.proofs.Moments.{NoneYet, Front, none-kept, front-kept, receiver-begins, sender-begins, opens-by-request, none-where-heard, none-where-requested, ask-opens, request-opens}
 use Rattle.ncp_proof_watch.specs.Histories.{Past, opens, IsBeginning}
 
@@ -109,7 +107,7 @@ module _ (pair : Pair) (sd : sends pair ≡ true) where
   }
 
   -- a sender opens by no other happening
-  shut : (what : Happening) (w : Connection) → ((of_size with_room own : ℕ) (full : Bool) → what ≡ all.Asks_to_send of_size with_room own full → ⊥) → ((on by_peer : ℕ) (taken : Bool) → what ≡ all.Rts_comes on taken by_peer → ⊥)
+  shut : (what : Happening) (w : Connection) → ((of_size with_room own : ℕ) (full : Bool) → what ≡ Happening.Asks_to_send of_size with_room own full → ⊥) → ((on by_peer : ℕ) (taken : Bool) → what ≡ Happening.Rts_comes on taken by_peer → ⊥)
       → opens w.sender.end (happens pair what w.sender.end).after ≡ true → w.receiver.past.taken ≡ []
   shut what w f g e = absurd (both_ways (opens w.sender.end (happens pair what w.sender.end).after) (opens-by-request pair what w.sender.end sd f g) e)
 
@@ -137,26 +135,26 @@ module _ (pair : Pair) (sd : sends pair ≡ true) where
       fr = r_firm w k.local
 
       go : (what : Happening) → is_call what ≡ true → Inv pair (sender_does pair what w)
-      go (all.Asks_to_send n room own full) c = (let m = sk-ask_send pair sd w.sender.past r h p q w.text fr n room own full w.sender.end fs k.core in s_step (all.Asks_to_send n room own full) w k.local k.moment (λ e. let y = ask-opens pair n room own full w.sender.end e in none-where-heard (or_new w.sender.end) w.sender.past.given w.receiver.end w.receiver.past p q w.text k.moment.none k.moment.front y.0 y.1 y.2 k.core) m.fine m.core)
-      go (all.Asks_to_receive room on own full) c = (let m = sk-ask_receive pair sd w.sender.past r h p q w.text fr room on own full w.sender.end k.core in s_step (all.Asks_to_receive room on own full) w k.local k.moment (shut (all.Asks_to_receive room on own full) w (λ z x y u e. cc e) (λ x y z e. cc e)) m.fine m.core)
-      go (all.Closes full) c = (let m = sk-close pair sd w.sender.past r h p q w.text fr full w.sender.end fs k.local.s_stands k.core in s_step (all.Closes full) w k.local k.moment (shut (all.Closes full) w (λ z x y u e. cc e) (λ x y z e. cc e)) m.fine m.core)
-      go (all.Gives text) c = (let m = sk-give pair sd w.sender.past r h p q w.text fr text w.sender.end fs k.core in s_step (all.Gives text) w k.local k.moment (shut (all.Gives text) w (λ z x y u e. cc e) (λ x y z e. cc e)) m.fine m.core)
-      go (all.Takes bytes) c = (let m = sk-take pair sd w.sender.past r h p q w.text fr bytes w.sender.end k.core in s_step (all.Takes bytes) w k.local k.moment (shut (all.Takes bytes) w (λ z x y u e. cc e) (λ x y z e. cc e)) m.fine m.core)
-      go (all.Allocates a b full) c = (let m = sk-allocate pair sd w.sender.past r h p q w.text fr a b full w.sender.end k.core in s_step (all.Allocates a b full) w k.local k.moment (shut (all.Allocates a b full) w (λ z x y u e. cc e) (λ x y z e. cc e)) m.fine m.core)
-      go (all.Calls_back a b full) c = (let m = sk-call_back pair sd w.sender.past r h p q w.text fr a b full w.sender.end k.core in s_step (all.Calls_back a b full) w k.local k.moment (shut (all.Calls_back a b full) w (λ z x y u e. cc e) (λ x y z e. cc e)) m.fine m.core)
-      go (all.Interrupts full) c = (let m = sk-interrupt pair sd w.sender.past r h p q w.text fr full w.sender.end fs k.core in s_step (all.Interrupts full) w k.local k.moment (shut (all.Interrupts full) w (λ z x y u e. cc e) (λ x y z e. cc e)) m.fine m.core)
-      go (all.Rts_comes on taken by_peer) c = absurd (both_ways false refl c)
-      go (all.Str_comes n by_peer) c = absurd (both_ways false refl c)
-      go all.Cls_comes c = absurd (both_ways false refl c)
-      go (all.All_comes on a b) c = absurd (both_ways false refl c)
-      go (all.Gvb_comes on a b) c = absurd (both_ways false refl c)
-      go (all.Ret_comes on a b) c = absurd (both_ways false refl c)
-      go (all.Inr_comes on) c = absurd (both_ways false refl c)
-      go (all.Ins_comes on) c = absurd (both_ways false refl c)
-      go (all.Text_comes head n text) c = absurd (both_ways false refl c)
-      go all.Text_goes_out c = absurd (both_ways false refl c)
-      go (all.Is_answered how) c = absurd (both_ways false refl c)
-      go all.Is_cleared c = absurd (both_ways false refl c)
+      go (Happening.Asks_to_send n room own full) c = (let m = sk-ask_send pair sd w.sender.past r h p q w.text fr n room own full w.sender.end fs k.core in s_step (Happening.Asks_to_send n room own full) w k.local k.moment (λ e. let y = ask-opens pair n room own full w.sender.end e in none-where-heard (or_new w.sender.end) w.sender.past.given w.receiver.end w.receiver.past p q w.text k.moment.none k.moment.front y.0 y.1 y.2 k.core) m.fine m.core)
+      go (Happening.Asks_to_receive room on own full) c = (let m = sk-ask_receive pair sd w.sender.past r h p q w.text fr room on own full w.sender.end k.core in s_step (Happening.Asks_to_receive room on own full) w k.local k.moment (shut (Happening.Asks_to_receive room on own full) w (λ z x y u e. cc e) (λ x y z e. cc e)) m.fine m.core)
+      go (Happening.Closes full) c = (let m = sk-close pair sd w.sender.past r h p q w.text fr full w.sender.end fs k.local.s_stands k.core in s_step (Happening.Closes full) w k.local k.moment (shut (Happening.Closes full) w (λ z x y u e. cc e) (λ x y z e. cc e)) m.fine m.core)
+      go (Happening.Gives text) c = (let m = sk-give pair sd w.sender.past r h p q w.text fr text w.sender.end fs k.core in s_step (Happening.Gives text) w k.local k.moment (shut (Happening.Gives text) w (λ z x y u e. cc e) (λ x y z e. cc e)) m.fine m.core)
+      go (Happening.Takes bytes) c = (let m = sk-take pair sd w.sender.past r h p q w.text fr bytes w.sender.end k.core in s_step (Happening.Takes bytes) w k.local k.moment (shut (Happening.Takes bytes) w (λ z x y u e. cc e) (λ x y z e. cc e)) m.fine m.core)
+      go (Happening.Allocates a b full) c = (let m = sk-allocate pair sd w.sender.past r h p q w.text fr a b full w.sender.end k.core in s_step (Happening.Allocates a b full) w k.local k.moment (shut (Happening.Allocates a b full) w (λ z x y u e. cc e) (λ x y z e. cc e)) m.fine m.core)
+      go (Happening.Calls_back a b full) c = (let m = sk-call_back pair sd w.sender.past r h p q w.text fr a b full w.sender.end k.core in s_step (Happening.Calls_back a b full) w k.local k.moment (shut (Happening.Calls_back a b full) w (λ z x y u e. cc e) (λ x y z e. cc e)) m.fine m.core)
+      go (Happening.Interrupts full) c = (let m = sk-interrupt pair sd w.sender.past r h p q w.text fr full w.sender.end fs k.core in s_step (Happening.Interrupts full) w k.local k.moment (shut (Happening.Interrupts full) w (λ z x y u e. cc e) (λ x y z e. cc e)) m.fine m.core)
+      go (Happening.Rts_comes on taken by_peer) c = absurd (both_ways false refl c)
+      go (Happening.Str_comes n by_peer) c = absurd (both_ways false refl c)
+      go Happening.Cls_comes c = absurd (both_ways false refl c)
+      go (Happening.All_comes on a b) c = absurd (both_ways false refl c)
+      go (Happening.Gvb_comes on a b) c = absurd (both_ways false refl c)
+      go (Happening.Ret_comes on a b) c = absurd (both_ways false refl c)
+      go (Happening.Inr_comes on) c = absurd (both_ways false refl c)
+      go (Happening.Ins_comes on) c = absurd (both_ways false refl c)
+      go (Happening.Text_comes head n text) c = absurd (both_ways false refl c)
+      go Happening.Text_goes_out c = absurd (both_ways false refl c)
+      go (Happening.Is_answered how) c = absurd (both_ways false refl c)
+      go Happening.Is_cleared c = absurd (both_ways false refl c)
 
   pub receiver_calls_keep : (what : Happening) (w : Connection) → is_call what ≡ true → Inv pair w → Inv pair (receiver_does pair what w)
   receiver_calls_keep what w c k = go what c
@@ -180,26 +178,26 @@ module _ (pair : Pair) (sd : sends pair ≡ true) where
       fr = r_firm w k.local
 
       go : (what : Happening) → is_call what ≡ true → Inv pair (receiver_does pair what w)
-      go (all.Asks_to_send n room own full) c = (let m = rk-ask_send (turned pair) rd w.receiver.past s g p q w.text fs n room own full w.receiver.end k.core in r_step (all.Asks_to_send n room own full) w refl k.local k.moment k.core.begun m.fine m.core)
-      go (all.Asks_to_receive room on own full) c = (let m = rk-ask_receive (turned pair) rd w.receiver.past s g p q w.text fs room on own full w.receiver.end c fr k.core in r_step (all.Asks_to_receive room on own full) w refl k.local k.moment k.core.begun m.fine m.core)
-      go (all.Closes full) c = (let m = rk-close (turned pair) rd w.receiver.past s g p q w.text fs full w.receiver.end fr k.local.r_stands k.core in r_step (all.Closes full) w refl k.local k.moment k.core.begun m.fine m.core)
-      go (all.Gives text) c = (let m = rk-give (turned pair) rd w.receiver.past s g p q w.text fs text w.receiver.end k.core in r_step (all.Gives text) w refl k.local k.moment k.core.begun m.fine m.core)
-      go (all.Takes bytes) c = (let m = rk-take (turned pair) rd w.receiver.past s g p q w.text fs bytes w.receiver.end fr k.core in r_step (all.Takes bytes) w refl k.local k.moment k.core.begun m.fine m.core)
-      go (all.Allocates a b full) c = (let m = rk-allocate (turned pair) rd w.receiver.past s g p q w.text fs a b full w.receiver.end fr k.core in r_step (all.Allocates a b full) w refl k.local k.moment k.core.begun m.fine m.core)
-      go (all.Calls_back a b full) c = (let m = rk-call_back (turned pair) rd w.receiver.past s g p q w.text fs a b full w.receiver.end fr k.core in r_step (all.Calls_back a b full) w refl k.local k.moment k.core.begun m.fine m.core)
-      go (all.Interrupts full) c = (let m = rk-interrupt (turned pair) rd w.receiver.past s g p q w.text fs full w.receiver.end fr k.core in r_step (all.Interrupts full) w refl k.local k.moment k.core.begun m.fine m.core)
-      go (all.Rts_comes on taken by_peer) c = absurd (both_ways false refl c)
-      go (all.Str_comes n by_peer) c = absurd (both_ways false refl c)
-      go all.Cls_comes c = absurd (both_ways false refl c)
-      go (all.All_comes on a b) c = absurd (both_ways false refl c)
-      go (all.Gvb_comes on a b) c = absurd (both_ways false refl c)
-      go (all.Ret_comes on a b) c = absurd (both_ways false refl c)
-      go (all.Inr_comes on) c = absurd (both_ways false refl c)
-      go (all.Ins_comes on) c = absurd (both_ways false refl c)
-      go (all.Text_comes head n text) c = absurd (both_ways false refl c)
-      go all.Text_goes_out c = absurd (both_ways false refl c)
-      go (all.Is_answered how) c = absurd (both_ways false refl c)
-      go all.Is_cleared c = absurd (both_ways false refl c)
+      go (Happening.Asks_to_send n room own full) c = (let m = rk-ask_send (turned pair) rd w.receiver.past s g p q w.text fs n room own full w.receiver.end k.core in r_step (Happening.Asks_to_send n room own full) w refl k.local k.moment k.core.begun m.fine m.core)
+      go (Happening.Asks_to_receive room on own full) c = (let m = rk-ask_receive (turned pair) rd w.receiver.past s g p q w.text fs room on own full w.receiver.end c fr k.core in r_step (Happening.Asks_to_receive room on own full) w refl k.local k.moment k.core.begun m.fine m.core)
+      go (Happening.Closes full) c = (let m = rk-close (turned pair) rd w.receiver.past s g p q w.text fs full w.receiver.end fr k.local.r_stands k.core in r_step (Happening.Closes full) w refl k.local k.moment k.core.begun m.fine m.core)
+      go (Happening.Gives text) c = (let m = rk-give (turned pair) rd w.receiver.past s g p q w.text fs text w.receiver.end k.core in r_step (Happening.Gives text) w refl k.local k.moment k.core.begun m.fine m.core)
+      go (Happening.Takes bytes) c = (let m = rk-take (turned pair) rd w.receiver.past s g p q w.text fs bytes w.receiver.end fr k.core in r_step (Happening.Takes bytes) w refl k.local k.moment k.core.begun m.fine m.core)
+      go (Happening.Allocates a b full) c = (let m = rk-allocate (turned pair) rd w.receiver.past s g p q w.text fs a b full w.receiver.end fr k.core in r_step (Happening.Allocates a b full) w refl k.local k.moment k.core.begun m.fine m.core)
+      go (Happening.Calls_back a b full) c = (let m = rk-call_back (turned pair) rd w.receiver.past s g p q w.text fs a b full w.receiver.end fr k.core in r_step (Happening.Calls_back a b full) w refl k.local k.moment k.core.begun m.fine m.core)
+      go (Happening.Interrupts full) c = (let m = rk-interrupt (turned pair) rd w.receiver.past s g p q w.text fs full w.receiver.end fr k.core in r_step (Happening.Interrupts full) w refl k.local k.moment k.core.begun m.fine m.core)
+      go (Happening.Rts_comes on taken by_peer) c = absurd (both_ways false refl c)
+      go (Happening.Str_comes n by_peer) c = absurd (both_ways false refl c)
+      go Happening.Cls_comes c = absurd (both_ways false refl c)
+      go (Happening.All_comes on a b) c = absurd (both_ways false refl c)
+      go (Happening.Gvb_comes on a b) c = absurd (both_ways false refl c)
+      go (Happening.Ret_comes on a b) c = absurd (both_ways false refl c)
+      go (Happening.Inr_comes on) c = absurd (both_ways false refl c)
+      go (Happening.Ins_comes on) c = absurd (both_ways false refl c)
+      go (Happening.Text_comes head n text) c = absurd (both_ways false refl c)
+      go Happening.Text_goes_out c = absurd (both_ways false refl c)
+      go (Happening.Is_answered how) c = absurd (both_ways false refl c)
+      go Happening.Is_cleared c = absurd (both_ways false refl c)
 
   -- The first command underway comes.
 
@@ -221,11 +219,11 @@ module _ (pair : Pair) (sd : sends pair ≡ true) where
 
   pub comes_to_sender_keeps : (n : ℕ) (q : List Command) (w : Connection) → nat_lt n MAX_BY_PEER ≡ true → Local pair w → Moment w → Whole (record w { to_sender = q }) → Inv pair (comes_to_sender pair n q (record w { to_sender = q }))
   comes_to_sender_keeps n [] w few l v k = record { local = l; core = k; moment = v }
-  comes_to_sender_keeps n (Rts i j on ∷ q) w few l v k = (let m = sk-rts pair sd w.sender.past (or_new w.receiver.end) (live_got w.receiver.end w.receiver.past) w.to_receiver q w.text (r_firm w l) i j on n w.sender.end few (s_firm w l) k in s_step (all.Rts_comes on false n) (record w { to_sender = q }) l v (λ e. let y = request-opens pair on n false w.sender.end e in none-where-requested (or_new w.sender.end) w.sender.past.given w.receiver.end w.receiver.past w.to_receiver q w.text v.none v.front i j on y.0 y.1 k) m.fine m.core)
-  comes_to_sender_keeps n (Cls i j ∷ q) w few l v k = (let m = sk-cls pair sd w.sender.past (or_new w.receiver.end) (live_got w.receiver.end w.receiver.past) w.to_receiver q w.text (r_firm w l) i j w.sender.end (s_firm w l) k in s_step all.Cls_comes (record w { to_sender = q }) l v (shut all.Cls_comes w (λ z x y u e. cc e) (λ x y z e. cc e)) m.fine m.core)
-  comes_to_sender_keeps n (All on a b ∷ q) w few l v k = (let m = sk-all pair sd w.sender.past (or_new w.receiver.end) (live_got w.receiver.end w.receiver.past) w.to_receiver q w.text (r_firm w l) on a b w.sender.end (s_firm w l) k in s_step (all.All_comes on a b) (record w { to_sender = q }) l v (shut (all.All_comes on a b) w (λ z x y u e. cc e) (λ x y z e. cc e)) m.fine m.core)
-  comes_to_sender_keeps n (Gvb on a b ∷ q) w few l v k = (let m = sk-gvb pair sd w.sender.past (or_new w.receiver.end) (live_got w.receiver.end w.receiver.past) w.to_receiver q w.text (r_firm w l) on a b w.sender.end (s_firm w l) k in s_step (all.Gvb_comes on a b) (record w { to_sender = q }) l v (shut (all.Gvb_comes on a b) w (λ z x y u e. cc e) (λ x y z e. cc e)) m.fine m.core)
-  comes_to_sender_keeps n (Inr on ∷ q) w few l v k = (let m = sk-inr pair sd w.sender.past (or_new w.receiver.end) (live_got w.receiver.end w.receiver.past) w.to_receiver q w.text (r_firm w l) on w.sender.end (s_firm w l) k in s_step (all.Inr_comes on) (record w { to_sender = q }) l v (shut (all.Inr_comes on) w (λ z x y u e. cc e) (λ x y z e. cc e)) m.fine m.core)
+  comes_to_sender_keeps n (Rts i j on ∷ q) w few l v k = (let m = sk-rts pair sd w.sender.past (or_new w.receiver.end) (live_got w.receiver.end w.receiver.past) w.to_receiver q w.text (r_firm w l) i j on n w.sender.end few (s_firm w l) k in s_step (Happening.Rts_comes on false n) (record w { to_sender = q }) l v (λ e. let y = request-opens pair on n false w.sender.end e in none-where-requested (or_new w.sender.end) w.sender.past.given w.receiver.end w.receiver.past w.to_receiver q w.text v.none v.front i j on y.0 y.1 k) m.fine m.core)
+  comes_to_sender_keeps n (Cls i j ∷ q) w few l v k = (let m = sk-cls pair sd w.sender.past (or_new w.receiver.end) (live_got w.receiver.end w.receiver.past) w.to_receiver q w.text (r_firm w l) i j w.sender.end (s_firm w l) k in s_step Happening.Cls_comes (record w { to_sender = q }) l v (shut Happening.Cls_comes w (λ z x y u e. cc e) (λ x y z e. cc e)) m.fine m.core)
+  comes_to_sender_keeps n (All on a b ∷ q) w few l v k = (let m = sk-all pair sd w.sender.past (or_new w.receiver.end) (live_got w.receiver.end w.receiver.past) w.to_receiver q w.text (r_firm w l) on a b w.sender.end (s_firm w l) k in s_step (Happening.All_comes on a b) (record w { to_sender = q }) l v (shut (Happening.All_comes on a b) w (λ z x y u e. cc e) (λ x y z e. cc e)) m.fine m.core)
+  comes_to_sender_keeps n (Gvb on a b ∷ q) w few l v k = (let m = sk-gvb pair sd w.sender.past (or_new w.receiver.end) (live_got w.receiver.end w.receiver.past) w.to_receiver q w.text (r_firm w l) on a b w.sender.end (s_firm w l) k in s_step (Happening.Gvb_comes on a b) (record w { to_sender = q }) l v (shut (Happening.Gvb_comes on a b) w (λ z x y u e. cc e) (λ x y z e. cc e)) m.fine m.core)
+  comes_to_sender_keeps n (Inr on ∷ q) w few l v k = (let m = sk-inr pair sd w.sender.past (or_new w.receiver.end) (live_got w.receiver.end w.receiver.past) w.to_receiver q w.text (r_firm w l) on w.sender.end (s_firm w l) k in s_step (Happening.Inr_comes on) (record w { to_sender = q }) l v (shut (Happening.Inr_comes on) w (λ z x y u e. cc e) (λ x y z e. cc e)) m.fine m.core)
   comes_to_sender_keeps n (Command.Nop ∷ q) w few l v k = absurd (alien_to_sender Command.Nop q w refl k)
   comes_to_sender_keeps n (Str i j m ∷ q) w few l v k = absurd (alien_to_sender (Str i j m) q w refl k)
   comes_to_sender_keeps n (Ret on a b ∷ q) w few l v k = absurd (alien_to_sender (Ret on a b) q w refl k)
@@ -238,10 +236,10 @@ module _ (pair : Pair) (sd : sends pair ≡ true) where
 
   pub comes_to_receiver_keeps : (n : ℕ) (p : List Command) (w : Connection) → nat_lt n MAX_BY_PEER ≡ true → Local pair w → Moment w → Whole (record w { to_receiver = p }) → Inv pair (comes_to_receiver pair n p (record w { to_receiver = p }))
   comes_to_receiver_keeps n [] w few l v k = record { local = l; core = k; moment = v }
-  comes_to_receiver_keeps n (Str i j z ∷ p) w few l v k = (let m = rk-str (turned pair) rd w.receiver.past (or_new w.sender.end) w.sender.past.given p w.to_sender w.text (s_firm w l) i j z n w.receiver.end few (r_firm w l) k in r_step (all.Str_comes z n) (record w { to_receiver = p }) refl l v k.begun m.fine m.core)
-  comes_to_receiver_keeps n (Cls i j ∷ p) w few l v k = (let m = rk-cls (turned pair) rd w.receiver.past (or_new w.sender.end) w.sender.past.given p w.to_sender w.text (s_firm w l) i j w.receiver.end (r_firm w l) k in r_step all.Cls_comes (record w { to_receiver = p }) refl l v k.begun m.fine m.core)
-  comes_to_receiver_keeps n (Ret on a b ∷ p) w few l v k = (let m = rk-ret (turned pair) rd w.receiver.past (or_new w.sender.end) w.sender.past.given p w.to_sender w.text (s_firm w l) on a b w.receiver.end (r_firm w l) k in r_step (all.Ret_comes on a b) (record w { to_receiver = p }) rd l v k.begun m.fine m.core)
-  comes_to_receiver_keeps n (Ins on ∷ p) w few l v k = (let m = rk-ins (turned pair) rd w.receiver.past (or_new w.sender.end) w.sender.past.given p w.to_sender w.text (s_firm w l) on w.receiver.end (r_firm w l) k in r_step (all.Ins_comes on) (record w { to_receiver = p }) rd l v k.begun m.fine m.core)
+  comes_to_receiver_keeps n (Str i j z ∷ p) w few l v k = (let m = rk-str (turned pair) rd w.receiver.past (or_new w.sender.end) w.sender.past.given p w.to_sender w.text (s_firm w l) i j z n w.receiver.end few (r_firm w l) k in r_step (Happening.Str_comes z n) (record w { to_receiver = p }) refl l v k.begun m.fine m.core)
+  comes_to_receiver_keeps n (Cls i j ∷ p) w few l v k = (let m = rk-cls (turned pair) rd w.receiver.past (or_new w.sender.end) w.sender.past.given p w.to_sender w.text (s_firm w l) i j w.receiver.end (r_firm w l) k in r_step Happening.Cls_comes (record w { to_receiver = p }) refl l v k.begun m.fine m.core)
+  comes_to_receiver_keeps n (Ret on a b ∷ p) w few l v k = (let m = rk-ret (turned pair) rd w.receiver.past (or_new w.sender.end) w.sender.past.given p w.to_sender w.text (s_firm w l) on a b w.receiver.end (r_firm w l) k in r_step (Happening.Ret_comes on a b) (record w { to_receiver = p }) rd l v k.begun m.fine m.core)
+  comes_to_receiver_keeps n (Ins on ∷ p) w few l v k = (let m = rk-ins (turned pair) rd w.receiver.past (or_new w.sender.end) w.sender.past.given p w.to_sender w.text (s_firm w l) on w.receiver.end (r_firm w l) k in r_step (Happening.Ins_comes on) (record w { to_receiver = p }) rd l v k.begun m.fine m.core)
   comes_to_receiver_keeps n (Command.Nop ∷ p) w few l v k = absurd (alien_to_receiver Command.Nop p w refl k)
   comes_to_receiver_keeps n (Rts i j m ∷ p) w few l v k = absurd (alien_to_receiver (Rts i j m) p w refl k)
   comes_to_receiver_keeps n (All on a b ∷ p) w few l v k = absurd (alien_to_receiver (All on a b) p w refl k)
@@ -257,34 +255,34 @@ module _ (pair : Pair) (sd : sends pair ≡ true) where
 
   pub text_comes_keeps : (head : List Bool) (t : Text) (w : Connection) → Local pair w → Moment w → Whole (record w { text = t }) → Inv pair (text_comes pair head t (record w { text = t }))
   text_comes_keeps head No_text w l v k = record { local = l; core = k; moment = v }
-  text_comes_keeps head (Away li n bits) w l v k = (let m = rk-text (turned pair) rd w.receiver.past (or_new w.sender.end) w.sender.past.given w.to_receiver w.to_sender (s_firm w l) head li n bits w.receiver.end (r_firm w l) k in r_step (all.Text_comes head n bits) (record w { text = Here li }) rd l v k.begun m.fine m.core)
+  text_comes_keeps head (Away li n bits) w l v k = (let m = rk-text (turned pair) rd w.receiver.past (or_new w.sender.end) w.sender.past.given w.to_receiver w.to_sender (s_firm w l) head li n bits w.receiver.end (r_firm w l) k in r_step (Happening.Text_comes head n bits) (record w { text = Here li }) rd l v k.begun m.fine m.core)
   text_comes_keeps head (Here li) w l v k = record { local = l; core = k; moment = v }
 
   pub text_is_answered_keeps : (how : Answer) (t : Text) (w : Connection) → Local pair w → Moment w → Whole (record w { text = t }) → Inv pair (text_is_answered pair how t (record w { text = t }))
   text_is_answered_keeps Rfnm No_text w l v k = record { local = l; core = k; moment = v }
   text_is_answered_keeps Rfnm (Away li n bits) w l v k = record { local = l; core = k; moment = v }
-  text_is_answered_keeps Rfnm (Here li) w l v k = (let m = sk-taken pair w.sender.past (or_new w.receiver.end) (live_got w.receiver.end w.receiver.past) w.to_receiver w.to_sender li (r_firm w l) sd w.sender.end (s_firm w l) k in s_step (all.Is_answered Rfnm) (record w { text = No_text }) l v (shut (all.Is_answered Rfnm) w (λ z x y u e. cc e) (λ x y z e. cc e)) m.fine m.core)
+  text_is_answered_keeps Rfnm (Here li) w l v k = (let m = sk-taken pair w.sender.past (or_new w.receiver.end) (live_got w.receiver.end w.receiver.past) w.to_receiver w.to_sender li (r_firm w l) sd w.sender.end (s_firm w l) k in s_step (Happening.Is_answered Rfnm) (record w { text = No_text }) l v (shut (Happening.Is_answered Rfnm) w (λ z x y u e. cc e) (λ x y z e. cc e)) m.fine m.core)
   text_is_answered_keeps Incomplete No_text w l v k = record { local = l; core = k; moment = v }
-  text_is_answered_keeps Incomplete (Away li n bits) w l v k = (let m = sk-not_delivered pair w.sender.past (or_new w.receiver.end) (live_got w.receiver.end w.receiver.past) w.to_receiver w.to_sender li (r_firm w l) Incomplete w.sender.end (Away li n bits) refl k in s_step (all.Is_answered Incomplete) (record w { text = Away li n bits }) l v (shut (all.Is_answered Incomplete) w (λ z x y u e. cc e) (λ x y z e. cc e)) m.fine m.core)
+  text_is_answered_keeps Incomplete (Away li n bits) w l v k = (let m = sk-not_delivered pair w.sender.past (or_new w.receiver.end) (live_got w.receiver.end w.receiver.past) w.to_receiver w.to_sender li (r_firm w l) Incomplete w.sender.end (Away li n bits) refl k in s_step (Happening.Is_answered Incomplete) (record w { text = Away li n bits }) l v (shut (Happening.Is_answered Incomplete) w (λ z x y u e. cc e) (λ x y z e. cc e)) m.fine m.core)
   text_is_answered_keeps Incomplete (Here li) w l v k = record { local = l; core = k; moment = v }
   text_is_answered_keeps Dead No_text w l v k = record { local = l; core = k; moment = v }
-  text_is_answered_keeps Dead (Away li n bits) w l v k = (let m = sk-not_delivered pair w.sender.past (or_new w.receiver.end) (live_got w.receiver.end w.receiver.past) w.to_receiver w.to_sender li (r_firm w l) Dead w.sender.end (Away li n bits) refl k in s_step (all.Is_answered Dead) (record w { text = Away li n bits }) l v (shut (all.Is_answered Dead) w (λ z x y u e. cc e) (λ x y z e. cc e)) m.fine m.core)
+  text_is_answered_keeps Dead (Away li n bits) w l v k = (let m = sk-not_delivered pair w.sender.past (or_new w.receiver.end) (live_got w.receiver.end w.receiver.past) w.to_receiver w.to_sender li (r_firm w l) Dead w.sender.end (Away li n bits) refl k in s_step (Happening.Is_answered Dead) (record w { text = Away li n bits }) l v (shut (Happening.Is_answered Dead) w (λ z x y u e. cc e) (λ x y z e. cc e)) m.fine m.core)
   text_is_answered_keeps Dead (Here li) w l v k = record { local = l; core = k; moment = v }
 
   split : (b : Bool) (x y : Connection) → (b ≡ true → Inv pair x) → (b ≡ false → Inv pair y) → Inv pair (cond b x y)
   split true x y f g = f refl
   split false x y f g = g refl
 
-  pub keeps : (e : Event) (w : Connection) → Inv pair w → Inv pair (occurs pair e w)
+  pub keeps : (e : ConnectionEvent) (w : Connection) → Inv pair w → Inv pair (occurs pair e w)
   keeps (Sender_calls what) w k = split (is_call what) _ _ (λ c. sender_calls_keep what w c k) (λ _. k)
   keeps (Receiver_calls what) w k = split (is_call what) _ _ (λ c. receiver_calls_keep what w c k) (λ _. k)
   keeps (Comes_to_sender n) w k = split (nat_lt n MAX_BY_PEER) _ _ (λ few. comes_to_sender_keeps n w.to_sender w few k.local k.moment k.core) (λ _. k)
   keeps (Comes_to_receiver n) w k = split (nat_lt n MAX_BY_PEER) _ _ (λ few. comes_to_receiver_keeps n w.to_receiver w few k.local k.moment k.core) (λ _. k)
-  keeps Text_goes_out w k = (let m = sk-cut pair sd w.sender.past (or_new w.receiver.end) (live_got w.receiver.end w.receiver.past) w.to_receiver w.to_sender w.text (r_firm w k.local) w.sender.end (s_firm w k.local) k.core in s_step all.Text_goes_out w k.local k.moment (shut all.Text_goes_out w (λ z x y u e. cc e) (λ x y z e. cc e)) m.fine m.core)
+  keeps Text_goes_out w k = (let m = sk-cut pair sd w.sender.past (or_new w.receiver.end) (live_got w.receiver.end w.receiver.past) w.to_receiver w.to_sender w.text (r_firm w k.local) w.sender.end (s_firm w k.local) k.core in s_step Happening.Text_goes_out w k.local k.moment (shut Happening.Text_goes_out w (λ z x y u e. cc e) (λ x y z e. cc e)) m.fine m.core)
   keeps (Text_comes head) w k = text_comes_keeps head w.text w k.local k.moment k.core
   keeps (Text_is_answered how) w k = text_is_answered_keeps how w.text w k.local k.moment k.core
 
-  keeps_from : (es : List Event) (w : Connection) → Inv pair w → Inv pair (occur_from pair es w)
+  keeps_from : (es : List ConnectionEvent) (w : Connection) → Inv pair w → Inv pair (occur_from pair es w)
   keeps_from [] w k = k
   keeps_from (e ∷ es) w k = keeps_from es (occurs pair e w) (keeps e w k)
 
@@ -301,7 +299,7 @@ module _ (pair : Pair) (sd : sends pair ≡ true) where
     );
   }
 
-  pub ever : (es : List Event) → Inv pair (occur pair es)
+  pub ever : (es : List ConnectionEvent) → Inv pair (occur pair es)
   ever es = keeps_from es new_connection (record {
     local = record { safe = refl; s_sound = tt; r_sound = tt; s_stands = refl; r_stands = refl; books = tt };
     core = new_core [];
@@ -316,7 +314,7 @@ module _ (pair : Pair) (sd : sends pair ≡ true) where
       let b = and_parts e.asked e.heard a.0 in
       (b.0, b.1, not-true (is_going e) a.1)
 
-  pub both_open : (w : Connection) → Inv pair w → BothOpen w → MessagesAgree w × BitsAgree w × Parted w
+  pub both_open : (w : Connection) → Inv pair w → BothOpenOnConnection w → MessagesAgreeOnConnection w × BitsAgreeOnConnection w × PartedOnConnection w
   both_open w k o = go k.core.place k.core.joint
     where
       s : End
@@ -337,8 +335,8 @@ module _ (pair : Pair) (sd : sends pair ≡ true) where
       ro : r.opened ≡ true
       ro = (r_firm w k.local).opens rv (open_parts r o.1).0 (open_parts r o.1).1
 
-      go : (d : Place) → Joint d s w.sender.past.given r (live_got w.receiver.end w.receiver.past) w.to_receiver w.to_sender w.text → MessagesAgree w × BitsAgree w × Parted w
-      go Together j = (j.1.messages rv sv, j.1.bits rv sv, j.1.parted rv sv so ∙ ap (λ (x : List Bool). x ++ (text_bits w.text ++ s.stored)) (R.live w.receiver.end w.receiver.past ro))
+      go : (d : Place) → Joint d s w.sender.past.given r (live_got w.receiver.end w.receiver.past) w.to_receiver w.to_sender w.text → MessagesAgreeOnConnection w × BitsAgreeOnConnection w × PartedOnConnection w
+      go Together j = (j.1.messages rv sv, j.1.bits rv sv, j.1.parted rv sv so ∙ ap (λ (x : List Bool). x ++ (text_bits w.text ++ s.stored)) (live w.receiver.end w.receiver.past ro))
       go Sender_ahead j = absurd (both_ways r.left (going_parts r rv).1 j.left)
       go Receiver_ahead j = absurd (both_ways s.left (going_parts s sv).1 j.left)
 
@@ -353,8 +351,8 @@ module _ (pair : Pair) (sd : sends pair ≡ true) where
       held None b v l = absurd (both_ways false refl v)
       held (Some e) b v l = b.held v l
 
-  pub what_begins : (w : Connection) → Inv pair w → Begins w
-  what_begins w k v = subst (λ (x : List Bool). IsBeginning x w.sender.past.given) (R.live w.receiver.end w.receiver.past (live_opened w.receiver.end ∙ v)) k.core.begun
+  pub what_begins : (w : Connection) → Inv pair w → BeginsOnConnection w
+  what_begins w k v = subst (λ (x : List Bool). IsBeginning x w.sender.past.given) (live w.receiver.end w.receiver.past (live_opened w.receiver.end ∙ v)) k.core.begun
 
   -- from its output to its RFNM both ends have opened
   pub out_is_opened : (w : Connection) → Inv pair w → OutIsOpened w

@@ -5,9 +5,9 @@ use Rattle.std.specs.Prelude.{◌≡◌, ℕ, Bool, true, false, ◌||◌, if◌
 use Rattle.ncp_model.specs.declared.pair.Pair.{Pair}
 use Rattle.ncp_model.specs.End.{is_live}
 use Rattle.ncp_model.specs.Texts.{Answer, Rfnm}
-use Rattle.ncp_model.specs.Happenings as all
-use Rattle.ncp_proof_connection.specs.Connections.{Text, No_text, Away, Here, Connection, new_connection, sender_does, receiver_does, Event, Sender_calls, Receiver_calls, Comes_to_sender, Comes_to_receiver, Text_goes_out, Text_comes, Text_is_answered, occurs}
-use Rattle.ncp_proof_connection.specs.Ledger.{is_out}
+use Rattle.ncp_model.specs.Happenings.{Happening}
+use Rattle.ncp_proof_connection.specs.Connections.{Text, No_text, Away, Here, Connection, new_connection, sender_does, receiver_does, ConnectionEvent, Sender_calls, Receiver_calls, Comes_to_sender, Comes_to_receiver, Text_goes_out, Text_comes, Text_is_answered, occurs}
+use Rattle.ncp_proof_connection.specs.Ledger.{is_text_out}
 
 pub record Hosted : Type 0 where
   pub connection : Connection
@@ -18,7 +18,7 @@ abbrev pub new_hosted : Hosted
 new_hosted = record { connection = new_connection; sends = true; receives = true }
 
 -- whether this is a matter of the sender's host, or of the receiver's
-abbrev pub is_at_sender : Event → Bool
+abbrev pub is_at_sender : ConnectionEvent → Bool
 is_at_sender (Sender_calls what) = true
 is_at_sender (Receiver_calls what) = false
 is_at_sender (Comes_to_sender by_peer) = true
@@ -38,7 +38,7 @@ text_over Rfnm (Here on) = No_text
 text_over how text = text
 
 -- at a host that was cleared: what comes is dropped, and nothing else happens
-abbrev pub misses : Event → Connection → Connection
+abbrev pub misses : ConnectionEvent → Connection → Connection
 misses (Sender_calls what) w = w
 misses (Receiver_calls what) w = w
 misses (Comes_to_sender by_peer) w = record w { to_sender = drop 1 w.to_sender }
@@ -50,7 +50,7 @@ misses (Text_is_answered how) w = record w { text = text_over how w.text }
 -- A host that is cleared has no end, and of what it made only so many commands are on the line: the
 -- rest waited, and is struck. A text that is out stays out.
 pub data Change : Type 0 where
-  Occurs : (event : Event) → Change
+  Occurs : (event : ConnectionEvent) → Change
   Sender_is_cleared : (on_line : ℕ) → Change
   Receiver_is_cleared : (on_line : ℕ) → Change
   Starts_anew : Change  -- both hosts were cleared, and no text is out
@@ -64,9 +64,9 @@ abbrev pub changes : Pair → Change → Hosted → Hosted
 changes pair (Occurs e) h =
     record h { connection = if (if is_at_sender e then h.sends else h.receives) then occurs pair e h.connection else misses e h.connection }
 changes pair (Sender_is_cleared n) h =
-    record h { connection = record (sender_does pair all.Is_cleared h.connection) { to_receiver = take n h.connection.to_receiver }; sends = false }
+    record h { connection = record (sender_does pair Happening.Is_cleared h.connection) { to_receiver = take n h.connection.to_receiver }; sends = false }
 changes pair (Receiver_is_cleared n) h =
-    record h { connection = record (receiver_does pair all.Is_cleared h.connection) { to_sender = take n h.connection.to_sender }; receives = false }
+    record h { connection = record (receiver_does pair Happening.Is_cleared h.connection) { to_sender = take n h.connection.to_sender }; receives = false }
 changes pair Starts_anew h = starts_anew h.connection.text h
 
 abbrev pub change_from : Pair → List Change → Hosted → Hosted
@@ -79,5 +79,5 @@ change pair cs = change_from pair cs new_hosted
 -- while a text is out, the end at each host that was not cleared has opened
 abbrev pub OutStaysOpened : Hosted → Type 0
 OutStaysOpened h =
-    is_out h.connection.text ≡ true
+    is_text_out h.connection.text ≡ true
     → (h.sends ≡ true → is_live h.connection.sender.end ≡ true) × (h.receives ≡ true → is_live h.connection.receiver.end ≡ true)

@@ -11,7 +11,6 @@ use Rattle.ncp_model.specs.End.{End, or_new}
 use Rattle.ncp_model.specs.Act.{is_data_link}
 use Rattle.ncp_model.specs.Texts.{Answer, Rfnm, Incomplete, Dead}
 use Rattle.ncp_model.specs.Happenings.{Happening, Outcome, Happened, happens, is_violation}
-use Rattle.ncp_model.specs.Happenings as all
 use Rattle.ncp_proof_watch.specs.Histories.{Watched, no_past, watches}
 use Rattle.ncp_model.specs.Pairs.{turned}
 
@@ -37,9 +36,9 @@ abbrev pub new_connection : Connection
 new_connection = record { sender = no_end; receiver = no_end; to_receiver = []; to_sender = []; text = No_text; violated = false }
 
 -- the text that is out once this happened at a sender's end with this link
-abbrev pub text_after : ℕ → Outcome → Text → Text
-text_after on (all.Sent of_size bits) text = Away on of_size bits
-text_after on outcome text = text
+abbrev pub text_after_outcome : ℕ → Outcome → Text → Text
+text_after_outcome on (Outcome.Sent of_size bits) text = Away on of_size bits
+text_after_outcome on outcome text = text
 
 -- This happens at an end. The pair is named as the sender's host has it. What is made is underway.
 
@@ -49,7 +48,7 @@ sender_does pair what w =
     record w {
       sender = watches pair what w.sender;
       to_receiver = w.to_receiver ++ did.made;
-      text = text_after (or_new w.sender.end).link did.outcome w.text;
+      text = text_after_outcome (or_new w.sender.end).link did.outcome w.text;
       violated = w.violated || is_violation did.outcome;
     }
 
@@ -64,40 +63,40 @@ receiver_does pair what w =
 
 -- what a user may call; a receiver asks with a link that carries connections
 abbrev pub is_call : Happening → Bool
-is_call (all.Asks_to_send of_size with_room own full) = true
-is_call (all.Asks_to_receive with_room on own full) = is_data_link on
-is_call (all.Closes full) = true
-is_call (all.Gives text) = true
-is_call (all.Takes bytes) = true
-is_call (all.Allocates of_messages of_bits full) = true
-is_call (all.Calls_back of_messages of_bits full) = true
-is_call (all.Interrupts full) = true
+is_call (Happening.Asks_to_send of_size with_room own full) = true
+is_call (Happening.Asks_to_receive with_room on own full) = is_data_link on
+is_call (Happening.Closes full) = true
+is_call (Happening.Gives text) = true
+is_call (Happening.Takes bytes) = true
+is_call (Happening.Allocates of_messages of_bits full) = true
+is_call (Happening.Calls_back of_messages of_bits full) = true
+is_call (Happening.Interrupts full) = true
 is_call what = false
 
 -- What its coming is to the end for which it was made. That a request names no link that another
 -- end heard is what the law on links says; by_peer: so many ends are there by the peer's request
 -- alone.
 abbrev pub command_comes : ℕ → Command → Option Happening
-command_comes by_peer (Rts receive send on) = Some (all.Rts_comes on false by_peer)
-command_comes by_peer (Str send receive of_size) = Some (all.Str_comes of_size by_peer)
-command_comes by_peer (Cls my your) = Some all.Cls_comes
-command_comes by_peer (All on of_messages of_bits) = Some (all.All_comes on of_messages of_bits)
-command_comes by_peer (Gvb on of_messages of_bits) = Some (all.Gvb_comes on of_messages of_bits)
-command_comes by_peer (Ret on of_messages of_bits) = Some (all.Ret_comes on of_messages of_bits)
-command_comes by_peer (Inr on) = Some (all.Inr_comes on)
-command_comes by_peer (Ins on) = Some (all.Ins_comes on)
+command_comes by_peer (Rts receive send on) = Some (Happening.Rts_comes on false by_peer)
+command_comes by_peer (Str send receive of_size) = Some (Happening.Str_comes of_size by_peer)
+command_comes by_peer (Cls my your) = Some Happening.Cls_comes
+command_comes by_peer (All on of_messages of_bits) = Some (Happening.All_comes on of_messages of_bits)
+command_comes by_peer (Gvb on of_messages of_bits) = Some (Happening.Gvb_comes on of_messages of_bits)
+command_comes by_peer (Ret on of_messages of_bits) = Some (Happening.Ret_comes on of_messages of_bits)
+command_comes by_peer (Inr on) = Some (Happening.Inr_comes on)
+command_comes by_peer (Ins on) = Some (Happening.Ins_comes on)
 command_comes by_peer c = None
 
 -- The things that happen. A host that would answer Full goes down, which is a clearing and no event
 -- here: so a command comes where fewer than 64 ends are there by the peer's request alone.
-pub data Event : Type 0 where
-  Sender_calls : (what : Happening) → Event
-  Receiver_calls : (what : Happening) → Event
-  Comes_to_sender : (by_peer : ℕ) → Event  -- the first command underway
-  Comes_to_receiver : (by_peer : ℕ) → Event
-  Text_goes_out : Event
-  Text_comes : (head : List Bool) → Event  -- with this leader and prefix
-  Text_is_answered : (how : Answer) → Event
+pub data ConnectionEvent : Type 0 where
+  Sender_calls : (what : Happening) → ConnectionEvent
+  Receiver_calls : (what : Happening) → ConnectionEvent
+  Comes_to_sender : (by_peer : ℕ) → ConnectionEvent  -- the first command underway
+  Comes_to_receiver : (by_peer : ℕ) → ConnectionEvent
+  Text_goes_out : ConnectionEvent
+  Text_comes : (head : List Bool) → ConnectionEvent  -- with this leader and prefix
+  Text_is_answered : (how : Answer) → ConnectionEvent
 
 abbrev pub sender_hears : Pair → Option Happening → Connection → Connection
 sender_hears pair None w = w
@@ -117,31 +116,31 @@ comes_to_receiver pair by_peer (c ∷ rest) w = receiver_hears pair (command_com
 
 abbrev pub text_comes : Pair → List Bool → Text → Connection → Connection
 text_comes pair head No_text w = w
-text_comes pair head (Away on of_size bits) w = receiver_does pair (all.Text_comes head of_size bits) (record w { text = Here on })
+text_comes pair head (Away on of_size bits) w = receiver_does pair (Happening.Text_comes head of_size bits) (record w { text = Here on })
 text_comes pair head (Here on) w = w
 
 -- A text that came is answered by RFNM. One that has not come is answered as not delivered: it is
 -- still out, and goes out again.
 abbrev pub text_is_answered : Pair → Answer → Text → Connection → Connection
-text_is_answered pair Rfnm (Here on) w = sender_does pair (all.Is_answered Rfnm) (record w { text = No_text })
-text_is_answered pair Incomplete (Away on of_size bits) w = sender_does pair (all.Is_answered Incomplete) w
-text_is_answered pair Dead (Away on of_size bits) w = sender_does pair (all.Is_answered Dead) w
+text_is_answered pair Rfnm (Here on) w = sender_does pair (Happening.Is_answered Rfnm) (record w { text = No_text })
+text_is_answered pair Incomplete (Away on of_size bits) w = sender_does pair (Happening.Is_answered Incomplete) w
+text_is_answered pair Dead (Away on of_size bits) w = sender_does pair (Happening.Is_answered Dead) w
 text_is_answered pair how text w = w
 
-abbrev pub occurs : Pair → Event → Connection → Connection
+abbrev pub occurs : Pair → ConnectionEvent → Connection → Connection
 occurs pair (Sender_calls what) w = if is_call what then sender_does pair what w else w
 occurs pair (Receiver_calls what) w = if is_call what then receiver_does pair what w else w
 occurs pair (Comes_to_sender by_peer) w = if nat_lt by_peer MAX_BY_PEER then comes_to_sender pair by_peer w.to_sender w else w
 occurs pair (Comes_to_receiver by_peer) w = if nat_lt by_peer MAX_BY_PEER then comes_to_receiver pair by_peer w.to_receiver w else w
-occurs pair Text_goes_out w = sender_does pair all.Text_goes_out w
+occurs pair Text_goes_out w = sender_does pair Happening.Text_goes_out w
 occurs pair (Text_comes head) w = text_comes pair head w.text w
 occurs pair (Text_is_answered how) w = text_is_answered pair how w.text w
 
 -- what comes is taken, or is late
 abbrev pub is_in_order : Outcome → Bool
-is_in_order all.Accepted = true
-is_in_order all.Admitted = true
-is_in_order all.Late = true
+is_in_order Outcome.Accepted = true
+is_in_order Outcome.Admitted = true
+is_in_order Outcome.Late = true
 is_in_order outcome = false
 
 -- so this command is, whose coming is this; no other commands are underway
@@ -150,9 +149,9 @@ ComesInOrder pair None end = ⊥
 ComesInOrder pair (Some what) end = is_in_order (happens pair what end).outcome ≡ true
 
 -- the connection after these events, in order
-abbrev pub occur_from : Pair → List Event → Connection → Connection
+abbrev pub occur_from : Pair → List ConnectionEvent → Connection → Connection
 occur_from pair [] w = w
 occur_from pair (e ∷ more) w = occur_from pair more (occurs pair e w)
 
-abbrev pub occur : Pair → List Event → Connection
+abbrev pub occur : Pair → List ConnectionEvent → Connection
 occur pair events = occur_from pair events new_connection

@@ -3,14 +3,14 @@ ghost use Rattle.std.specs.Prelude.{◌≡◌, true, false, ◌++◌, [], ◌∷
 ghost use Rattle.ncp_model.specs.End.{is_open};
 ghost use Rattle.ncp_model.specs.Rows.{outward, ones, noughts};
 ghost use Rattle.ncp_proof_connection.specs.Connections.{Text, No_text, Away, Here, occur};
-ghost use Rattle.ncp_proof_connection.specs.Ledger.{BothOpen, sending, receiving};
+ghost use Rattle.ncp_proof_connection.specs.Ledger.{BothOpenOnConnection, sending, receiving};
 ghost use Rattle.ncp_proof_connection.specs.Clearings.{change};
-ghost use Rattle.ncp_proof_connection.specs.Runs.{opening, text_out, text_got, receiver_closes, sender_closes, called_back, receiver_cleared, opened_anew};
+ghost use Rattle.ncp_proof_connection.specs.Runs.{opening, text_sent, text_got, receiver_closes, sender_closes, called_back, receiver_cleared, opened_anew};
 
 /// Both ends open, two bytes of three go out, and are got; what is outstanding agrees with the counters.
 pub fn a_text_is_got()
-    ensures open { BothOpen (occur outward text_got) }
-    ensures out { (occur outward text_out).text ≡ Away 2 8 (ones 16) }
+    ensures open { BothOpenOnConnection (occur outward text_got) }
+    ensures out { (occur outward text_sent).text ≡ Away 2 8 (ones 16) }
     ensures got { (occur outward text_got).receiver.past.got ≡ ones 16 }
     ensures waiting { (sending (occur outward text_got)).stored ≡ noughts 8 }
     ensures outstanding { ((receiving (occur outward text_got)).messages ≡ 1) × ((receiving (occur outward text_got)).bits ≡ 0) }
@@ -19,7 +19,7 @@ pub fn a_text_is_got()
 
 /// A part of the allocation is called back, and an interrupt comes each way.
 pub fn a_part_is_called_back()
-    ensures open { BothOpen (occur outward called_back) }
+    ensures open { BothOpenOnConnection (occur outward called_back) }
     ensures outstanding { ((receiving (occur outward called_back)).messages ≡ 1) × ((receiving (occur outward called_back)).bits ≡ 0) }
     ensures counters { ((sending (occur outward called_back)).messages ≡ 1) × ((sending (occur outward called_back)).bits ≡ 0) }
     ensures interrupts { ((sending (occur outward called_back)).interrupts ≡ 1) × ((receiving (occur outward called_back)).interrupts ≡ 1) }
@@ -37,7 +37,7 @@ pub fn either_side_closes_with_a_text_out()
 
 /// After that the same pair opens again on the same link, and what is given and got counts anew.
 pub fn a_pair_opens_again_on_its_link()
-    ensures open { BothOpen (occur outward (receiver_closes ++ opening)) }
+    ensures open { BothOpenOnConnection (occur outward (receiver_closes ++ opening)) }
     ensures link { ((sending (occur outward (receiver_closes ++ opening))).link ≡ 2) × ((receiving (occur outward (receiver_closes ++ opening))).link ≡ 2) }
     ensures anew { ((occur outward (sender_closes ++ text_got)).receiver.past.got ≡ ones 16) × ((occur outward (sender_closes ++ opening)).sender.past.given ≡ []) }
 {}
@@ -46,5 +46,5 @@ pub fn a_pair_opens_again_on_its_link()
 /// a connection opens anew.
 pub fn a_host_is_cleared_with_a_text_out()
     ensures cleared { ((change outward receiver_cleared).connection.receiver.end ≡ None) × ((change outward receiver_cleared).connection.text ≡ Away 2 8 (ones 16)) × ((sending (change outward receiver_cleared).connection).busy ≡ true) }
-    ensures anew { BothOpen (change outward opened_anew).connection }
+    ensures anew { BothOpenOnConnection (change outward opened_anew).connection }
 {}

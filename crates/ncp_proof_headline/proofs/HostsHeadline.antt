@@ -12,16 +12,15 @@ use Rattle.ncp_model.specs.End.{End, or_new, is_open, is_live}
 use Rattle.ncp_model.specs.Ends.{Ends, no_ends, hears_link, uses_link}
 use Rattle.ncp_model.specs.Leading.{passes}
 use Rattle.ncp_proof_watch.specs.Histories.{Watched, IsBeginning}
-use Rattle.ncp_proof_resets.specs.Delivery.{Slot, Subnet, Accepted, Link}
+use Rattle.ncp_proof_resets.specs.Delivery.{Slot, MessageTransit, Accepted, Link}
 use Rattle.ncp_proof_watch.specs.Books.{BooksAt}
 use Rattle.ncp_proof_connection.specs.Connections.{Text, No_text, Away, Here}
-use Rattle.ncp_proof_connection.specs.Ledger.{sum_of, text_messages, text_bits, is_out}
-use Rattle.ncp_proof_connection.specs.Ledger as ledger
-use Rattle.ncp_proof_sharing.specs.Sharing.{Shared, only, at}
+use Rattle.ncp_proof_connection.specs.Ledger.{sum_of, text_messages, text_bits, is_text_out, BitsAgreeOnConnection, BothOpenOnConnection, MessagesAgreeOnConnection, PartedOnConnection}
+use Rattle.ncp_proof_sharing.specs.Sharing.{Shared, only, connection_at}
 use Rattle.ncp_proof_sharing.specs.Finding.{link_out}
-use Rattle.ncp_proof_resets.specs.Resets.{Host, is_up}
-use Rattle.ncp_proof_machine.specs.Hosts.{TextOut, Node, World, past_of, is_empty, hears, hears_all}
-use Rattle.ncp_proof_headline.specs.Headline.{BothOpen, sender_at, receiver_at, sum_on, not_come, how_many, bits_of, text_underway, commands_there, commands_back, MessagesAgree, BitsAgree, OnOneLink, WithinAllocation, Parted, TakenOrHeld, Begins, StaysOut, SenderOpens, ReceiverOpens, SenderOpensAt, ReceiverOpensAt}
+use Rattle.ncp_proof_resets.specs.Resets.{ResetHost, is_up}
+use Rattle.ncp_proof_machine.specs.Hosts.{TextOut, Node, TwoNodes, past_of, is_empty, node_hears, node_hears_all}
+use Rattle.ncp_proof_headline.specs.Headline.{BothOpenInModel, sender_in_model, receiver_in_model, sum_on, message_not_come, how_many_texts, bits_of_text, text_underway, commands_there, commands_back, MessagesAgreeInModel, BitsAgreeInModel, OnOneLink, WithinAllocationInModel, PartedInModel, TakenOrHeld, BeginsInModel, StaysOut, SenderOpens, ReceiverOpens, SenderOpensAt, ReceiverOpensAt}
 use Rattle.ncp_proof_connection.proofs.Outliving.{fit_open, fit_held, fit_begins, fit_books, fit_opened}
 use Rattle.ncp_model.proofs.ResetLists.{bit, rsts, rrps}
 use Rattle.ncp_proof_headline.proofs.Lives.{live, fronts}
@@ -29,7 +28,7 @@ use Rattle.ncp_proof_machine.proofs.EndsGood.{Good}
 use Rattle.ncp_proof_headline.proofs.OpensNot.{none-live-heard}
 use Rattle.ncp_proof_machine.proofs.HostsBase.{hears_all-texts}
 use Rattle.ncp_proof_machine.proofs.HostsStand.{BothStand, hearing-stands, hearing_all-stands}
-use Rattle.ncp_proof_headline.specs.Tied.{watched}
+use Rattle.ncp_proof_headline.specs.Tied.{watched_at}
 use Rattle.ncp_proof_headline.proofs.Ties.{Owners, Carried, Owned, ties-turned, text_on, commands_of}
 use Rattle.ncp_proof_headline.proofs.TiesBase.{all-fit}
 use Rattle.ncp_proof_headline.proofs.TiesTexts.{text-out-stands, text-out-stands-here}
@@ -47,7 +46,7 @@ fronts_all (Rrp ∷ u) r p = absurd (omega arith)
 fronts_all (c ∷ u) r p = ap (λ (l : List Command). c ∷ l) (fronts_all u (omega arith) (omega arith))
 
 -- what has not come of the text on a link, its messages and its bits
-text-not-come : (on : ℕ) (slot : Slot TextOut) (subnet : Subnet TextOut) → (text_messages (text_on on slot subnet) ≡ how_many (not_come slot subnet)) × (text_bits (text_on on slot subnet) ≡ bits_of (not_come slot subnet))
+text-not-come : (on : ℕ) (slot : Slot TextOut) (subnet : MessageTransit TextOut) → (text_messages (text_on on slot subnet) ≡ how_many_texts (message_not_come slot subnet)) × (text_bits (text_on on slot subnet) ≡ bits_of_text (message_not_come slot subnet))
 text-not-come on slot subnet = (grind arith, grind arith)
 
 -- an end that is open is there, and holds its link
@@ -66,14 +65,14 @@ hears-once : (on : ℕ) (p : Pair) (b : Option End) → passes (hears_link on) p
 hears-once on p None h = absurd (cc h)
 hears-once on p (Some e) h = grind arith
 
-by_up : {A : Type 0} (h : Host) → (is_up h ≡ true → A) → (is_up h ≡ false → A) → A
+by_up : {A : Type 0} (h : ResetHost) → (is_up h ≡ true → A) → (is_up h ≡ false → A) → A
 by_up {A} h f g = go (is_up h) refl
   where
     go : (b : Bool) → is_up h ≡ b → A
     go true e = f e
     go false e = g e
 
-module _ (own own' : Owners) (w : World) (k : Holds own own' w) (b : BothStand w) (p : Pair) (sp : sends p ≡ true) where
+module _ (own own' : Owners) (w : TwoNodes) (k : Holds own own' w) (b : BothStand w) (p : Pair) (sp : sends p ≡ true) where
   abbrev g : Shared
   g = k.joined.ties.g
 
@@ -81,28 +80,28 @@ module _ (own own' : Owners) (w : World) (k : Holds own own' w) (b : BothStand w
   back = k.joined.ties.back
 
   -- the two ends and their pasts
-  sender_is : g.sender p ≡ watched w.this p
+  sender_is : g.sender p ≡ watched_at w.this p
   sender_is = k.joined.ties.there.sender p sp
 
-  receiver_is : g.receiver p ≡ watched w.that (turned p)
+  receiver_is : g.receiver p ≡ watched_at w.that (turned p)
   receiver_is = k.joined.ties.there.receiver p sp
 
   pub held_all : TakenOrHeld p w
   held_all = subst (λ (o : Watched). is_live o.end ≡ true → (or_new o.end).left ≡ false → o.past.got ≡ o.past.taken ++ (or_new o.end).stored) receiver_is
-      (fit_held p sp g.sends g.receives (at p g) (all-fit g k.joined.ties.reached p sp))
+      (fit_held p sp g.sends g.receives (connection_at p g) (all-fit g k.joined.ties.reached p sp))
 
-  pub begins : Begins p w
+  pub begins : BeginsInModel p w
   begins = subst (λ (o : Watched). is_live o.end ≡ true → IsBeginning o.past.got (past_of w.this.pasts p).given) receiver_is
       (subst (λ (o : Watched). is_live (g.receiver p).end ≡ true → IsBeginning (g.receiver p).past.got o.past.given) sender_is
-      (fit_begins p sp g.sends g.receives (at p g) (all-fit g k.joined.ties.reached p sp)))
+      (fit_begins p sp g.sends g.receives (connection_at p g) (all-fit g k.joined.ties.reached p sp)))
 
-  pub within : WithinAllocation p w
-  within = subst (λ (o : Watched). BooksAt o.end o.past) receiver_is (fit_books p sp g.sends g.receives (at p g) (all-fit g k.joined.ties.reached p sp))
+  pub within : WithinAllocationInModel p w
+  within = subst (λ (o : Watched). BooksAt o.end o.past) receiver_is (fit_books p sp g.sends g.receives (connection_at p g) (all-fit g k.joined.ties.reached p sp))
 
-  this_up : is_open (sender_at p w) ≡ true → is_up w.this.host ≡ true
+  this_up : is_open (sender_in_model p w) ≡ true → is_up w.this.host ≡ true
   this_up o = by_up w.this.host (λ e. e) (λ e. absurd (open-there w.this.ends p o (k.joined.this.none e)))
 
-  that_up : is_open (receiver_at p w) ≡ true → is_up w.that.host ≡ true
+  that_up : is_open (receiver_in_model p w) ≡ true → is_up w.that.host ≡ true
   that_up o = by_up w.that.host (λ e. e) (λ e. absurd (open-there w.that.ends (turned p) o (k.joined.that.none e)))
 
   alive : is_up w.this.host ≡ true → is_alive w.this w.that (y w) ≡ true
@@ -120,9 +119,9 @@ module _ (own own' : Owners) (w : World) (k : Holds own own' w) (b : BothStand w
   lives_back e f = ap (λ (c : Bool). live c (commands_back w)) (up_waits w.this.host e) ∙ fronts_all (commands_back w) (omega (arith, k.joined.kept.here.count, ap (λ (c : Bool). bit c) (up_waits w.that.host f))) (omega (arith, k.joined.kept.there.count, ap (λ (c : Bool). bit c) (up_waits w.this.host e)))
 
   -- the text of the pair is the one on its link
-  module _ (o : is_open (sender_at p w) ≡ true) where
+  module _ (o : is_open (sender_in_model p w) ≡ true) where
     abbrev its_link : ℕ
-    its_link = (sender_at p w).link
+    its_link = (sender_in_model p w).link
 
     stands : (q : Pair) (l : ℕ) → own l ≡ Some q → passes (hears_link l) q (get w.this.ends q) ≡ true
     stands q l e = text-out-stands-here (is_alive w.this w.that (y w)) (is_alive w.that w.this (x w)) own own' w.this w.that (lives w.this w.that (x w)) (lives w.that w.this (y w)) l q (alive (this_up o)) e k.joined.ties
@@ -147,37 +146,37 @@ module _ (own own' : Owners) (w : World) (k : Holds own own' w) (b : BothStand w
             let same : q ≡ p = b.0.good.heard its_link q p (stands q its_link e) (open-hears p (get w.this.ends p) sp o) in
             subst (λ (r : Pair). g.text r ≡ text_on its_link (w.this.texts its_link).slot (w.this.texts its_link).subnet) same l.text
 
-    messages_out : text_messages (g.text p) ≡ how_many (text_underway p w)
+    messages_out : text_messages (g.text p) ≡ how_many_texts (text_underway p w)
     messages_out = ap text_messages text_is ∙ (text-not-come its_link (w.this.texts its_link).slot (w.this.texts its_link).subnet).0
 
-    bits_out : text_bits (g.text p) ≡ bits_of (text_underway p w)
+    bits_out : text_bits (g.text p) ≡ bits_of_text (text_underway p w)
     bits_out = ap text_bits text_is ∙ (text-not-come its_link (w.this.texts its_link).slot (w.this.texts its_link).subnet).1
 
-  module _ (both : BothOpen p w) where
+  module _ (both : BothOpenInModel p w) where
     here_up : is_up w.this.host ≡ true
     here_up = this_up both.0
 
     there_up : is_up w.that.host ≡ true
     there_up = that_up both.1
 
-    are_open : ledger.BothOpen (at p g)
+    are_open : BothOpenOnConnection (connection_at p g)
     are_open = (subst (λ (o : Watched). is_open (or_new o.end) ≡ true) (sym sender_is) both.0, subst (λ (o : Watched). is_open (or_new o.end) ≡ true) (sym receiver_is) both.1)
 
-    agree : ledger.MessagesAgree (at p g) × ledger.BitsAgree (at p g) × ledger.Parted (at p g)
-    agree = fit_open p sp g.sends g.receives (at p g) (all-fit g k.joined.ties.reached p sp) are_open
+    agree : MessagesAgreeOnConnection (connection_at p g) × BitsAgreeOnConnection (connection_at p g) × PartedOnConnection (connection_at p g)
+    agree = fit_open p sp g.sends g.receives (connection_at p g) (all-fit g k.joined.ties.reached p sp) are_open
 
-    counted : (f : Command → ℕ) (cs ds : List Command) → cs ≡ ds → sum_on (or_new (g.sender p).end).link f cs ≡ sum_on (sender_at p w).link f ds
-    counted f cs ds e = ap (λ (o : Watched). sum_on (or_new o.end).link f cs) sender_is ∙ ap (sum_on (sender_at p w).link f) e
+    counted : (f : Command → ℕ) (cs ds : List Command) → cs ≡ ds → sum_on (or_new (g.sender p).end).link f cs ≡ sum_on (sender_in_model p w).link f ds
+    counted f cs ds e = ap (λ (o : Watched). sum_on (or_new o.end).link f cs) sender_is ∙ ap (sum_on (sender_in_model p w).link f) e
 
     -- of ALL, and of RET
-    grants : (sum_of granted_messages (only p g.to_senders) ≡ sum_on (sender_at p w).link granted_messages (commands_back w)) × (sum_of granted_bits (only p g.to_senders) ≡ sum_on (sender_at p w).link granted_bits (commands_back w))
+    grants : (sum_of granted_messages (only p g.to_senders) ≡ sum_on (sender_in_model p w).link granted_messages (commands_back w)) × (sum_of granted_bits (only p g.to_senders) ≡ sum_on (sender_in_model p w).link granted_bits (commands_back w))
     grants =
         let c = k.joined.ties.coming (alive here_up) in
         let same = c.commands ∙ lives_back here_up there_up in
         let e = granted-all g back p back.to_receivers k.joined.ties.reached k.joined.ties.reached_back (k.joined.ties.there.alive ∙ alive here_up) (k.joined.ties.there.alive_too ∙ alive_there there_up) (k.joined.ties.here.alive ∙ alive_there there_up) (k.joined.ties.here.alive_too ∙ alive here_up) c.same refl c.apt sp are_open in
         (sym e.0 ∙ counted granted_messages (commands_of back.to_receivers) (commands_back w) same, sym e.1 ∙ counted granted_bits (commands_of back.to_receivers) (commands_back w) same)
 
-    returns : (sum_of returned_messages (only p g.to_receivers) ≡ sum_on (sender_at p w).link returned_messages (commands_there w)) × (sum_of returned_bits (only p g.to_receivers) ≡ sum_on (sender_at p w).link returned_bits (commands_there w))
+    returns : (sum_of returned_messages (only p g.to_receivers) ≡ sum_on (sender_in_model p w).link returned_messages (commands_there w)) × (sum_of returned_bits (only p g.to_receivers) ≡ sum_on (sender_in_model p w).link returned_bits (commands_there w))
     returns =
         let c = k.joined.ties.going (alive_there there_up) in
         let same = c.commands ∙ lives_there here_up there_up in
@@ -185,38 +184,38 @@ module _ (own own' : Owners) (w : World) (k : Holds own own' w) (b : BothStand w
         (sym e.0 ∙ counted returned_messages (commands_of g.to_receivers) (commands_there w) same, sym e.1 ∙ counted returned_bits (commands_of g.to_receivers) (commands_there w) same)
 
     -- an equation of the machine, said of the hosts
-    said : (r : Watched → ℕ) (s : Watched → ℕ) (a t d a' t' d' : ℕ) → a ≡ a' → t ≡ t' → d ≡ d' → r (g.receiver p) ≡ s (g.sender p) + (a + (t + d)) → r (watched w.that (turned p)) ≡ s (watched w.this p) + (a' + (t' + d'))
+    said : (r : Watched → ℕ) (s : Watched → ℕ) (a t d a' t' d' : ℕ) → a ≡ a' → t ≡ t' → d ≡ d' → r (g.receiver p) ≡ s (g.sender p) + (a + (t + d)) → r (watched_at w.that (turned p)) ≡ s (watched_at w.this p) + (a' + (t' + d'))
     said r s a t d a' t' d' e f h j =
-        subst (λ (i : ℕ). r (watched w.that (turned p)) ≡ s (watched w.this p) + (a' + (t' + i))) h
-        (subst (λ (i : ℕ). r (watched w.that (turned p)) ≡ s (watched w.this p) + (a' + (i + d))) f
-        (subst (λ (i : ℕ). r (watched w.that (turned p)) ≡ s (watched w.this p) + (i + (t + d))) e
+        subst (λ (i : ℕ). r (watched_at w.that (turned p)) ≡ s (watched_at w.this p) + (a' + (t' + i))) h
+        (subst (λ (i : ℕ). r (watched_at w.that (turned p)) ≡ s (watched_at w.this p) + (a' + (i + d))) f
+        (subst (λ (i : ℕ). r (watched_at w.that (turned p)) ≡ s (watched_at w.this p) + (i + (t + d))) e
         (sym (ap r receiver_is) ∙ (j ∙ ap (λ (o : Watched). s o + (a + (t + d))) sender_is))))
 
   pub on_one_link : OnOneLink p w
   on_one_link o =
-      subst (λ (v : Watched). (sender_at p w).link ≡ (or_new v.end).link) receiver_is
+      subst (λ (v : Watched). (sender_in_model p w).link ≡ (or_new v.end).link) receiver_is
       (subst (λ (v : Watched). (or_new v.end).link ≡ (or_new (g.receiver p).end).link) sender_is
       (same-link g back p g.to_receivers k.joined.ties.reached k.joined.ties.reached_back (k.joined.ties.there.alive ∙ alive (here_up o)) (k.joined.ties.there.alive_too ∙ alive_there (there_up o)) (k.joined.ties.here.alive ∙ alive_there (there_up o)) (k.joined.ties.here.alive_too ∙ alive (here_up o)) sp (are_open o)))
 
-  pub messages_agree : MessagesAgree p w
+  pub messages_agree : MessagesAgreeInModel p w
   messages_agree o = said o (λ v. (or_new v.end).messages) (λ v. (or_new v.end).messages) (sum_of granted_messages (only p g.to_senders)) (text_messages (g.text p)) (sum_of returned_messages (only p g.to_receivers))
-      (sum_on (sender_at p w).link granted_messages (commands_back w)) (how_many (text_underway p w)) (sum_on (sender_at p w).link returned_messages (commands_there w))
+      (sum_on (sender_in_model p w).link granted_messages (commands_back w)) (how_many_texts (text_underway p w)) (sum_on (sender_in_model p w).link returned_messages (commands_there w))
       (grants o).0 (messages_out o.0) (returns o).0 (agree o).0
 
-  pub bits_agree : BitsAgree p w
+  pub bits_agree : BitsAgreeInModel p w
   bits_agree o = said o (λ v. (or_new v.end).bits) (λ v. (or_new v.end).bits) (sum_of granted_bits (only p g.to_senders)) (length (text_bits (g.text p))) (sum_of returned_bits (only p g.to_receivers))
-      (sum_on (sender_at p w).link granted_bits (commands_back w)) (length (bits_of (text_underway p w))) (sum_on (sender_at p w).link returned_bits (commands_there w))
+      (sum_on (sender_in_model p w).link granted_bits (commands_back w)) (length (bits_of_text (text_underway p w))) (sum_on (sender_in_model p w).link returned_bits (commands_there w))
       (grants o).1 (ap length (bits_out o.0)) (returns o).1 (agree o).1
 
-  pub parted : Parted p w
+  pub parted : PartedInModel p w
   parted o =
-      subst (λ (v : Watched). v.past.given ≡ (past_of w.that.pasts (turned p)).got ++ (bits_of (text_underway p w) ++ (or_new v.end).stored)) sender_is
+      subst (λ (v : Watched). v.past.given ≡ (past_of w.that.pasts (turned p)).got ++ (bits_of_text (text_underway p w) ++ (or_new v.end).stored)) sender_is
       (subst (λ (t : List Bool). (g.sender p).past.given ≡ (past_of w.that.pasts (turned p)).got ++ (t ++ (or_new (g.sender p).end).stored)) (bits_out o.0)
       (subst (λ (v : Watched). (g.sender p).past.given ≡ v.past.got ++ (text_bits (g.text p) ++ (or_new (g.sender p).end).stored)) receiver_is (agree o).2))
 
 -- No pair opens on a link while a text is out on it.
 
-carried_out : (on : ℕ) (slot : Slot TextOut) (subnet : Subnet TextOut) → Carried slot subnet → is_out (text_on on slot subnet) ≡ true
+carried_out : (on : ℕ) (slot : Slot TextOut) (subnet : MessageTransit TextOut) → Carried slot subnet → is_text_out (text_on on slot subnet) ≡ true
 carried_out on slot subnet c = grind arith
 
 -- the owner of a link whose text is out is live, and has the link, at each host that is up
@@ -231,8 +230,8 @@ module _ (own own' : Owners) (n m : Node) (x y : List Command) (k : Joined own o
   peer_up u = up_alive m.host (rrps (x ++ n.host.phase.waiting)) u
 
   out_opened : (k.ties.g.sends ≡ true → is_live (k.ties.g.sender p).end ≡ true) × (k.ties.g.receives ≡ true → is_live (k.ties.g.receiver p).end ≡ true)
-  out_opened = fit_opened p is_owned.sending k.ties.g.sends k.ties.g.receives (at p k.ties.g) (all-fit k.ties.g k.ties.reached p is_owned.sending)
-      (ap is_out is_owned.text ∙ carried_out on (n.texts on).slot (n.texts on).subnet is_owned.carried)
+  out_opened = fit_opened p is_owned.sending k.ties.g.sends k.ties.g.receives (connection_at p k.ties.g) (all-fit k.ties.g k.ties.reached p is_owned.sending)
+      (ap is_text_out is_owned.text ∙ carried_out on (n.texts on).slot (n.texts on).subnet is_owned.carried)
 
   sender_live : is_up n.host ≡ true → is_live (get n.ends p) ≡ true
   sender_live u = sym (ap (λ (o : Watched). is_live o.end) (k.ties.there.sender p is_owned.sending)) ∙ out_opened.0 (k.ties.there.alive ∙ owner_up u)
@@ -280,7 +279,7 @@ out-owner : (own own' : Owners) (n m : Node) (x y : List Command) → Joined own
 out-owner own own' n m x y k on f = owner-of own n.texts k.ties.g.text on k.ties.there.texts (λ z. both_ways (is_empty (n.texts on).slot) f (ap is_empty z))
 
 -- of two worlds, a step apart
-module _ (w after : World) (t : Ever w) (t1 : Ever after) (f : Follows t.own t1.own w.this.texts after.this.texts)
+module _ (w after : TwoNodes) (t : Ever w) (t1 : Ever after) (f : Follows t.own t1.own w.this.texts after.this.texts)
     (none : w.this.ends ≡ no_ends → (p : Pair) → is_live (get after.this.ends p) ≡ false) (none_there : w.that.ends ≡ no_ends → (p : Pair) → is_live (get after.that.ends p) ≡ false)
     (on : ℕ) (out : StaysOut on w after) where
   owner : (p : Pair) × (t.own on ≡ Some p)
@@ -296,28 +295,28 @@ module _ (w after : World) (t : Ever w) (t1 : Ever after) (f : Follows t.own t1.
   receiver-opens-not = receiver-kept t.own t.own' t1.own t1.own' w.this w.that after.this after.that (x w) (y w) (x after) (y after) t.holds.joined t1.holds.joined on owner.0 owner.1 owner_after t1.stand.1.good none_there
 
 -- of the host that hears a message, before a command of it and after that
-module _ (w : World) (t : Ever w) (done rest : List Command) (c : Command) (s : w.that.control.subnet ≡ Accepted (done ++ c ∷ rest)) where
+module _ (w : TwoNodes) (t : Ever w) (done rest : List Command) (c : Command) (s : w.that.control.subnet ≡ Accepted (done ++ c ∷ rest)) where
   abbrev heard : Node
-  heard = hears_all done w.this
+  heard = node_hears_all done w.this
 
   before : Joined t.own t.own' heard w.that (x w) (c ∷ rest)
   before = hears_front t.own t.own' w.this w.that (x w) done (c ∷ rest)
       (accepted t.own t.own' w.this w.that w.this.control.slot w.that.control.slot w.this.control.subnet w.that.control.subnet (done ++ c ∷ rest) t.holds s)
 
-  beyond : Joined t.own t.own' (hears c heard) w.that (x w) rest
+  beyond : Joined t.own t.own' (node_hears c heard) w.that (x w) rest
   beyond = hears-keeps t.own t.own' heard w.that (x w) rest c before
 
-  stays_good : Good (hears c heard).ends
+  stays_good : Good (node_hears c heard).ends
   stays_good = (hearing-stands c heard (hearing_all-stands done w.this t.stand.0)).good
 
-  pub sender-hears-not : (on : ℕ) → is_empty (w.this.texts on).slot ≡ false → (p : Pair) → SenderOpensAt on p heard (hears c heard) → ⊥
+  pub sender-hears-not : (on : ℕ) → is_empty (w.this.texts on).slot ≡ false → (p : Pair) → SenderOpensAt on p heard (node_hears c heard) → ⊥
   sender-hears-not on f =
       let q = out-owner t.own t.own' heard w.that (x w) (c ∷ rest) before on (ap (λ (l : ℕ → Link TextOut). is_empty (l on).slot) (hears_all-texts done w.this) ∙ f) in
-      sender-kept t.own t.own' t.own t.own' heard w.that (hears c heard) w.that (x w) (c ∷ rest) (x w) rest before beyond on q.0 q.1 q.1 stays_good (λ z p. none-live-heard c heard p z)
+      sender-kept t.own t.own' t.own t.own' heard w.that (node_hears c heard) w.that (x w) (c ∷ rest) (x w) rest before beyond on q.0 q.1 q.1 stays_good (λ z p. none-live-heard c heard p z)
 
-  pub receiver-hears-not : (on : ℕ) → is_empty (w.that.texts on).slot ≡ false → (p : Pair) → ReceiverOpensAt on p heard (hears c heard) → ⊥
+  pub receiver-hears-not : (on : ℕ) → is_empty (w.that.texts on).slot ≡ false → (p : Pair) → ReceiverOpensAt on p heard (node_hears c heard) → ⊥
   receiver-hears-not on f =
       let k = joined-turned t.own t.own' heard w.that (x w) (c ∷ rest) before in
-      let k1 = joined-turned t.own t.own' (hears c heard) w.that (x w) rest beyond in
+      let k1 = joined-turned t.own t.own' (node_hears c heard) w.that (x w) rest beyond in
       let q = out-owner t.own' t.own w.that heard (c ∷ rest) (x w) k on f in
-      receiver-kept t.own' t.own t.own' t.own w.that heard w.that (hears c heard) (c ∷ rest) (x w) rest (x w) k k1 on q.0 q.1 q.1 stays_good (λ z p. none-live-heard c heard p z)
+      receiver-kept t.own' t.own t.own' t.own w.that heard w.that (node_hears c heard) (c ∷ rest) (x w) rest (x w) k k1 on q.0 q.1 q.1 stays_good (λ z p. none-live-heard c heard p z)

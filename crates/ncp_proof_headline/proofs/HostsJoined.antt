@@ -9,10 +9,10 @@ use Rattle.std.proofs.lemmas.List.{append-nil, append_assoc}
 use Rattle.ncp_terms.specs.declared.command.Command.{Command}
 use Rattle.ncp_terms.specs.declared.command.Command.TheVariants.{Rst, Rrp}
 use Rattle.ncp_model.specs.Ends.{Ends, no_ends}
-use Rattle.ncp_model.specs.Phase.{Phase, is_rst, is_rrp, is_other, answers, asks, is_resetting, wants_reset, owes_answer, queued, has_place}
-use Rattle.ncp_proof_resets.specs.Resets.{Host, is_up, anew, host_resets, host_settles, host_falls, host_makes, host_makes_all}
+use Rattle.ncp_model.specs.Phase.{Phase, is_rst, is_rrp, is_other, phase_answers, phase_asks, is_resetting, wants_reset, owes_answer, queued, has_place}
+use Rattle.ncp_proof_resets.specs.Resets.{ResetHost, is_up, anew, host_resets, host_settles, host_falls, host_makes, host_makes_all}
 use Rattle.ncp_model.specs.Echo.{Echoes}
-use Rattle.ncp_proof_machine.specs.Hosts.{Node, quiet, cleared, kept, calls_reset, settles, hears}
+use Rattle.ncp_proof_machine.specs.Hosts.{Node, quiet, node_cleared, node_kept, node_calls_reset, node_settles, node_hears}
 use Rattle.ncp_model.proofs.ResetLists.{rsts, rrps, purged, rrps-append, rsts-append, any-rrps, any-rsts}
 use Rattle.ncp_proof_resets.proofs.ResetKept.{Kept, turned, falling, wanting, answering, asking, owing, heard_rrp, made_up}
 use Rattle.ncp_proof_headline.proofs.Lives.{live, behind, alive, Cut, behind_new, live_rst, live_cut, rrps_cut, live_more, owed, live_none}
@@ -52,41 +52,41 @@ joined-turned own own' n m x y k = record {
 
 -- Flags.
 
-pub up_alive : (h : Host) (c : ℕ) → is_up h ≡ true → alive h c ≡ true
+pub up_alive : (h : ResetHost) (c : ℕ) → is_up h ≡ true → alive h c ≡ true
 up_alive h c e = grind arith
 
-pub up_waits : (h : Host) → is_up h ≡ true → h.phase.wait ≡ false
+pub up_waits : (h : ResetHost) → is_up h ≡ true → h.phase.wait ≡ false
 up_waits h e = grind arith
 
-pub not_up_wait : (h : Host) → h.phase.wait ≡ true → is_up h ≡ false
+pub not_up_wait : (h : ResetHost) → h.phase.wait ≡ true → is_up h ≡ false
 not_up_wait h e = grind arith
 
-not_up_owe : (h : Host) → h.phase.owe ≡ true → is_up h ≡ false
+not_up_owe : (h : ResetHost) → h.phase.owe ≡ true → is_up h ≡ false
 not_up_owe h e = grind arith
 
-not_up_want : (h : Host) → h.phase.want ≡ true → is_up h ≡ false
+not_up_want : (h : ResetHost) → h.phase.want ≡ true → is_up h ≡ false
 not_up_want h e = grind arith
 
-pub not_alive : (h : Host) (c : ℕ) → is_up h ≡ false → h.phase.wait ≡ false → alive h c ≡ false
+pub not_alive : (h : ResetHost) (c : ℕ) → is_up h ≡ false → h.phase.wait ≡ false → alive h c ≡ false
 not_alive h c e w = grind arith
 
-dead : (h : Host) (c : ℕ) → not (h.phase.down || h.phase.want || h.phase.owe) ≡ false → alive h c ≡ false
+dead : (h : ResetHost) (c : ℕ) → not (h.phase.down || h.phase.want || h.phase.owe) ≡ false → alive h c ≡ false
 dead h c e = rw e refl
 
-owe_dead : (h : Host) (c : ℕ) → h.phase.owe ≡ true → alive h c ≡ false
+owe_dead : (h : ResetHost) (c : ℕ) → h.phase.owe ≡ true → alive h c ≡ false
 owe_dead h c e = grind arith
 
-want_dead : (h : Host) (c : ℕ) → h.phase.want ≡ true → alive h c ≡ false
+want_dead : (h : ResetHost) (c : ℕ) → h.phase.want ≡ true → alive h c ≡ false
 want_dead h c e = grind arith
 
-wait_dead : (h : Host) (c : ℕ) → h.phase.wait ≡ true → c ≡ 0 → alive h c ≡ false
+wait_dead : (h : ResetHost) (c : ℕ) → h.phase.wait ≡ true → c ≡ 0 → alive h c ≡ false
 wait_dead h c e z = grind (arith, e, z)
 
 -- Clearings.
 
 -- n becomes h, which lost the ends and what waited
-clears_from : (own own' : Owners) (n m : Node) (x y : List Command) (a : Bool) (u v : List Command) (h : Host) → h.phase.waiting ≡ purged n.host.phase.waiting → not (h.phase.down || h.phase.want || h.phase.owe) ≡ false → h.phase.wait ≡ n.host.phase.wait
-    → Kept h m.host x y → Cut (live m.host.phase.wait (x ++ purged n.host.phase.waiting)) u → Ties a (is_alive m n x) own own' n m u v → Whole own n → Whole own' m → Joined own own' (cleared h n) m x y
+clears_from : (own own' : Owners) (n m : Node) (x y : List Command) (a : Bool) (u v : List Command) (h : ResetHost) → h.phase.waiting ≡ purged n.host.phase.waiting → not (h.phase.down || h.phase.want || h.phase.owe) ≡ false → h.phase.wait ≡ n.host.phase.wait
+    → Kept h m.host x y → Cut (live m.host.phase.wait (x ++ purged n.host.phase.waiting)) u → Ties a (is_alive m n x) own own' n m u v → Whole own n → Whole own' m → Joined own own' (node_cleared h n) m x y
 clears_from own own' n m x y a u v h q r w kept cut ties this that = record {
   kept = kept;
   ties = subst (λ (c : Bool). Ties c (alive m.host (rrps (x ++ h.phase.waiting))) own own' (record n { ends = no_ends }) m (live m.host.phase.wait (x ++ h.phase.waiting)) v') (sym (dead h (rrps (y ++ m.host.phase.waiting)) r))
@@ -100,7 +100,7 @@ clears_from own own' n m x y a u v h q r w kept cut ties this that = record {
     v' : List Command
     v' = live h.phase.wait (y ++ m.host.phase.waiting)
 
-pub clears : (own own' : Owners) (n m : Node) (x y y' : List Command) (h : Host) → h.phase.waiting ≡ purged n.host.phase.waiting → not (h.phase.down || h.phase.want || h.phase.owe) ≡ false → h.phase.wait ≡ n.host.phase.wait → Kept h m.host x y' → Joined own own' n m x y → Joined own own' (cleared h n) m x y'
+pub clears : (own own' : Owners) (n m : Node) (x y y' : List Command) (h : ResetHost) → h.phase.waiting ≡ purged n.host.phase.waiting → not (h.phase.down || h.phase.want || h.phase.owe) ≡ false → h.phase.wait ≡ n.host.phase.wait → Kept h m.host x y' → Joined own own' n m x y → Joined own own' (node_cleared h n) m x y'
 clears own own' n m x y y' h q r w kept k =
     clears_from own own' n m x y' (is_alive n m y) (lives n m x) (lives m n y) h q r w kept (live_cut m.host.phase.wait x n.host.phase.waiting) k.ties k.this k.that
 
@@ -130,7 +130,7 @@ module _ (own own' : Owners) (n m : Node) (x y : List Command) where
     that = k.that;
   }
     where
-      h : Host
+      h : ResetHost
       h = record n.host { phase = answered n.host.phase }
 
       due : (m.host.phase.wait ≡ true) × (rrps (x ++ n.host.phase.waiting) ≡ 0) × (rsts (y ++ m.host.phase.waiting) ≡ 0)
@@ -151,7 +151,7 @@ module _ (own own' : Owners) (n m : Node) (x y : List Command) where
       go true f = new true (live n.host.phase.wait (y ++ m.host.phase.waiting)) (λ _. sym (live_none n.host m.host x y k.kept due.0 due.2 (and_parts (not (false || n.host.phase.want || false)) (not n.host.phase.wait || nat_lt 0 (rrps (y ++ m.host.phase.waiting))) f).1))
       go false f = new false (live n.host.phase.wait (y ++ m.host.phase.waiting)) (λ z. absurd (cc z))
 
-  answers-keeps : ((on : ℕ) → own on ≡ None) → Joined own own' n m x y → Joined own own' (with_phase (answers n.host.phase) n) m x y
+  answers-keeps : ((on : ℕ) → own on ≡ None) → Joined own own' n m x y → Joined own own' (with_phase (phase_answers n.host.phase) n) m x y
   answers-keeps t k = cond_both n.host.phase.owe (answered n.host.phase) n.host.phase (λ (p : Phase). Joined own own' (with_phase p n) m x y) (λ e. answers-made t e k) (λ e. k)
 
   rst_same : (w : Bool) (x q : List Command) → (live w (x ++ (if list_any is_rst q then q else q ++ Rst ∷ [])) ≡ live w (x ++ q)) × (rrps (x ++ (if list_any is_rst q then q else q ++ Rst ∷ [])) ≡ rrps (x ++ q))
@@ -174,7 +174,7 @@ module _ (own own' : Owners) (n m : Node) (x y : List Command) where
     that = k.that;
   }
     where
-      h : Host
+      h : ResetHost
       h = record n.host { phase = asked n.host.phase }
 
       now_kept : Kept h m.host x y
@@ -186,34 +186,34 @@ module _ (own own' : Owners) (n m : Node) (x y : List Command) where
       now : alive h (rrps (y ++ m.host.phase.waiting)) ≡ false
       now = grind (arith, none)
 
-  asks-keeps : ((on : ℕ) → own on ≡ None) → Joined own own' n m x y → Joined own own' (with_phase (asks n.host.phase) n) m x y
+  asks-keeps : ((on : ℕ) → own on ≡ None) → Joined own own' n m x y → Joined own own' (with_phase (phase_asks n.host.phase) n) m x y
   asks-keeps t k = cond_both n.host.phase.want (asked n.host.phase) n.host.phase (λ (p : Phase). Joined own own' (with_phase p n) m x y) (λ e. asks-made t e k) (λ e. k)
 
-pub settles-keeps : (own own' : Owners) (n m : Node) (x y : List Command) → Joined own own' n m x y → Joined own own' (settles n) m x y
-settles-keeps own own' n m x y k = cond_both (quiet n) (asks (answers n.host.phase)) n.host.phase (λ (p : Phase). Joined own own' (with_phase p n) m x y)
-    (λ e. let t = quiet-owns-none n own k.ties.g.text e k.ties.there.texts in asks-keeps own own' (with_phase (answers n.host.phase) n) m x y t (answers-keeps own own' n m x y t k))
+pub settles-keeps : (own own' : Owners) (n m : Node) (x y : List Command) → Joined own own' n m x y → Joined own own' (node_settles n) m x y
+settles-keeps own own' n m x y k = cond_both (quiet n) (phase_asks (phase_answers n.host.phase)) n.host.phase (λ (p : Phase). Joined own own' (with_phase p n) m x y)
+    (λ e. let t = quiet-owns-none n own k.ties.g.text e k.ties.there.texts in asks-keeps own own' (with_phase (phase_answers n.host.phase) n) m x y t (answers-keeps own own' n m x y t k))
     (λ e. k)
 
 -- The host resets, and goes down.
 
-pub resets-keeps : (own own' : Owners) (n m : Node) (x y : List Command) → Joined own own' n m x y → Joined own own' (calls_reset n) m x y
-resets-keeps own own' n m x y k = cond_both (is_resetting n.host.phase) n (cleared (host_resets (quiet n) n.host) n) (λ (o : Node). Joined own own' o m x y) (λ e. k)
-    (λ e. subst (λ (h : Host). Joined own own' (cleared h n) m x y) (sym (becomes e))
-    (settles-keeps own own' (cleared (anew (wants_reset n.host.phase)) n) m x y
+pub resets-keeps : (own own' : Owners) (n m : Node) (x y : List Command) → Joined own own' n m x y → Joined own own' (node_calls_reset n) m x y
+resets-keeps own own' n m x y k = cond_both (is_resetting n.host.phase) n (node_cleared (host_resets (quiet n) n.host) n) (λ (o : Node). Joined own own' o m x y) (λ e. k)
+    (λ e. subst (λ (h : ResetHost). Joined own own' (node_cleared h n) m x y) (sym (becomes e))
+    (settles-keeps own own' (node_cleared (anew (wants_reset n.host.phase)) n) m x y
     (clears own own' n m x y y (anew (wants_reset n.host.phase)) refl (grind arith) refl (wanting n.host m.host x y (grind arith) (grind arith) k.kept) k)))
   where
     becomes : is_resetting n.host.phase ≡ false → host_resets (quiet n) n.host ≡ host_settles (quiet n) (anew (wants_reset n.host.phase))
     becomes e = rw e refl
 
-pub falls-keeps : (own own' : Owners) (n m : Node) (x y : List Command) → Joined own own' n m x y → Joined own own' (cleared (host_falls n.host) n) m x y
+pub falls-keeps : (own own' : Owners) (n m : Node) (x y : List Command) → Joined own own' n m x y → Joined own own' (node_cleared (host_falls n.host) n) m x y
 falls-keeps own own' n m x y k = clears own own' n m x y y (host_falls n.host) refl refl refl (falling n.host m.host x y k.kept) k
 
-pub hears_rst-keeps : (own own' : Owners) (n m : Node) (x y : List Command) → Joined own own' n m x (Rst ∷ y) → Joined own own' (hears Rst n) m x y
+pub hears_rst-keeps : (own own' : Owners) (n m : Node) (x y : List Command) → Joined own own' n m x (Rst ∷ y) → Joined own own' (node_hears Rst n) m x y
 hears_rst-keeps own own' n m x y k =
-    settles-keeps own own' (cleared (anew (owes_answer n.host.phase)) n) m x y
+    settles-keeps own own' (node_cleared (anew (owes_answer n.host.phase)) n) m x y
     (clears own own' n m x (Rst ∷ y) y (anew (owes_answer n.host.phase)) refl (grind arith) refl (owing n.host m.host x y k.kept) k)
 
-pub hears_rrp-keeps : (own own' : Owners) (n m : Node) (x y : List Command) → Joined own own' n m x (Rrp ∷ y) → Joined own own' (hears Rrp n) m x y
+pub hears_rrp-keeps : (own own' : Owners) (n m : Node) (x y : List Command) → Joined own own' n m x (Rrp ∷ y) → Joined own own' (node_hears Rrp n) m x y
 hears_rrp-keeps own own' n m x y k = record {
   kept = heard_rrp n.host m.host x y k.kept;
   ties = subst (λ (a : Bool). Ties a (is_alive m n x) own own' n m (lives n m x) (live false (y ++ m.host.phase.waiting))) same
@@ -234,13 +234,13 @@ abbrev pub AllOther : List Command → Type 0
 AllOther [] = Unit {0}
 AllOther (c ∷ cs) = (is_other c ≡ true) × AllOther cs
 
-down_makes : (cs : List Command) (h : Host) → is_up h ≡ false → host_makes_all cs h ≡ h
+down_makes : (cs : List Command) (h : ResetHost) → is_up h ≡ false → host_makes_all cs h ≡ h
 down_makes [] h e = refl
 down_makes (c ∷ cs) h e = let same : host_makes c h ≡ h = rw e refl in ap (host_makes_all cs) same ∙ down_makes cs h e
 
 -- the host after these commands, which has its ends if it is up
 abbrev pub making : List Command → Echoes → Node → Node
-making cs echoes n = record n { host = host_makes_all cs n.host; ends = kept (host_makes_all cs n.host) n.ends; echoes = echoes }
+making cs echoes n = record n { host = host_makes_all cs n.host; ends = node_kept (host_makes_all cs n.host) n.ends; echoes = echoes }
 
 -- the ends are as after these commands, which are still to be made
 pub pending : (cs : List Command) (echoes : Echoes) (own own' : Owners) (n m : Node) (x y : List Command) → AllOther cs → is_up n.host ≡ true → Kept n.host m.host x y
@@ -252,14 +252,14 @@ pending [] echoes own own' n m x y o e k ties this that = subst (λ (d : Ends). 
   that = that;
 })
   where
-    up : kept n.host n.ends ≡ n.ends
+    up : node_kept n.host n.ends ≡ n.ends
     up = rw e refl
-pending (c ∷ cs) echoes own own' n m x y o e k ties this that = subst (λ (h : Host). Joined own own' (record n { host = host_makes_all cs h; ends = kept (host_makes_all cs h) n.ends; echoes = echoes }) m x y) (sym first)
-    (cond_both (has_place n.host.phase) made (host_falls n.host) (λ (h : Host). Joined own own' (record n { host = host_makes_all cs h; ends = kept (host_makes_all cs h) n.ends; echoes = echoes }) m x y)
+pending (c ∷ cs) echoes own own' n m x y o e k ties this that = subst (λ (h : ResetHost). Joined own own' (record n { host = host_makes_all cs h; ends = node_kept (host_makes_all cs h) n.ends; echoes = echoes }) m x y) (sym first)
+    (cond_both (has_place n.host.phase) made (host_falls n.host) (λ (h : ResetHost). Joined own own' (record n { host = host_makes_all cs h; ends = node_kept (host_makes_all cs h) n.ends; echoes = echoes }) m x y)
     (λ _. pending cs echoes own own' (record n { host = made }) m x y o.1 e (made_up n.host m.host x y c e o.0 k) after this that)
     (λ _. full))
   where
-    made : Host
+    made : ResetHost
     made = record n.host { phase = queued c n.host.phase; made = n.host.made ++ c ∷ [] }
 
     first : host_makes c n.host ≡ (if has_place n.host.phase then made else host_falls n.host)
@@ -275,9 +275,9 @@ pending (c ∷ cs) echoes own own' n m x y o e k ties this that = subst (λ (h :
     after = subst (λ (i : ℕ). Ties (is_alive n m y) (alive m.host i) own own' n m (live m.host.phase.wait (x ++ (n.host.phase.waiting ++ c ∷ [])) ++ cs) (lives m n y)) (sym count)
         (ties-to (is_alive n m y) (is_alive m n x) own own' n m (lives n m x ++ (c ∷ cs)) (lives m n y) (live m.host.phase.wait (x ++ (n.host.phase.waiting ++ c ∷ [])) ++ cs) (lives m n y) more (λ _. refl) ties)
 
-    full : Joined own own' (record n { host = host_makes_all cs (host_falls n.host); ends = kept (host_makes_all cs (host_falls n.host)) n.ends; echoes = echoes }) m x y
+    full : Joined own own' (record n { host = host_makes_all cs (host_falls n.host); ends = node_kept (host_makes_all cs (host_falls n.host)) n.ends; echoes = echoes }) m x y
     full =
         let cut = live_cut m.host.phase.wait x n.host.phase.waiting in
-        subst (λ (h : Host). Joined own own' (record n { host = h; ends = kept h n.ends; echoes = echoes }) m x y) (sym (down_makes cs (host_falls n.host) refl))
+        subst (λ (h : ResetHost). Joined own own' (record n { host = h; ends = node_kept h n.ends; echoes = echoes }) m x y) (sym (down_makes cs (host_falls n.host) refl))
         (clears_from own own' n m x y (is_alive n m y) (lives n m x ++ (c ∷ cs)) (lives m n y) (host_falls n.host) refl refl refl (falling n.host m.host x y k)
         (cut.0 ++ (c ∷ cs), sym (append_assoc (live m.host.phase.wait (x ++ purged n.host.phase.waiting)) cut.0 (c ∷ cs)) ∙ ap (λ (l : List Command). l ++ (c ∷ cs)) cut.1) ties this that)

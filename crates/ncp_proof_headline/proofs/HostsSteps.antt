@@ -14,17 +14,16 @@ use Rattle.ncp_model.specs.End.{End}
 use Rattle.ncp_model.specs.Act.{answer, made_by_hearing, made_if_any, made_by_call}
 use Rattle.ncp_model.specs.Texts.{made_by_text, Rfnm}
 use Rattle.ncp_model.specs.Ends.{Ends, no_ends, uses_link, hears_link, hear, leads_to, text_in, cut_in, answered_in, sender_on, receiver_on, pair_of, map_after_at, put}
-use Rattle.ncp_model.specs.Happenings.{Happening, happens, of_hearing, of_text, is_violation}
-use Rattle.ncp_model.specs.Happenings as all
+use Rattle.ncp_model.specs.Happenings.{Happening, happens, of_hearing, outcome_of_text, is_violation, Happened}
 use Rattle.ncp_model.specs.Leading.{passes, comes}
 use Rattle.ncp_proof_watch.specs.Limits.{InLimitsAt}
 use Rattle.ncp_model.specs.Phase.{is_other}
 use Rattle.ncp_model.specs.Sending.{is_full}
-use Rattle.ncp_proof_resets.specs.Delivery.{Slot, Empty, Ready, Travelling, Held, Subnet, Accepted, Delivered, Link, idle, answered}
+use Rattle.ncp_proof_resets.specs.Delivery.{Slot, Empty, Ready, Travelling, Held, MessageTransit, Accepted, Delivered, Link, idle, link_answered}
 use Rattle.ncp_model.specs.Echo.{Echoes, echo_answer, echo_asked}
-use Rattle.ncp_proof_resets.specs.Resets.{Host, is_up, host_falls, host_makes_all, host_hears}
+use Rattle.ncp_proof_resets.specs.Resets.{ResetHost, is_up, host_falls, host_makes_all, host_hears}
 use Rattle.ncp_proof_connection.specs.Connections.{Text}
-use Rattle.ncp_proof_machine.specs.Hosts.{TextOut, Node, set_link, is_empty, kept, kept_echoes, pasts_after, pasts_after_at, Call, called, happens_at, calls, echo_called, calls_echo, is_full_up, echo_replies, echoes_after, reaction, hears, hears_all, takes_text, hears_text, goes_out, cuts, sends_text, frees, text_answered}
+use Rattle.ncp_proof_machine.specs.Hosts.{TextOut, Node, set_link, is_empty, node_kept, node_kept_echoes, pasts_after, pasts_after_at, PairCall, called, happens_at, node_calls, node_echo_called, node_calls_echo, is_full_up, echo_replies, echoes_after, node_reaction, node_hears, node_hears_all, node_takes_text, node_hears_text, node_goes_out, node_cuts, node_sends_text, node_frees, text_answered}
 use Rattle.ncp_model.proofs.ResetLists.{rrps}
 use Rattle.ncp_proof_resets.proofs.ResetKept.{falling, came_up, dropped}
 use Rattle.ncp_proof_machine.proofs.Standing.{nothing_out}
@@ -46,18 +45,18 @@ neither a b e f = rw (e, f) refl
 
 -- Calls.
 
-pub calls-keeps : (own own' : Owners) (n m : Node) (x y : List Command) (pair : Pair) (call : Call) → Joined own own' n m x y → Joined own own' (calls pair call n) m x y
+pub calls-keeps : (own own' : Owners) (n m : Node) (x y : List Command) (pair : Pair) (call : PairCall) → Joined own own' n m x y → Joined own own' (node_calls pair call n) m x y
 calls-keeps own own' n m x y pair call k =
     cond_both (is_up n.host) (happens_at pair what n) n (λ (o : Node). Joined own own' o m x y)
     (λ e. let t = ties-calls (is_alive n m y) (is_alive m n x) own own' n m (lives n m x) (lives m n y) pair call (is_full n.host.phase) (up_alive n.host (rrps (y ++ m.host.phase.waiting)) e) k.ties in
-    pending did.made (kept_echoes (host_makes_all did.made n.host) n.echoes) own own' after m x y (called-other pair what (get n.ends pair)) e k.kept t.ties
+    pending did.made (node_kept_echoes (host_makes_all did.made n.host) n.echoes) own own' after m x y (called-other pair what (get n.ends pair)) e k.kept t.ties
     (whole-up own after e (neither n.violated (is_violation did.outcome) k.this.safe t.safe)) k.that)
     (λ e. k)
   where
     what : Happening
     what = called call (is_full n.host.phase) n.ends
 
-    did : all.Happened
+    did : Happened
     did = happens pair what (get n.ends pair)
 
     after : Node
@@ -72,13 +71,13 @@ echo-made byte full s P p q = go s.awaited full
     go false true = p
     go false false = q
 
-pub echo-keeps : (own own' : Owners) (n m : Node) (x y : List Command) (byte : ℕ) → Joined own own' n m x y → Joined own own' (calls_echo byte n) m x y
+pub echo-keeps : (own own' : Owners) (n m : Node) (x y : List Command) (byte : ℕ) → Joined own own' n m x y → Joined own own' (node_calls_echo byte n) m x y
 echo-keeps own own' n m x y byte k =
-    cond_both (is_up n.host) (echo_called byte n) n (λ (o : Node). Joined own own' o m x y)
-    (λ e. echo-made byte (is_full n.host.phase) n.echoes (λ (cs : List Command). Joined own own' (record n { host = host_makes_all cs n.host; ends = kept (host_makes_all cs n.host) n.ends; echoes = kept_echoes (host_makes_all cs n.host) (echo_asked (is_full n.host.phase) n.echoes) }) m x y)
-    (pending [] (kept_echoes n.host (echo_asked (is_full n.host.phase) n.echoes)) own own' n m x y tt e k.kept
+    cond_both (is_up n.host) (node_echo_called byte n) n (λ (o : Node). Joined own own' o m x y)
+    (λ e. echo-made byte (is_full n.host.phase) n.echoes (λ (cs : List Command). Joined own own' (record n { host = host_makes_all cs n.host; ends = node_kept (host_makes_all cs n.host) n.ends; echoes = node_kept_echoes (host_makes_all cs n.host) (echo_asked (is_full n.host.phase) n.echoes) }) m x y)
+    (pending [] (node_kept_echoes n.host (echo_asked (is_full n.host.phase) n.echoes)) own own' n m x y tt e k.kept
     (subst (λ (l : List Command). Ties (is_alive n m y) (is_alive m n x) own own' n m l (lives m n y)) (sym (append-nil (lives n m x))) k.ties) k.this k.that)
-    (pending (Eco byte ∷ []) (kept_echoes (host_makes_all (Eco byte ∷ []) n.host) (echo_asked (is_full n.host.phase) n.echoes)) own own' n m x y (refl, tt) e k.kept
+    (pending (Eco byte ∷ []) (node_kept_echoes (host_makes_all (Eco byte ∷ []) n.host) (echo_asked (is_full n.host.phase) n.echoes)) own own' n m x y (refl, tt) e k.kept
     (ties-echo (is_alive n m y) (is_alive m n x) own own' n m (lives n m x) (lives m n y) (Eco byte) refl k.ties) k.this k.that))
     (λ e. k)
 
@@ -114,15 +113,15 @@ module _ (own own' : Owners) (n m : Node) (x y : List Command) (c : Command) (o 
       subst (λ (l : List Command). Ties (is_alive n m y) (is_alive m n x) own own' n m (lives n m x) l)
       (ap (λ (b : Bool). live b (c ∷ (y ++ m.host.phase.waiting))) w ∙ (fronts_other c (y ++ m.host.phase.waiting) o ∙ ap (λ (b : Bool). c ∷ live b (y ++ m.host.phase.waiting)) (sym w))) ties
 
-  abbrev came : Host
+  abbrev came : ResetHost
   came = record n.host { came = n.host.came ++ c ∷ [] }
 
   -- the host after it, whatever became of its phase
-  abbrev after : Host → Node
+  abbrev after : ResetHost → Node
   after h = record n {
     host = h;
-    ends = kept h (map_after_at n.ends (leads_to c n.ends) (hear c n.ends));
-    echoes = kept_echoes h (echoes_after c n.echoes);
+    ends = node_kept h (map_after_at n.ends (leads_to c n.ends) (hear c n.ends));
+    echoes = node_kept_echoes h (echoes_after c n.echoes);
     pasts = pasts_after_at (leads_to c n.ends) (comes c n.ends) n.ends n.pasts;
     violated = n.violated || is_violation (of_hearing (answer (hear c n.ends)));
   }
@@ -140,32 +139,32 @@ module _ (own own' : Owners) (n m : Node) (x y : List Command) (c : Command) (o 
   acts : is_up n.host ≡ true → is_full_up (answer (hear c n.ends)) ≡ false → Joined own own' (after (host_makes_all (made_by_hearing (answer (hear c n.ends)) ++ echo_replies c) came)) m x y
   acts e f =
       let t = ties-hears (is_alive n m y) (is_alive m n x) own own' n m (lives n m x) (lives m n y) c (up_alive n.host (rrps (y ++ m.host.phase.waiting)) e) f (first e) in
-      pending (made_by_hearing (answer (hear c n.ends)) ++ echo_replies c) (kept_echoes (host_makes_all (made_by_hearing (answer (hear c n.ends)) ++ echo_replies c) came) (echoes_after c n.echoes)) own own'
+      pending (made_by_hearing (answer (hear c n.ends)) ++ echo_replies c) (node_kept_echoes (host_makes_all (made_by_hearing (answer (hear c n.ends)) ++ echo_replies c) came) (echoes_after c n.echoes)) own own'
       (record n { host = came; ends = map_after_at n.ends (leads_to c n.ends) (hear c n.ends); pasts = pasts_after_at (leads_to c n.ends) (comes c n.ends) n.ends n.pasts; violated = n.violated || is_violation (of_hearing (answer (hear c n.ends))) }) m x y
       (hear-other c n.ends) e (came_up n.host m.host x y c e o k.kept) t.ties
       (record { none = λ z. absurd (both_ways (is_up n.host) z e); quiet = λ z. absurd (both_ways n.host.phase.wait (up_waits n.host e) z); safe = neither n.violated (is_violation (of_hearing (answer (hear c n.ends)))) k.this.safe t.safe }) k.that
 
-  pub comes-up : (h : Host) → h ≡ (if is_up n.host then (if is_full_up (answer (hear c n.ends)) then host_falls n.host else host_makes_all (made_by_hearing (answer (hear c n.ends)) ++ echo_replies c) came) else n.host) → Joined own own' (if is_up n.host then after h else n) m x y
+  pub comes-up : (h : ResetHost) → h ≡ (if is_up n.host then (if is_full_up (answer (hear c n.ends)) then host_falls n.host else host_makes_all (made_by_hearing (answer (hear c n.ends)) ++ echo_replies c) came) else n.host) → Joined own own' (if is_up n.host then after h else n) m x y
   comes-up h e = go (is_up n.host) refl (is_full_up (answer (hear c n.ends))) refl e
     where
       go : (u : Bool) → is_up n.host ≡ u → (f : Bool) → is_full_up (answer (hear c n.ends)) ≡ f → h ≡ (if u then (if f then host_falls n.host else host_makes_all (made_by_hearing (answer (hear c n.ends)) ++ echo_replies c) came) else n.host) → Joined own own' (if u then after h else n) m x y
       go false p f q e = drops p
-      go true p true q e = subst (λ (h : Host). Joined own own' (after h) m x y) (sym e) (fills p q)
-      go true p false q e = subst (λ (h : Host). Joined own own' (after h) m x y) (sym e) (acts p q)
+      go true p true q e = subst (λ (h : ResetHost). Joined own own' (after h) m x y) (sym e) (fills p q)
+      go true p false q e = subst (λ (h : ResetHost). Joined own own' (after h) m x y) (sym e) (acts p q)
 
-pub hears-keeps : (own own' : Owners) (n m : Node) (x y : List Command) (c : Command) → Joined own own' n m x (c ∷ y) → Joined own own' (hears c n) m x y
+pub hears-keeps : (own own' : Owners) (n m : Node) (x y : List Command) (c : Command) → Joined own own' n m x (c ∷ y) → Joined own own' (node_hears c n) m x y
 hears-keeps own own' n m x y Rst k = hears_rst-keeps own own' n m x y k
 hears-keeps own own' n m x y Rrp k = hears_rrp-keeps own own' n m x y k
-hears-keeps own own' n m x y c k = comes-up own own' n m x y c refl k (host_hears c (reaction c n) n.host) refl
+hears-keeps own own' n m x y c k = comes-up own own' n m x y c refl k (host_hears c (node_reaction c n) n.host) refl
 
-pub hears_all-keeps : (own own' : Owners) (n m : Node) (x cs : List Command) → Joined own own' n m x cs → Joined own own' (hears_all cs n) m x []
+pub hears_all-keeps : (own own' : Owners) (n m : Node) (x cs : List Command) → Joined own own' n m x cs → Joined own own' (node_hears_all cs n) m x []
 hears_all-keeps own own' n m x [] k = k
-hears_all-keeps own own' n m x (c ∷ cs) k = hears_all-keeps own own' (hears c n) m x cs (hears-keeps own own' n m x cs c k)
+hears_all-keeps own own' n m x (c ∷ cs) k = hears_all-keeps own own' (node_hears c n) m x cs (hears-keeps own own' n m x cs c k)
 
 -- a message is heard in part
-pub hears_front : (own own' : Owners) (n m : Node) (x done rest : List Command) → Joined own own' n m x (done ++ rest) → Joined own own' (hears_all done n) m x rest
+pub hears_front : (own own' : Owners) (n m : Node) (x done rest : List Command) → Joined own own' n m x (done ++ rest) → Joined own own' (node_hears_all done n) m x rest
 hears_front own own' n m x [] rest k = k
-hears_front own own' n m x (c ∷ cs) rest k = hears_front own own' (hears c n) m x cs rest (hears-keeps own own' n m x (cs ++ rest) c k)
+hears_front own own' n m x (c ∷ cs) rest k = hears_front own own' (node_hears c n) m x cs rest (hears-keeps own own' n m x (cs ++ rest) c k)
 
 -- Texts.
 
@@ -196,18 +195,18 @@ module _ (own own' : Owners) (n m : Node) (x y : List Command) (on : ℕ) (head 
   abbrev took : Node
   took = record n {
     ends = map_after_at n.ends (pair_of (receiver_on on n.ends)) (text_in on t.of_size t.bits n.ends);
-    pasts = pasts_after_at (pair_of (receiver_on on n.ends)) (Some (all.Text_comes head t.of_size t.bits)) n.ends n.pasts;
-    violated = n.violated || is_violation (of_text (answer (text_in on t.of_size t.bits n.ends)));
+    pasts = pasts_after_at (pair_of (receiver_on on n.ends)) (Some (Happening.Text_comes head t.of_size t.bits)) n.ends n.pasts;
+    violated = n.violated || is_violation (outcome_of_text (answer (text_in on t.of_size t.bits n.ends)));
   }
 
   abbrev replied : List Command
   replied = made_by_text head t.bits (answer (text_in on t.of_size t.bits n.ends))
 
-  text-heard : is_up n.host ≡ true → Joined own own' (takes_text on head t n) brought x y
+  text-heard : is_up n.host ≡ true → Joined own own' (node_takes_text on head t n) brought x y
   text-heard e =
       let r = ties-text-comes (is_alive n m y) (is_alive m n x) own own' n m (lives n m x) (lives m n y) on head t (up_alive n.host (rrps (y ++ m.host.phase.waiting)) e) s k.ties in
-      pending replied (kept_echoes (host_makes_all replied n.host) n.echoes) own own' took brought x y (text-other head on t.of_size t.bits n.ends) e k.kept r.ties
-      (whole-up own took e (neither n.violated (is_violation (of_text (answer (text_in on t.of_size t.bits n.ends)))) k.this.safe r.safe)) k.that
+      pending replied (node_kept_echoes (host_makes_all replied n.host) n.echoes) own own' took brought x y (text-other head on t.of_size t.bits n.ends) e k.kept r.ties
+      (whole-up own took e (neither n.violated (is_violation (outcome_of_text (answer (text_in on t.of_size t.bits n.ends)))) k.this.safe r.safe)) k.that
 
   text-dropped : is_up n.host ≡ false → Joined own own' n brought x y
   text-dropped e = record { kept = k.kept; ties = go (is_alive n m y) refl; this = k.this; that = k.that }
@@ -220,8 +219,8 @@ module _ (own own' : Owners) (n m : Node) (x y : List Command) (on : ℕ) (head 
       go false f = subst (λ (a : Bool). Ties a (is_alive m n x) own own' n brought (lives n m x) (lives m n y)) (sym f)
           (ties-text-drops (is_alive m n x) own own' n m (lives n m x) (lives m n y) on t s (subst (λ (a : Bool). Ties a (is_alive m n x) own own' n m (lives n m x) (lives m n y)) f k.ties))
 
-  pub text-keeps : Joined own own' (hears_text on head t n) brought x y
-  text-keeps = cond_both (is_up n.host) (takes_text on head t n) n (λ (o : Node). Joined own own' o brought x y) text-heard text-dropped
+  pub text-keeps : Joined own own' (node_hears_text on head t n) brought x y
+  text-keeps = cond_both (is_up n.host) (node_takes_text on head t n) n (λ (o : Node). Joined own own' o brought x y) text-heard text-dropped
 
 -- While a text is out its link has one owner.
 
@@ -253,11 +252,11 @@ module _ (own own' : Owners) (n m : Node) (x y : List Command) (on : ℕ) (k : J
   }
 
   -- a text goes out
-  cutting : ((p : Pair) → InLimitsAt p (get n.ends p)) → (n.texts on).slot ≡ Empty → (o : Option (ℕ × List Bool)) → answer (cut_in on n.ends) ≡ o → Moved own own' n (cuts on o n) m x y
+  cutting : ((p : Pair) → InLimitsAt p (get n.ends p)) → (n.texts on).slot ≡ Empty → (o : Option (ℕ × List Bool)) → answer (cut_in on n.ends) ≡ o → Moved own own' n (node_cuts on o n) m x y
   cutting f s None e = unmoved own own' n n m x y k
   cutting f s (Some text) e = go (is_up n.host) refl
     where
-      go : (u : Bool) → is_up n.host ≡ u → Moved own own' n (cuts on (Some text) n) m x y
+      go : (u : Bool) → is_up n.host ≡ u → Moved own own' n (node_cuts on (Some text) n) m x y
       go false u = absurd (cc (sym e ∙ (ap (λ (d : Ends). answer (cut_in on d)) (k.this.none u) ∙ nothing_out on)))
       go true u = record {
         own1 = owned_by on (pair_of (sender_on on n.ends)) own;
@@ -270,9 +269,9 @@ module _ (own own' : Owners) (n m : Node) (x y : List Command) (on : ℕ) (k : J
         follows = set_follows own (pair_of (sender_on on n.ends)) on n.texts _ (λ p q. absurd (both_ways (is_empty (n.texts on).slot) p (ap is_empty s)));
       }
 
-  pub sends_text-keeps : ((p : Pair) → InLimitsAt p (get n.ends p)) → (slot : Slot TextOut) → (n.texts on).slot ≡ slot → Moved own own' n (sends_text on slot n) m x y
+  pub sends_text-keeps : ((p : Pair) → InLimitsAt p (get n.ends p)) → (slot : Slot TextOut) → (n.texts on).slot ≡ slot → Moved own own' n (node_sends_text on slot n) m x y
   sends_text-keeps f Empty e = cutting f e (answer (cut_in on n.ends)) refl
-  sends_text-keeps f (Ready t) e = unmoved own own' n (goes_out on t n) m x y
+  sends_text-keeps f (Ready t) e = unmoved own own' n (node_goes_out on t n) m x y
       (a_link (record { slot = Travelling t; subnet = Accepted t }) (subst (λ (s : Slot TextOut). SameText on (record { slot = s; subnet = (n.texts on).subnet }) (record { slot = Travelling t; subnet = Accepted t })) (sym e) (same-ready on t (n.texts on).subnet)))
   sends_text-keeps f (Travelling t) e = unmoved own own' n n m x y k
   sends_text-keeps f (Held t) e = unmoved own own' n n m x y k
@@ -281,7 +280,7 @@ module _ (own own' : Owners) (n m : Node) (x y : List Command) (on : ℕ) (k : J
   abbrev freed : Node
   freed = record n { ends = map_after_at n.ends (pair_of (sender_on on n.ends)) (answered_in on Rfnm n.ends); texts = set_link on idle n.texts }
 
-  freeing : (t : TextOut) → (n.texts on).slot ≡ Travelling t → (n.texts on).subnet ≡ Delivered → Joined (owned_by on None own) own' (frees on n) m x y
+  freeing : (t : TextOut) → (n.texts on).slot ≡ Travelling t → (n.texts on).subnet ≡ Delivered → Joined (owned_by on None own) own' (node_frees on n) m x y
   freeing t s d = go (is_up n.host) refl
     where
       made : List Command
@@ -307,23 +306,23 @@ module _ (own own' : Owners) (n m : Node) (x y : List Command) (on : ℕ) (k : J
 
       at_up : Bool → List Command → Node
       at_up b cs =
-          let host : Host = host_makes_all cs n.host in
-          record n { host = host; ends = if b then kept host freed.ends else n.ends; echoes = if b then kept_echoes host n.echoes else n.echoes; texts = set_link on idle n.texts }
+          let host : ResetHost = host_makes_all cs n.host in
+          record n { host = host; ends = if b then node_kept host freed.ends else n.ends; echoes = if b then node_kept_echoes host n.echoes else n.echoes; texts = set_link on idle n.texts }
 
-      go : (u : Bool) → is_up n.host ≡ u → Joined (owned_by on None own) own' (frees on n) m x y
-      go true e = subst (λ (b : Bool). Joined (owned_by on None own) own' (at_up b made) m x y) (sym e) (pending made (kept_echoes (host_makes_all made n.host) n.echoes) (owned_by on None own) own' freed m x y (answered-other on n.ends) e k.kept
+      go : (u : Bool) → is_up n.host ≡ u → Joined (owned_by on None own) own' (node_frees on n) m x y
+      go true e = subst (λ (b : Bool). Joined (owned_by on None own) own' (at_up b made) m x y) (sym e) (pending made (node_kept_echoes (host_makes_all made n.host) n.echoes) (owned_by on None own) own' freed m x y (answered-other on n.ends) e k.kept
           (ties-answered (is_alive n m y) (is_alive m n x) own own' n m (lives n m x) (lives m n y) on t (up_alive n.host (rrps (y ++ m.host.phase.waiting)) e) s d k.ties)
           (whole-up (owned_by on None own) freed e k.this.safe) k.that)
       go false e = subst (λ (b : Bool). Joined (owned_by on None own) own' (at_up b made) m x y) (sym e)
           (subst (λ (cs : List Command). Joined (owned_by on None own) own' (at_up false cs) m x y) (sym (nothing e))
           (record { kept = k.kept; ties = idle_ties e (is_alive n m y) refl; this = record { none = k.this.none; quiet = λ w. still_none (k.this.quiet w); safe = k.this.safe }; that = k.that }))
 
-  pub text_answered-keeps : (slot : Slot TextOut) (subnet : Subnet TextOut) → (n.texts on).slot ≡ slot → (n.texts on).subnet ≡ subnet → Moved own own' n (text_answered on slot subnet n) m x y
+  pub text_answered-keeps : (slot : Slot TextOut) (subnet : MessageTransit TextOut) → (n.texts on).slot ≡ slot → (n.texts on).subnet ≡ subnet → Moved own own' n (text_answered on slot subnet n) m x y
   text_answered-keeps (Travelling t) Delivered e f = record {
     own1 = owned_by on None own;
-    joined = settles-keeps (owned_by on None own) own' (frees on n) m x y (freeing t e f);
+    joined = settles-keeps (owned_by on None own) own' (node_frees on n) m x y (freeing t e f);
     follows = set_follows own None on n.texts idle (λ p q. absurd (cc q));
   }
   text_answered-keeps slot subnet e f = unmoved own own' n (text_answered on slot subnet n) m x y
-      (a_link (answered slot subnet) (subst (λ (s : Slot TextOut). SameText on (record { slot = s; subnet = (n.texts on).subnet }) (answered slot subnet)) (sym e)
-      (subst (λ (b : Subnet TextOut). SameText on (record { slot = slot; subnet = b }) (answered slot subnet)) (sym f) (same-answered on slot subnet refl))))
+      (a_link (link_answered slot subnet) (subst (λ (s : Slot TextOut). SameText on (record { slot = s; subnet = (n.texts on).subnet }) (link_answered slot subnet)) (sym e)
+      (subst (λ (b : MessageTransit TextOut). SameText on (record { slot = slot; subnet = b }) (link_answered slot subnet)) (sym f) (same-answered on slot subnet refl))))

@@ -8,9 +8,9 @@ use Rattle.ncp_model.specs.declared.pair.Pair.{Pair}
 use Rattle.ncp_model.specs.Pairs.{sends, is_proper, turned, same}
 use Rattle.ncp_model.specs.End.{End, or_new}
 use Rattle.ncp_proof_connection.specs.Connections.{Connection}
-use Rattle.ncp_proof_connection.specs.Ledger.{sum_of, BothOpen}
+use Rattle.ncp_proof_connection.specs.Ledger.{sum_of, BothOpenOnConnection}
 use Rattle.ncp_proof_headline.specs.Headline.{names_link, sum_on}
-use Rattle.ncp_proof_sharing.specs.Sharing.{Tagged, Shared, only, at, hears_at, uses_at}
+use Rattle.ncp_proof_sharing.specs.Sharing.{Tagged, Shared, only, connection_at, hears_at, uses_at}
 use Rattle.ncp_proof_connection.proofs.Lines.{Kind, Request, Close, Data, Alien, Comes, Passes, comes_asked, comes_closed, same_number}
 use Rattle.ncp_proof_connection.proofs.Joint.{to_sender_kind, to_receiver_kind, kinds, sender_marks, receiver_marks, Place, Together, Sender_ahead, Receiver_ahead, Joint, live_got}
 use Rattle.ncp_proof_connection.proofs.Senders.{going_parts}
@@ -202,7 +202,7 @@ module _ (q : Pair) (sq : sends q ≡ true) (w : Connection) (k : Inv q w) where
   abbrev Joined : Type 0
   Joined = record { heard : s.heard ≡ true; asked : r.asked ≡ true; link : s.link ≡ r.link; own : Own s.link (kinds to_sender_kind w.to_sender) }
 
-  joined : BothOpen w → Joined
+  joined : BothOpenOnConnection w → Joined
   joined o = go k.core.place k.core.joint
     where
       so : (s.asked ≡ true) × (s.heard ≡ true) × (s.left ≡ false)
@@ -407,8 +407,8 @@ module _ (g : Shared) (alone : (p q : Pair) (on : ℕ) → uses_at g on p ≡ tr
 
 -- A machine that came about.
 
-inv-at : (g : Shared) → Reached g → g.sends ≡ true → g.receives ≡ true → (q : Pair) → sends q ≡ true → Inv q (at q g)
-inv-at g r a b q sq = subst (λ (x : Bool). Fit q x true (at q g)) a (subst (λ (x : Bool). Fit q g.sends x (at q g)) b (all-fit g r q sq))
+inv-at : (g : Shared) → Reached g → g.sends ≡ true → g.receives ≡ true → (q : Pair) → sends q ≡ true → Inv q (connection_at q g)
+inv-at g r a b q sq = subst (λ (x : Bool). Fit q x true (connection_at q g)) a (subst (λ (x : Bool). Fit q g.sends x (connection_at q g)) b (all-fit g r q sq))
 
 -- the same commands, with each pair as the other host has it
 
@@ -428,19 +428,19 @@ apt-turned [] a = tt
 apt-turned (c ∷ cs) a = (λ e. a.0 (proper-turned c.pair e), apt-turned cs a.1)
 
 module _ (g back : Shared) (p : Pair) (ts : List Tagged) (r : Reached g) (r' : Reached back) (a : g.sends ≡ true) (b : g.receives ≡ true) (a' : back.sends ≡ true) (b' : back.receives ≡ true) where
-  pub same-link : sends p ≡ true → BothOpen (at p g) → (or_new (g.sender p).end).link ≡ (or_new (g.receiver p).end).link
-  same-link sp o = (joined p sp (at p g) (inv-at g r a b p sp) o).link
+  pub same-link : sends p ≡ true → BothOpenOnConnection (connection_at p g) → (or_new (g.sender p).end).link ≡ (or_new (g.receiver p).end).link
+  same-link sp o = (joined p sp (connection_at p g) (inv-at g r a b p sp) o).link
 
   -- of ALL, to the senders of g
-  pub grants-on : g.to_senders ≡ turn_all ts → back.to_receivers ≡ ts → Apt ts → sends p ≡ true → BothOpen (at p g) → (f : Command → ℕ) → ((c : Command) → is_all c ≡ false → f c ≡ 0)
+  pub grants-on : g.to_senders ≡ turn_all ts → back.to_receivers ≡ ts → Apt ts → sends p ≡ true → BothOpenOnConnection (connection_at p g) → (f : Command → ℕ) → ((c : Command) → is_all c ≡ false → f c ≡ 0)
       → sum_on (or_new (g.sender p).end).link f (commands_of ts) ≡ sum_of f (only p g.to_senders)
   grants-on e e' t sp o f none = ap (λ (l : List Command). sum_on on f l) (sym (commands-turned ts) ∙ ap commands_of (sym e)) ∙ sums is_all f none on p g.to_senders each
     where
       on : ℕ
       on = (or_new (g.sender p).end).link
 
-      j : Joined p sp (at p g) (inv-at g r a b p sp)
-      j = joined p sp (at p g) (inv-at g r a b p sp) o
+      j : Joined p sp (connection_at p g) (inv-at g r a b p sp)
+      j = joined p sp (connection_at p g) (inv-at g r a b p sp) o
 
       holds_it : hears_at g on p ≡ true
       holds_it = hears_from on p (or_new (g.sender p).end) sp j.heard refl
@@ -453,18 +453,18 @@ module _ (g back : Shared) (p : Pair) (ts : List Tagged) (r : Reached g) (r' : R
         heard = (or_new (g.sender q).end).heard;
         link = (or_new (g.sender q).end).link;
         other = λ h x. both_ways (same q p) d (subst (λ (z : Pair). same q z ≡ true) ((all-linked g r).senders a q p on (hears_from on q (or_new (g.sender q).end) sq h x) holds_it) (same_refl q));
-        hears = to-sender q sq (at q g) (inv-at g r a b q sq);
+        hears = to-sender q sq (connection_at q g) (inv-at g r a b q sq);
       }
 
       known : (q : Pair) → sends q ≡ true → Known (kinds to_receiver_kind (only q (turn_all (turn_all ts))))
       known q sq = subst (λ (l : List Tagged). Known (kinds to_receiver_kind (only q l))) (e' ∙ sym (turned-twice ts))
-          (known-tells (or_new (back.receiver q).end).asked (or_new (back.receiver q).end).link (kinds to_receiver_kind (only q back.to_receivers)) (to-receiver q sq (at q back) (inv-at back r' a' b' q sq)))
+          (known-tells (or_new (back.receiver q).end).asked (or_new (back.receiver q).end).link (kinds to_receiver_kind (only q back.to_receivers)) (to-receiver q sq (connection_at q back) (inv-at back r' a' b' q sq)))
 
       each : Each is_all on p g.to_senders
       each = alls on p g.to_senders j.own (untaken on p g.to_senders (or_new (g.sender p).end).left (asks_at g on p) j.own clear)
           (subst (λ (l : List Tagged). Beside is_all l) (sym e) (beside is_all to_sender_kind to_receiver_kind true all-counted (turn_all ts) (apt-turned ts t) known)) apart
 
-  pub granted-all : g.to_senders ≡ turn_all ts → back.to_receivers ≡ ts → Apt ts → sends p ≡ true → BothOpen (at p g)
+  pub granted-all : g.to_senders ≡ turn_all ts → back.to_receivers ≡ ts → Apt ts → sends p ≡ true → BothOpenOnConnection (connection_at p g)
       → (sum_on (or_new (g.sender p).end).link granted_messages (commands_of ts) ≡ sum_of granted_messages (only p g.to_senders))
       × (sum_on (or_new (g.sender p).end).link granted_bits (commands_of ts) ≡ sum_of granted_bits (only p g.to_senders))
   granted-all e e' t sp o = (grants-on e e' t sp o granted_messages (λ c n. (no_grant c n).0), grants-on e e' t sp o granted_bits (λ c n. (no_grant c n).1))
@@ -473,29 +473,29 @@ module _ (g back : Shared) (p : Pair) (ts : List Tagged) (r : Reached g) (r' : R
       no_grant c n = (grind arith, grind arith)
 
   -- of RET, to the receivers of g
-  pub returns-on : g.to_receivers ≡ ts → back.to_senders ≡ turn_all ts → Apt ts → sends p ≡ true → BothOpen (at p g) → (f : Command → ℕ) → ((c : Command) → is_ret c ≡ false → f c ≡ 0)
+  pub returns-on : g.to_receivers ≡ ts → back.to_senders ≡ turn_all ts → Apt ts → sends p ≡ true → BothOpenOnConnection (connection_at p g) → (f : Command → ℕ) → ((c : Command) → is_ret c ≡ false → f c ≡ 0)
       → sum_on (or_new (g.sender p).end).link f (commands_of ts) ≡ sum_of f (only p g.to_receivers)
   returns-on e e' t sp o f none = ap (λ (l : List Tagged). sum_on on f (commands_of l)) (sym e) ∙ sums is_ret f none on p g.to_receivers each
     where
       on : ℕ
       on = (or_new (g.sender p).end).link
 
-      j : Joined p sp (at p g) (inv-at g r a b p sp)
-      j = joined p sp (at p g) (inv-at g r a b p sp) o
+      j : Joined p sp (connection_at p g) (inv-at g r a b p sp)
+      j = joined p sp (connection_at p g) (inv-at g r a b p sp) o
 
       uses : uses_at g on p ≡ true
       uses = uses_from on p (or_new (g.receiver p).end) sp j.asked (sym j.link)
 
       known : (q : Pair) → sends q ≡ true → Known (kinds to_sender_kind (only q (turn_all ts)))
       known q sq = subst (λ (l : List Tagged). Known (kinds to_sender_kind (only q l))) e'
-          (known-hears (or_new (back.sender q).end).heard (or_new (back.sender q).end).link (kinds to_sender_kind (only q back.to_senders)) (to-sender q sq (at q back) (inv-at back r' a' b' q sq)))
+          (known-hears (or_new (back.sender q).end).heard (or_new (back.sender q).end).link (kinds to_sender_kind (only q back.to_senders)) (to-sender q sq (connection_at q back) (inv-at back r' a' b' q sq)))
 
       each : Each is_ret on p g.to_receivers
       each = rets g ((all-linked g r).receivers b) on p (sym j.link) uses sp g.to_receivers
           (subst (λ (l : List Tagged). Beside is_ret l) (sym e) (beside is_ret to_receiver_kind to_sender_kind false ret-counted ts t known))
-          (λ q sq. to-receiver q sq (at q g) (inv-at g r a b q sq))
+          (λ q sq. to-receiver q sq (connection_at q g) (inv-at g r a b q sq))
 
-  pub returned-all : g.to_receivers ≡ ts → back.to_senders ≡ turn_all ts → Apt ts → sends p ≡ true → BothOpen (at p g)
+  pub returned-all : g.to_receivers ≡ ts → back.to_senders ≡ turn_all ts → Apt ts → sends p ≡ true → BothOpenOnConnection (connection_at p g)
       → (sum_on (or_new (g.sender p).end).link returned_messages (commands_of ts) ≡ sum_of returned_messages (only p g.to_receivers))
       × (sum_on (or_new (g.sender p).end).link returned_bits (commands_of ts) ≡ sum_of returned_bits (only p g.to_receivers))
   returned-all e e' t sp o = (returns-on e e' t sp o returned_messages (λ c n. (no_return c n).0), returns-on e e' t sp o returned_bits (λ c n. (no_return c n).1))

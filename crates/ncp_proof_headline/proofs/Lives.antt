@@ -7,7 +7,7 @@ use Rattle.std.proofs.lemmas.List.{append_assoc}
 use Rattle.ncp_terms.specs.declared.command.Command.{Command}
 use Rattle.ncp_terms.specs.declared.command.Command.TheVariants.{Rst, Rrp}
 use Rattle.ncp_model.specs.Phase.{is_other}
-use Rattle.ncp_proof_resets.specs.Resets.{Host, is_up}
+use Rattle.ncp_proof_resets.specs.Resets.{ResetHost, is_up}
 use Rattle.ncp_model.proofs.ResetLists.{rsts, rrps, others, purged, rrps-append, rrps-purged, arrives, arrives_nothing, arrives_on}
 use Rattle.ncp_proof_resets.proofs.ResetKept.{Kept}
 
@@ -30,7 +30,7 @@ live true u = behind u
 live false u = fronts u
 
 -- the host is up, or will be by an RRP of the c RRPs that are underway to it
-abbrev pub alive : Host → ℕ → Bool
+abbrev pub alive : ResetHost → ℕ → Bool
 alive h c = not (h.phase.down || h.phase.want || h.phase.owe) && (not h.phase.wait || nat_lt 0 c)
 
 -- what came first, and what was struck behind it
@@ -127,7 +127,7 @@ rrps_cut x q = grind (arith, rrps-append, rrps-purged)
 
 -- With what the reset machine keeps.
 
-module _ (h k : Host) (x y : List Command) (p : Kept h k x y) where
+module _ (h k : ResetHost) (x y : List Command) (p : Kept h k x y) where
   -- h is up: what it makes is live for a peer that is
   pub live_more : (c : Command) → is_other c ≡ true → is_up h ≡ true → alive k (rrps (x ++ h.phase.waiting)) ≡ true
       → live k.phase.wait (x ++ (h.phase.waiting ++ c ∷ [])) ≡ live k.phase.wait (x ++ h.phase.waiting) ++ c ∷ []

@@ -7,14 +7,13 @@ use Rattle.ncp_model.specs.declared.pair.Pair.{Pair}
 use Rattle.ncp_model.specs.Pairs.{pair_cmp}
 use Rattle.ncp_model.specs.End.{End, is_live}
 use Rattle.ncp_model.specs.Texts.{Rfnm, Incomplete}
-use Rattle.ncp_terms.specs.declared.answer.Answer.TheVariants as answers
+use Rattle.ncp_terms.specs.declared.answer.Answer.{Answer}
 use Rattle.ncp_model.specs.Ends.{Ends, has_asked, no_ends, put}
 use Rattle.ncp_model.specs.Happenings.{Happening, happens}
-use Rattle.ncp_model.specs.Happenings as all
 use Rattle.ncp_model.specs.Leading.{passes}
 use Rattle.ncp_model.specs.Sending.{is_full}
-use Rattle.ncp_proof_resets.specs.Resets.{Host, is_up, host_makes_all, Side, This, That}
-use Rattle.ncp_proof_machine.specs.Hosts.{Node, Call, called, happens_at, hears, World, swap, Step, Calls, steps, at}
+use Rattle.ncp_proof_resets.specs.Resets.{ResetHost, is_up, host_makes_all, Party, This, That}
+use Rattle.ncp_proof_machine.specs.Hosts.{Node, PairCall, called, happens_at, node_hears, TwoNodes, nodes_swapped, NodeStep, Calls, node_steps, node_at}
 use Rattle.ncp_proof_machine.proofs.EndsGood.{Changes, same_or, changed-each, put-changes}
 use Rattle.ncp_proof_machine.proofs.HostsBase.{either, other-keeps}
 use Rattle.ncp_proof_machine.proofs.Standing.{asks, ByLinks, StandsIn, command-stands, step-keeps}
@@ -31,48 +30,48 @@ none-open p = subst (Unopened p) (sym (get-empty pair_cmp p)) (refl, refl)
 
 -- nothing but an own request asks, and without one nothing opens
 unopened-after : (pair : Pair) (what : Happening) (before : Option End) → asks what ≡ false → Unopened pair before → Unopened pair (happens pair what before).after
-unopened-after pair (all.Asks_to_send of_size with_room own full) before a u = absurd (cc a)
-unopened-after pair (all.Asks_to_receive with_room on own full) before a u = absurd (cc a)
-unopened-after pair (all.Closes full) None a u = u
-unopened-after pair (all.Closes full) (Some e) a u = grind arith
-unopened-after pair (all.Gives text) None a u = u
-unopened-after pair (all.Gives text) (Some e) a u = grind arith
-unopened-after pair (all.Takes bytes) None a u = u
-unopened-after pair (all.Takes bytes) (Some e) a u = grind arith
-unopened-after pair (all.Allocates m b full) None a u = u
-unopened-after pair (all.Allocates m b full) (Some e) a u = grind arith
-unopened-after pair (all.Calls_back m b full) None a u = u
-unopened-after pair (all.Calls_back m b full) (Some e) a u = grind arith
-unopened-after pair (all.Interrupts full) None a u = u
-unopened-after pair (all.Interrupts full) (Some e) a u = grind arith
-unopened-after pair (all.Rts_comes on taken by_peer) None a u = grind arith
-unopened-after pair (all.Rts_comes on taken by_peer) (Some e) a u = grind arith
-unopened-after pair (all.Str_comes of_size by_peer) None a u = grind arith
-unopened-after pair (all.Str_comes of_size by_peer) (Some e) a u = grind arith
-unopened-after pair all.Cls_comes None a u = grind arith
-unopened-after pair all.Cls_comes (Some e) a u = grind arith
-unopened-after pair (all.All_comes on m b) None a u = u
-unopened-after pair (all.All_comes on m b) (Some e) a u = grind arith
-unopened-after pair (all.Gvb_comes on m b) None a u = u
-unopened-after pair (all.Gvb_comes on m b) (Some e) a u = grind arith
-unopened-after pair (all.Ret_comes on m b) None a u = u
-unopened-after pair (all.Ret_comes on m b) (Some e) a u = grind arith
-unopened-after pair (all.Inr_comes on) None a u = u
-unopened-after pair (all.Inr_comes on) (Some e) a u = grind arith
-unopened-after pair (all.Ins_comes on) None a u = u
-unopened-after pair (all.Ins_comes on) (Some e) a u = grind arith
-unopened-after pair (all.Text_comes head of_size text) None a u = u
-unopened-after pair (all.Text_comes head of_size text) (Some e) a u = grind arith
-unopened-after pair all.Text_goes_out None a u = u
-unopened-after pair all.Text_goes_out (Some e) a u = grind arith
-unopened-after pair (all.Is_answered Rfnm) None a u = u
-unopened-after pair (all.Is_answered Rfnm) (Some e) a u = grind arith
-unopened-after pair (all.Is_answered Incomplete) before a u = u
-unopened-after pair (all.Is_answered answers.Dead) before a u = u
-unopened-after pair all.Is_cleared before a u = (refl, refl)
+unopened-after pair (Happening.Asks_to_send of_size with_room own full) before a u = absurd (cc a)
+unopened-after pair (Happening.Asks_to_receive with_room on own full) before a u = absurd (cc a)
+unopened-after pair (Happening.Closes full) None a u = u
+unopened-after pair (Happening.Closes full) (Some e) a u = grind arith
+unopened-after pair (Happening.Gives text) None a u = u
+unopened-after pair (Happening.Gives text) (Some e) a u = grind arith
+unopened-after pair (Happening.Takes bytes) None a u = u
+unopened-after pair (Happening.Takes bytes) (Some e) a u = grind arith
+unopened-after pair (Happening.Allocates m b full) None a u = u
+unopened-after pair (Happening.Allocates m b full) (Some e) a u = grind arith
+unopened-after pair (Happening.Calls_back m b full) None a u = u
+unopened-after pair (Happening.Calls_back m b full) (Some e) a u = grind arith
+unopened-after pair (Happening.Interrupts full) None a u = u
+unopened-after pair (Happening.Interrupts full) (Some e) a u = grind arith
+unopened-after pair (Happening.Rts_comes on taken by_peer) None a u = grind arith
+unopened-after pair (Happening.Rts_comes on taken by_peer) (Some e) a u = grind arith
+unopened-after pair (Happening.Str_comes of_size by_peer) None a u = grind arith
+unopened-after pair (Happening.Str_comes of_size by_peer) (Some e) a u = grind arith
+unopened-after pair Happening.Cls_comes None a u = grind arith
+unopened-after pair Happening.Cls_comes (Some e) a u = grind arith
+unopened-after pair (Happening.All_comes on m b) None a u = u
+unopened-after pair (Happening.All_comes on m b) (Some e) a u = grind arith
+unopened-after pair (Happening.Gvb_comes on m b) None a u = u
+unopened-after pair (Happening.Gvb_comes on m b) (Some e) a u = grind arith
+unopened-after pair (Happening.Ret_comes on m b) None a u = u
+unopened-after pair (Happening.Ret_comes on m b) (Some e) a u = grind arith
+unopened-after pair (Happening.Inr_comes on) None a u = u
+unopened-after pair (Happening.Inr_comes on) (Some e) a u = grind arith
+unopened-after pair (Happening.Ins_comes on) None a u = u
+unopened-after pair (Happening.Ins_comes on) (Some e) a u = grind arith
+unopened-after pair (Happening.Text_comes head of_size text) None a u = u
+unopened-after pair (Happening.Text_comes head of_size text) (Some e) a u = grind arith
+unopened-after pair Happening.Text_goes_out None a u = u
+unopened-after pair Happening.Text_goes_out (Some e) a u = grind arith
+unopened-after pair (Happening.Is_answered Rfnm) None a u = u
+unopened-after pair (Happening.Is_answered Rfnm) (Some e) a u = grind arith
+unopened-after pair (Happening.Is_answered Incomplete) before a u = u
+unopened-after pair (Happening.Is_answered Answer.Dead) before a u = u
+unopened-after pair Happening.Is_cleared before a u = (refl, refl)
 
 -- one call where no end is: the peer's request is not there, so nothing opens
-called-unopened : (pair : Pair) (call : Call) (full : Bool) (m : Ends) → is_live (happens pair (called call full m) None).after ≡ false
+called-unopened : (pair : Pair) (call : PairCall) (full : Bool) (m : Ends) → is_live (happens pair (called call full m) None).after ≡ false
 called-unopened pair call full m = grind arith
 
 -- one end is changed, and by no own request
@@ -83,17 +82,17 @@ none-stand : (n : Node) → n.ends ≡ no_ends → StandsIn NoneOpen n
 none-stand n e = record { none = λ _. e; good = subst NoneOpen (sym e) none-open }
 
 -- where there were no ends a command opens none
-pub none-live-heard : (c : Command) (n : Node) (p : Pair) → n.ends ≡ no_ends → is_live (get (hears c n).ends p) ≡ false
+pub none-live-heard : (c : Command) (n : Node) (p : Pair) → n.ends ≡ no_ends → is_live (get (node_hears c n).ends p) ≡ false
 none-live-heard c n p e = ((command-stands NoneOpen none-open by_links c n (none-stand n e)).good p).1
 
 -- a call puts one end there, that is not open
-calling-opens : (pair : Pair) (call : Call) (n : Node) (p : Pair) → n.ends ≡ no_ends → is_live (get (happens_at pair (called call (is_full n.host.phase) n.ends) n).ends p) ≡ false
+calling-opens : (pair : Pair) (call : PairCall) (n : Node) (p : Pair) → n.ends ≡ no_ends → is_live (get (happens_at pair (called call (is_full n.host.phase) n.ends) n).ends p) ≡ false
 calling-opens pair call n p e = go (is_up host)
   where
     what : Happening
     what = called call (is_full n.host.phase) n.ends
 
-    host : Host
+    host : ResetHost
     host = host_makes_all (happens pair what (get n.ends pair)).made n.host
 
     m : Ends
@@ -115,20 +114,20 @@ calling-opens pair call n p e = go (is_up host)
     go false = (none-open p).1
 
 -- this host's step, and its ends
-pub none-live : (step : Step) (w : World) (p : Pair) → w.this.ends ≡ no_ends → is_live (get (steps step w).this.ends p) ≡ false
+pub none-live : (step : NodeStep) (w : TwoNodes) (p : Pair) → w.this.ends ≡ no_ends → is_live (get (node_steps step w).this.ends p) ≡ false
 none-live (Calls pair call) w p e =
     either (λ (n : Node). is_live (get n.ends p) ≡ false) (is_up w.this.host) (happens_at pair (called call (is_full w.this.host.phase) w.this.ends) w.this) w.this
     (calling-opens pair call w.this p e) ((none-stand w.this e).good p).1
 none-live step w p e = ((step-keeps NoneOpen none-open by_links step w (λ pair call f. absurd (cc f)) (none-stand w.this e)).good p).1
 
 -- a step of this host leaves that host's ends as they are
-pub none-live-there : (step : Step) (w : World) (p : Pair) → w.that.ends ≡ no_ends → is_live (get (steps step w).that.ends p) ≡ false
+pub none-live-there : (step : NodeStep) (w : TwoNodes) (p : Pair) → w.that.ends ≡ no_ends → is_live (get (node_steps step w).that.ends p) ≡ false
 none-live-there step w p e =
     let same = other-keeps (λ (n : Node). n.ends ≡ w.that.ends) (λ n l f. f) (λ n ls f. f) step w refl in
     ap (λ (m : Ends). is_live (get m p)) (same ∙ e) ∙ (none-open p).1
 
 -- a step of either host
-pub none-live-at : (side : Side) (step : Step) (w : World) (p : Pair)
-    → (w.this.ends ≡ no_ends → is_live (get (at side step w).this.ends p) ≡ false) × (w.that.ends ≡ no_ends → is_live (get (at side step w).that.ends p) ≡ false)
+pub none-live-at : (side : Party) (step : NodeStep) (w : TwoNodes) (p : Pair)
+    → (w.this.ends ≡ no_ends → is_live (get (node_at side step w).this.ends p) ≡ false) × (w.that.ends ≡ no_ends → is_live (get (node_at side step w).that.ends p) ≡ false)
 none-live-at This step w p = (λ e. none-live step w p e, λ e. none-live-there step w p e)
-none-live-at That step w p = (λ e. none-live-there step (swap w) p e, λ e. none-live step (swap w) p e)
+none-live-at That step w p = (λ e. none-live-there step (nodes_swapped w) p e, λ e. none-live step (nodes_swapped w) p e)

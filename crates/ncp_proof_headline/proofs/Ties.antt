@@ -5,16 +5,15 @@
 use Rattle.std.proofs.Common.{◌≡◌, ℕ, Bool, true, false, List, [], ◌∷◌, ◌++◌, Option, None, Some, refl, sym, ap, ◌∙◌, subst}
 use Rattle.std.specs.FinMap.{get}
 use Rattle.ncp_terms.specs.declared.command.Command.{Command}
-use Rattle.ncp_terms.specs.declared.command.Command.TheVariants as commands
 use Rattle.ncp_model.specs.declared.pair.Pair.{Pair}
 use Rattle.ncp_model.specs.Pairs.{sends, is_proper, turned}
 use Rattle.ncp_model.specs.Act.{is_data_link}
-use Rattle.ncp_proof_resets.specs.Delivery.{Slot, Empty, Ready, Travelling, Held, Subnet, Free, Accepted, Delivered, Lost, Dead, Link, idle}
+use Rattle.ncp_proof_resets.specs.Delivery.{Slot, Empty, Ready, Travelling, Held, MessageTransit, Free, Accepted, Delivered, Lost, Dead, Link, idle}
 use Rattle.ncp_proof_connection.specs.Connections.{Text, No_text, Away, Here}
 use Rattle.ncp_proof_sharing.specs.Sharing.{Tagged, Shared, new_shared, Shared_event, shared_occurs, shared_from, shared, MayHappen, AllMayHappen}
 use Rattle.ncp_proof_sharing.specs.Finding.{link_out}
 use Rattle.ncp_proof_machine.specs.Hosts.{TextOut, Node}
-use Rattle.ncp_proof_headline.specs.Tied.{watched}
+use Rattle.ncp_proof_headline.specs.Tied.{watched_at}
 
 -- a machine that came about by events that may happen
 abbrev pub Reached : Shared → Type 0
@@ -22,21 +21,21 @@ Reached g = record { events : List Shared_event; is_it : shared events ≡ g; ma
 
 -- The text that a data link carries, for the machine that knows no slots.
 
-abbrev pub in_subnet : ℕ → TextOut → Subnet TextOut → Text
+abbrev pub in_subnet : ℕ → TextOut → MessageTransit TextOut → Text
 in_subnet on t Free = No_text
 in_subnet on t (Accepted u) = Away on u.of_size u.bits
 in_subnet on t Delivered = Here on
 in_subnet on t Lost = Away on t.of_size t.bits
 in_subnet on t Dead = Away on t.of_size t.bits
 
-abbrev pub text_on : ℕ → Slot TextOut → Subnet TextOut → Text
+abbrev pub text_on : ℕ → Slot TextOut → MessageTransit TextOut → Text
 text_on on Empty s = No_text
 text_on on (Ready t) s = Away on t.of_size t.bits
 text_on on (Held t) s = Away on t.of_size t.bits
 text_on on (Travelling t) s = in_subnet on t s
 
 -- something is on the link, and the subnet holds it where it travels
-abbrev pub Carried : Slot TextOut → Subnet TextOut → Type 0
+abbrev pub Carried : Slot TextOut → MessageTransit TextOut → Type 0
 Carried (Ready t) Free = Unit {0}
 Carried (Held t) Free = Unit {0}
 Carried (Travelling t) (Accepted u) = u ≡ t
@@ -70,8 +69,8 @@ abbrev pub Way : Bool → Bool → Owners → Node → Node → Shared → Type 
 Way a b own n m g = record {
   alive : g.sends ≡ a;
   alive_too : g.receives ≡ b;
-  sender : (p : Pair) → sends p ≡ true → g.sender p ≡ watched n p;
-  receiver : (p : Pair) → sends p ≡ true → g.receiver p ≡ watched m (turned p);
+  sender : (p : Pair) → sends p ≡ true → g.sender p ≡ watched_at n p;
+  receiver : (p : Pair) → sends p ≡ true → g.receiver p ≡ watched_at m (turned p);
   texts : Texts own n.texts g.text;
   proper : (p : Pair) → is_proper p ≡ false → get n.ends p ≡ None;
 }
@@ -91,14 +90,14 @@ turn_all [] = []
 turn_all (c ∷ cs) = turn c ∷ turn_all cs
 
 abbrev pub leads_nowhere : Command → Bool
-leads_nowhere (commands.Rts receive send on) = false
-leads_nowhere (commands.Str send receive of_size) = false
-leads_nowhere (commands.Cls my your) = false
-leads_nowhere (commands.All on of_messages of_bits) = false
-leads_nowhere (commands.Gvb on of_messages of_bits) = false
-leads_nowhere (commands.Ret on of_messages of_bits) = false
-leads_nowhere (commands.Inr on) = false
-leads_nowhere (commands.Ins on) = false
+leads_nowhere (Command.Rts receive send on) = false
+leads_nowhere (Command.Str send receive of_size) = false
+leads_nowhere (Command.Cls my your) = false
+leads_nowhere (Command.All on of_messages of_bits) = false
+leads_nowhere (Command.Gvb on of_messages of_bits) = false
+leads_nowhere (Command.Ret on of_messages of_bits) = false
+leads_nowhere (Command.Inr on) = false
+leads_nowhere (Command.Ins on) = false
 leads_nowhere c = true
 
 abbrev pub Apt : List Tagged → Type 0

@@ -12,39 +12,39 @@ use Rattle.ncp_model.specs.Pairs.{sends, is_proper, turned, same}
 use Rattle.ncp_model.specs.Happenings.{Happening, happens, is_violation}
 use Rattle.ncp_proof_watch.specs.Histories.{Watched, watches}
 use Rattle.ncp_proof_connection.specs.Connections.{Text}
-use Rattle.ncp_proof_sharing.specs.Sharing.{Shared, at, set_at, tag, Tagged, Other_to_senders, Other_to_receivers, shared_occurs}
+use Rattle.ncp_proof_sharing.specs.Sharing.{Shared, connection_at, set_at_pair, tag, Tagged, Other_to_senders, Other_to_receivers, shared_occurs}
 use Rattle.ncp_proof_machine.specs.Hosts.{Node}
 use Rattle.ncp_proof_connection.proofs.Outliving.{fit_safe}
 use Rattle.ncp_proof_sharing.proofs.Linking.{LinkFits}
 use Rattle.ncp_proof_sharing.proofs.LinkSteps.{links_ever}
 use Rattle.ncp_proof_sharing.proofs.Projecting.{same_refl, same_true, AllFit, fits_ever}
-use Rattle.ncp_proof_headline.specs.Tied.{watched}
+use Rattle.ncp_proof_headline.specs.Tied.{watched_at}
 use Rattle.ncp_proof_headline.proofs.Ties.{Reached, Owners, Texts, Way, commands_of, turn, turn_all, Apt, Flow, Ties, further, reached-same}
 
 -- this happened at one pair of a host, and nothing at the others
 abbrev pub Sees : Node → Node → Pair → Happening → Type 0
 Sees n n' pair what = record {
-  at_it : watched n' pair ≡ watches pair what (watched n pair);
-  beside : (q : Pair) → ((q ≡ pair) → ⊥) → watched n' q ≡ watched n q;
+  at_it : watched_at n' pair ≡ watches pair what (watched_at n pair);
+  beside : (q : Pair) → ((q ≡ pair) → ⊥) → watched_at n' q ≡ watched_at n q;
 }
 
 -- a machine after this happened at a sender, or at a receiver, of pair p, whose text is now t
 abbrev pub sender_did : Pair → Happening → Text → Shared → Shared
 sender_did p what t g = record g {
-  sender = set_at p (watches p what (g.sender p)) g.sender;
-  receiver = set_at p (g.receiver p) g.receiver;
-  text = set_at p t g.text;
-  violated = set_at p (g.violated p || is_violation (happens p what (g.sender p).end).outcome) g.violated;
+  sender = set_at_pair p (watches p what (g.sender p)) g.sender;
+  receiver = set_at_pair p (g.receiver p) g.receiver;
+  text = set_at_pair p t g.text;
+  violated = set_at_pair p (g.violated p || is_violation (happens p what (g.sender p).end).outcome) g.violated;
   to_receivers = g.to_receivers ++ tag p (happens p what (g.sender p).end).made;
   to_senders = g.to_senders ++ [];
 }
 
 abbrev pub receiver_did : Pair → Happening → Text → Shared → Shared
 receiver_did p what t g = record g {
-  sender = set_at p (g.sender p) g.sender;
-  receiver = set_at p (watches (turned p) what (g.receiver p)) g.receiver;
-  text = set_at p t g.text;
-  violated = set_at p (g.violated p || is_violation (happens (turned p) what (g.receiver p).end).outcome) g.violated;
+  sender = set_at_pair p (g.sender p) g.sender;
+  receiver = set_at_pair p (watches (turned p) what (g.receiver p)) g.receiver;
+  text = set_at_pair p t g.text;
+  violated = set_at_pair p (g.violated p || is_violation (happens (turned p) what (g.receiver p).end).outcome) g.violated;
   to_receivers = g.to_receivers ++ [];
   to_senders = g.to_senders ++ tag p (happens (turned p) what (g.receiver p).end).made;
 }
@@ -93,17 +93,17 @@ improper-apart q p s r e = absurd (both_ways (is_proper p) (subst (λ (x : Pair)
 differs : (p q : Pair) → same p q ≡ false → (q ≡ p) → ⊥
 differs p q d e = absurd (both_ways (same p q) d (subst (λ (x : Pair). same x q ≡ true) e (same_refl q)))
 
-pub set_cases : {A : Type 0} → (P : A → Type 0) (p q : Pair) (x : A) (f : Pair → A) → (p ≡ q → P x) → (((q ≡ p) → ⊥) → P (f q)) → P (set_at p x f q)
+pub set_cases : {A : Type 0} → (P : A → Type 0) (p q : Pair) (x : A) (f : Pair → A) → (p ≡ q → P x) → (((q ≡ p) → ⊥) → P (f q)) → P (set_at_pair p x f q)
 set_cases {A} P p q x f h k = go (same p q) refl
   where
     go : (b : Bool) → same p q ≡ b → P (if b then x else f q)
     go true e = h (same_true p q e)
     go false e = k (differs p q e)
 
-pub set_same : {A : Type 0} → (p q : Pair) (f : Pair → A) → set_at p (f p) f q ≡ f q
+pub set_same : {A : Type 0} → (p q : Pair) (f : Pair → A) → set_at_pair p (f p) f q ≡ f q
 set_same {A} p q f = set_cases (λ (x : A). x ≡ f q) p q (f p) f (λ e. ap f e) (λ d. refl)
 
-pub set_own : {A : Type 0} → (p : Pair) (x : A) (f : Pair → A) → set_at p x f p ≡ x
+pub set_own : {A : Type 0} → (p : Pair) (x : A) (f : Pair → A) → set_at_pair p x f p ≡ x
 set_own {A} p x f = ap (λ b. if b then x else f p) (same_refl p)
 
 -- What joins what is underway.
@@ -146,7 +146,7 @@ all-linked g r = subst LinkFits r.is_it (links_ever r.events r.may)
 
 -- no end ever answers its peer as against the protocol
 pub safe-ever : (g : Shared) (p : Pair) → sends p ≡ true → Reached g → g.violated p ≡ false
-safe-ever g p s r = fit_safe p s g.sends g.receives (at p g) (all-fit g r p s)
+safe-ever g p s r = fit_safe p s g.sends g.receives (connection_at p g) (all-fit g r p s)
 
 second : (a b : Bool) → (a || b) ≡ false → b ≡ false
 second true b e = absurd (cc e)
@@ -157,7 +157,7 @@ module _ (a b : Bool) (own own' : Owners) (n n' m : Node) (u v : List Command) (
   pub sender-acts : (p : Pair) (t : Text) (own1 : Owners) → sends p ≡ true
       → Way a b own n m g → Way b a own' m n back → Flow b u g.to_receivers back.to_senders → Flow a v back.to_receivers g.to_senders
       → Reached (sender_did p what t g) → Reached back
-      → Sees n n' p what → Texts own1 n'.texts (set_at p t g.text)
+      → Sees n n' p what → Texts own1 n'.texts (set_at_pair p t g.text)
       → record { ties : Ties a b own1 own' n' m (u ++ (happens p what (get n.ends p)).made) v; safe : is_violation (happens p what (get n.ends p)).outcome ≡ false }
   sender-acts p t own1 s w w' f f' r r' e x = record {
     ties = record {
@@ -168,8 +168,8 @@ module _ (a b : Bool) (own own' : Owners) (n n' m : Node) (u v : List Command) (
       there = record {
         alive = w.alive;
         alive_too = w.alive_too;
-        sender = λ q sq. set_cases (λ (x : Watched). x ≡ watched n' q) p q (watches p what (g.sender p)) g.sender
-            (λ k. ap (watches p what) (w.sender p s) ∙ (sym e.at_it ∙ ap (watched n') k)) (λ d. w.sender q sq ∙ sym (e.beside q d));
+        sender = λ q sq. set_cases (λ (x : Watched). x ≡ watched_at n' q) p q (watches p what (g.sender p)) g.sender
+            (λ k. ap (watches p what) (w.sender p s) ∙ (sym e.at_it ∙ ap (watched_at n') k)) (λ d. w.sender q sq ∙ sym (e.beside q d));
         receiver = λ q sq. set_same p q g.receiver ∙ w.receiver q sq;
         texts = x;
         proper = λ q i. ap (λ (x : Watched). x.end) (e.beside q (improper-apart q p i (proper-sender p s))) ∙ w.proper q i;
@@ -199,8 +199,8 @@ module _ (a b : Bool) (own own' : Owners) (n n' m : Node) (u v : List Command) (
   pub receiver-acts : (m' : Node) (p : Pair) (t : Text) (own1 : Owners) → sends p ≡ true
       → Way a b own n m g → Way b a own' m n back → Flow b u g.to_receivers back.to_senders → Flow a v back.to_receivers g.to_senders
       → Reached g → Reached (receiver_did p what t back)
-      → Sees n n' (turned p) what → ((q : Pair) → watched m' q ≡ watched m q)
-      → Texts own n'.texts g.text → Texts own1 m'.texts (set_at p t back.text)
+      → Sees n n' (turned p) what → ((q : Pair) → watched_at m' q ≡ watched_at m q)
+      → Texts own n'.texts g.text → Texts own1 m'.texts (set_at_pair p t back.text)
       → record { ties : Ties a b own own1 n' m' (u ++ (happens (turned p) what (get n.ends (turned p))).made) v; safe : is_violation (happens (turned p) what (get n.ends (turned p))).outcome ≡ false }
   receiver-acts m' p t own1 s w w' f f' r r' e k x x' = record {
     ties = record {
@@ -220,8 +220,8 @@ module _ (a b : Bool) (own own' : Owners) (n n' m : Node) (u v : List Command) (
         alive = w'.alive;
         alive_too = w'.alive_too;
         sender = λ q sq. set_same p q back.sender ∙ (w'.sender q sq ∙ sym (k q));
-        receiver = λ q sq. set_cases (λ (x : Watched). x ≡ watched n' (turned q)) p q (watches (turned p) what (back.receiver p)) back.receiver
-            (λ j. ap (watches (turned p) what) (w'.receiver p s) ∙ (sym e.at_it ∙ ap (λ (i : Pair). watched n' (turned i)) j))
+        receiver = λ q sq. set_cases (λ (x : Watched). x ≡ watched_at n' (turned q)) p q (watches (turned p) what (back.receiver p)) back.receiver
+            (λ j. ap (watches (turned p) what) (w'.receiver p s) ∙ (sym e.at_it ∙ ap (λ (i : Pair). watched_at n' (turned i)) j))
             (λ d. w'.receiver q sq ∙ sym (e.beside (turned q) (λ j. d (ap turned j))));
         texts = x';
         proper = λ q i. ap (λ (x : Watched). x.end) (k q) ∙ w'.proper q i;

@@ -15,22 +15,21 @@ use Rattle.ncp_model.specs.End.{End, or_new, is_live}
 use Rattle.ncp_model.specs.Act.{Act, Stays, is_data_link, made_by_call}
 use Rattle.ncp_model.specs.Calls.{ask_receive}
 use Rattle.ncp_model.specs.Ends.{Ends, count, has_asked, uses_link, free_link, put}
-use Rattle.ncp_model.specs.Happenings.{Happening, Outcome, Happened, happens, happened, of_call, of_take, is_violation}
-use Rattle.ncp_model.specs.Happenings as all
+use Rattle.ncp_model.specs.Happenings.{Happening, Outcome, Happened, happens, happened, outcome_of_call, of_take, is_violation}
 use Rattle.ncp_model.specs.Leading.{passes}
 use Rattle.ncp_proof_watch.specs.Histories.{Past, no_past, Watched, watches, adds, opens}
 use Rattle.ncp_proof_resets.specs.Delivery.{Link}
-use Rattle.ncp_proof_connection.specs.Connections.{Text, text_after, is_call, Sender_calls, Receiver_calls}
-use Rattle.ncp_proof_sharing.specs.Sharing.{Tagged, Shared, set_at, uses_at, Shared_event, On, shared_occurs, MayHappen}
+use Rattle.ncp_proof_connection.specs.Connections.{Text, text_after_outcome, is_call, Sender_calls, Receiver_calls}
+use Rattle.ncp_proof_sharing.specs.Sharing.{Tagged, Shared, set_at_pair, uses_at, Shared_event, On, shared_occurs, MayHappen}
 use Rattle.ncp_proof_sharing.specs.Finding.{link_out}
-use Rattle.ncp_proof_machine.specs.Hosts.{TextOut, Node, or_no_past, past_after, pasts_after, Call, Ask_to_send, Ask_to_receive, Close, Give, Take, Allocate, Call_back, Interrupt, called}
+use Rattle.ncp_proof_machine.specs.Hosts.{TextOut, Node, or_no_past, past_after, pasts_after, PairCall, Ask_to_send, Ask_to_receive, Close, Give, Take, Allocate, Call_back, Interrupt, called}
 use Rattle.ncp_model.proofs.PairOrder.{pairs_exact, pairs_total}
 use Rattle.ncp_model.proofs.FreeLinks.{free-from, free-free, free-room}
 use Rattle.ncp_model.proofs.LinksLead.{itself}
 use Rattle.ncp_model.proofs.Lookups.{any-none}
 use Rattle.ncp_proof_machine.proofs.EndsGood.{Changes, same_or, put-changes}
 use Rattle.ncp_proof_sharing.proofs.Linking.{uses_parts}
-use Rattle.ncp_proof_headline.specs.Tied.{watched}
+use Rattle.ncp_proof_headline.specs.Tied.{watched_at}
 use Rattle.ncp_proof_headline.proofs.Ties.{commands_of, turn, turn_all, leads_nowhere, Apt, Flow, Owned, Owners, Texts, Way, Ties, further, reached-same}
 use Rattle.ncp_proof_headline.proofs.TiesBase.{Sees, sender_did, receiver_did, set_same, others-to-senders, others-to-receivers, sender-acts, receiver-acts}
 
@@ -106,14 +105,14 @@ sees-put n pair what = record {
 -- A call that is refused changes nothing: the same machines do.
 
 abbrev Refusal : Pair → Happening → Option End → Type 0
-Refusal pair what before = (fault : CallFault) × (happens pair what before ≡ record { after = before; made = []; outcome = all.Refused fault })
+Refusal pair what before = (fault : CallFault) × (happens pair what before ≡ record { after = before; made = []; outcome = Outcome.Refused fault })
 
-refused-adds : (what : Happening) (fault : CallFault) (past : Past) → adds what (all.Refused fault) past ≡ past
-refused-adds (all.Gives text) fault past = ap (λ (l : List Bool). record past { given = l }) (append-nil past.given)
-refused-adds (all.Takes bytes) fault past = ap (λ (l : List Bool). record past { taken = l }) (append-nil past.taken)
-refused-adds (all.Allocates m b full) fault past = grind arith
-refused-adds (all.Ret_comes on m b) fault past = grind arith
-refused-adds (all.Text_comes head of_size text) fault past = grind (arith, append-nil)
+refused-adds : (what : Happening) (fault : CallFault) (past : Past) → adds what (Outcome.Refused fault) past ≡ past
+refused-adds (Happening.Gives text) fault past = ap (λ (l : List Bool). record past { given = l }) (append-nil past.given)
+refused-adds (Happening.Takes bytes) fault past = ap (λ (l : List Bool). record past { taken = l }) (append-nil past.taken)
+refused-adds (Happening.Allocates m b full) fault past = grind arith
+refused-adds (Happening.Ret_comes on m b) fault past = grind arith
+refused-adds (Happening.Text_comes head of_size text) fault past = grind (arith, append-nil)
 refused-adds what fault past = refl
 
 opens-not : (e : Option End) → opens e e ≡ false
@@ -126,11 +125,11 @@ opens-not e = go (is_live e)
 refused-stays : (pair : Pair) (what : Happening) (w : Watched) → Refusal pair what w.end → watches pair what w ≡ w
 refused-stays pair what w r =
     ap (λ (h : Happened). record { end = h.after; past = adds what h.outcome (if opens w.end h.after then no_past else w.past) }) r.1
-    ∙ (ap (λ b. record { end = w.end; past = adds what (all.Refused r.0) (if b then no_past else w.past) }) (opens-not w.end)
+    ∙ (ap (λ b. record { end = w.end; past = adds what (Outcome.Refused r.0) (if b then no_past else w.past) }) (opens-not w.end)
     ∙ ap (λ (past : Past). record { end = w.end; past = past }) (refused-adds what r.0 w.past))
 
 -- the ties rest on what a host knows of its pairs, and on its texts
-ties-same : (a b : Bool) (own own' : Owners) (n n' m : Node) (u v : List Command) → ((q : Pair) → watched n' q ≡ watched n q) → n'.texts ≡ n.texts → Ties a b own own' n m u v → Ties a b own own' n' m u v
+ties-same : (a b : Bool) (own own' : Owners) (n n' m : Node) (u v : List Command) → ((q : Pair) → watched_at n' q ≡ watched_at n q) → n'.texts ≡ n.texts → Ties a b own own' n m u v → Ties a b own own' n' m u v
 ties-same a b own own' n n' m u v e f t = record {
   g = t.g;
   back = t.back;
@@ -177,7 +176,7 @@ Did a b own own' n m u v pair what = record {
 
 -- nothing that happens here is a text that goes out
 abbrev Unsent : Pair → Happening → Type 0
-Unsent pair what = (before : Option End) (on : ℕ) (text : Text) → text_after on (happens pair what before).outcome text ≡ text
+Unsent pair what = (before : Option End) (on : ℕ) (text : Text) → text_after_outcome on (happens pair what before).outcome text ≡ text
 
 module _ (a b : Bool) (own own' : Owners) (n m : Node) (u v : List Command) (pair : Pair) (what : Happening) (t : Ties a b own own' n m u v) where
   by-none : Refusal pair what (get n.ends pair) → Did a b own own' n m u v pair what
@@ -192,18 +191,18 @@ module _ (a b : Bool) (own own' : Owners) (n m : Node) (u v : List Command) (pai
       s : Sees n n' pair what
       s = sees-put n pair what
 
-      same_everywhere : (q : Pair) → watched n' q ≡ watched n q
+      same_everywhere : (q : Pair) → watched_at n' q ≡ watched_at n q
       same_everywhere q = go (same_or q pair)
         where
-          go : (q ≡ pair) ⊎ ((q ≡ pair) → ⊥) → watched n' q ≡ watched n q
-          go (inl e) = subst (λ (p : Pair). watched n' p ≡ watched n p) (sym e) (s.at_it ∙ refused-stays pair what (watched n pair) r)
+          go : (q ≡ pair) ⊎ ((q ≡ pair) → ⊥) → watched_at n' q ≡ watched_at n q
+          go (inl e) = subst (λ (p : Pair). watched_at n' p ≡ watched_at n p) (sym e) (s.at_it ∙ refused-stays pair what (watched_at n pair) r)
           go (inr d) = s.beside q d
 
   by-sender : a ≡ true → sends pair ≡ true → is_call what ≡ true → Unsent pair what → Did a b own own' n m u v pair what
   by-sender up s c sent =
       sender-acts a b own own' n n' m u v what t.g t.back pair (t.g.text pair) own s t.there t.here t.going t.coming
       (reached-same (shared_occurs event t.g) (sender_did pair what (t.g.text pair) t.g) same_event (further t.g event t.reached tt)) t.reached_back
-      (sees-put n pair what) (texts-same own n.texts t.g.text (set_at pair (t.g.text pair) t.g.text) (λ q. set_same pair q t.g.text) t.there.texts)
+      (sees-put n pair what) (texts-same own n.texts t.g.text (set_at_pair pair (t.g.text pair) t.g.text) (λ q. set_same pair q t.g.text) t.there.texts)
     where
       n' : Node
       n' = node_after n pair what
@@ -214,7 +213,7 @@ module _ (a b : Bool) (own own' : Owners) (n m : Node) (u v : List Command) (pai
       alive : t.g.sends ≡ true
       alive = t.there.alive ∙ up
 
-      did : shared_occurs (On pair (Sender_calls what)) t.g ≡ sender_did pair what (text_after (or_new (t.g.sender pair).end).link (happens pair what (t.g.sender pair).end).outcome (t.g.text pair)) t.g
+      did : shared_occurs (On pair (Sender_calls what)) t.g ≡ sender_did pair what (text_after_outcome (or_new (t.g.sender pair).end).link (happens pair what (t.g.sender pair).end).outcome (t.g.text pair)) t.g
       did = rw (s, alive, c) refl
 
       same_event : shared_occurs (On pair (Sender_calls what)) t.g ≡ sender_did pair what (t.g.text pair) t.g
@@ -224,7 +223,7 @@ module _ (a b : Bool) (own own' : Owners) (n m : Node) (u v : List Command) (pai
   by-receiver up s c may =
       receiver-acts a b own own' n n' m u v what t.g t.back m (turned pair) (t.back.text (turned pair)) own' s t.there t.here t.going t.coming
       t.reached (reached-same (shared_occurs event t.back) (receiver_did (turned pair) what (t.back.text (turned pair)) t.back) same_event (further t.back event t.reached_back may))
-      (sees-put n pair what) (λ q. refl) t.there.texts (texts-same own' m.texts t.back.text (set_at (turned pair) (t.back.text (turned pair)) t.back.text) (λ q. set_same (turned pair) q t.back.text) t.here.texts)
+      (sees-put n pair what) (λ q. refl) t.there.texts (texts-same own' m.texts t.back.text (set_at_pair (turned pair) (t.back.text (turned pair)) t.back.text) (λ q. set_same (turned pair) q t.back.text) t.here.texts)
     where
       n' : Node
       n' = node_after n pair what
@@ -240,15 +239,15 @@ module _ (a b : Bool) (own own' : Owners) (n m : Node) (u v : List Command) (pai
 
 -- Of the calls.
 
-unsent-call : {A : Type 0} → (r : Result A CallFault) (on : ℕ) (text : Text) → text_after on (of_call r) text ≡ text
+unsent-call : {A : Type 0} → (r : Result A CallFault) (on : ℕ) (text : Text) → text_after_outcome on (outcome_of_call r) text ≡ text
 unsent-call (Ok x) on text = refl
 unsent-call (Err fault) on text = refl
 
-unsent-take : (r : Result (List Bool × Option Command) CallFault) (on : ℕ) (text : Text) → text_after on (of_take r) text ≡ text
+unsent-take : (r : Result (List Bool × Option Command) CallFault) (on : ℕ) (text : Text) → text_after_outcome on (of_take r) text ≡ text
 unsent-take (Ok x) on text = refl
 unsent-take (Err fault) on text = refl
 
-calls-unsent : (pair : Pair) (call : Call) (full : Bool) (m : Ends) → Unsent pair (called call full m)
+calls-unsent : (pair : Pair) (call : PairCall) (full : Bool) (m : Ends) → Unsent pair (called call full m)
 calls-unsent pair (Ask_to_send of_size with_room) full m before on text = unsent-call _ on text
 calls-unsent pair (Ask_to_receive with_room) full m before on text = unsent-call _ on text
 calls-unsent pair Close full m before on text = unsent-call _ on text
@@ -259,13 +258,13 @@ calls-unsent pair (Call_back of_messages of_bits) full m before on text = unsent
 calls-unsent pair Interrupt full m before on text = unsent-call _ on text
 
 -- where there is no end, and neither socket suits a request
-none-refused : (pair : Pair) (call : Call) (full : Bool) (m : Ends) → sends pair ≡ false → receives pair ≡ false → Refusal pair (called call full m) None
+none-refused : (pair : Pair) (call : PairCall) (full : Bool) (m : Ends) → sends pair ≡ false → receives pair ≡ false → Refusal pair (called call full m) None
 none-refused pair (Ask_to_send of_size with_room) full m s r = (BadSex, rw s refl)
 none-refused pair (Ask_to_receive with_room) full m s r = (BadSex, rw r refl)
 none-refused pair call full m s r = (NoEntry, grind arith)
 
 -- where the socket here does not receive
-sex-refused : (pair : Pair) (with_room on own : ℕ) (full : Bool) (before : Option End) → receives pair ≡ false → Refusal pair (all.Asks_to_receive with_room on own full) before
+sex-refused : (pair : Pair) (with_room on own : ℕ) (full : Bool) (before : Option End) → receives pair ≡ false → Refusal pair (Happening.Asks_to_receive with_room on own full) before
 sex-refused pair with_room on own full before r = (BadSex, rw r refl)
 
 -- where 64 ends have asked
@@ -280,10 +279,10 @@ or_now : (x : Bool) (fault : CallFault) (act : Act (Result Command CallFault)) �
 or_now true fault act e = (fault, refl)
 or_now false fault act e = absurd (cc e)
 
-table-refused : (pair : Pair) (with_room on own : ℕ) (full : Bool) (before : Option End) → nat_le MAX_OWN own ≡ true → Refusal pair (all.Asks_to_receive with_room on own full) before
+table-refused : (pair : Pair) (with_room on own : ℕ) (full : Bool) (before : Option End) → nat_le MAX_OWN own ≡ true → Refusal pair (Happening.Asks_to_receive with_room on own full) before
 table-refused pair with_room on own full before e =
     let r : Refuses (ask_receive pair with_room on own full before) = or_sooner _ BadSex _ (or_sooner _ BadRoom _ (or_sooner _ AlreadyAsked _ (or_sooner _ Closing _ (or_now _ TableFull _ e)))) in
-    (r.0, ap (λ (act : Act (Result Command CallFault)). happened before act made_by_call of_call) r.1)
+    (r.0, ap (λ (act : Act (Result Command CallFault)). happened before act made_by_call outcome_of_call) r.1)
 
 -- where fewer have, a link is free, and no receiving end uses it
 module _ (b a : Bool) (own : Owners) (m n : Node) (back : Shared) (w : Way b a own m n back) (few : count has_asked n.ends ≤ MAX_OWN) where
@@ -323,7 +322,7 @@ module _ (a b : Bool) (own own' : Owners) (n m : Node) (u v : List Command) (pai
           let few : count has_asked n.ends ≤ MAX_OWN = grind arith in
           by-receiver a b own own' n m u v pair (called (Ask_to_receive with_room) full n.ends) t up (receives-turned pair r) (free-data b a own' m n t.back t.here few) (free-unused b a own' m n t.back t.here few)
 
-  at-receiver : (call : Call) → receives pair ≡ true → Did a b own own' n m u v pair (called call full n.ends)
+  at-receiver : (call : PairCall) → receives pair ≡ true → Did a b own own' n m u v pair (called call full n.ends)
   at-receiver (Ask_to_receive with_room) r = asking with_room r
   at-receiver (Ask_to_send of_size with_room) r = by-receiver a b own own' n m u v pair (called (Ask_to_send of_size with_room) full n.ends) t up (receives-turned pair r) refl tt
   at-receiver Close r = by-receiver a b own own' n m u v pair (called Close full n.ends) t up (receives-turned pair r) refl tt
@@ -333,10 +332,10 @@ module _ (a b : Bool) (own own' : Owners) (n m : Node) (u v : List Command) (pai
   at-receiver (Call_back of_messages of_bits) r = by-receiver a b own own' n m u v pair (called (Call_back of_messages of_bits) full n.ends) t up (receives-turned pair r) refl tt
   at-receiver Interrupt r = by-receiver a b own own' n m u v pair (called Interrupt full n.ends) t up (receives-turned pair r) refl tt
 
-  at-sender : (call : Call) → sends pair ≡ true → Did a b own own' n m u v pair (called call full n.ends)
+  at-sender : (call : PairCall) → sends pair ≡ true → Did a b own own' n m u v pair (called call full n.ends)
   at-sender call s = go call (calls-unsent pair call full n.ends)
     where
-      go : (call : Call) → Unsent pair (called call full n.ends) → Did a b own own' n m u v pair (called call full n.ends)
+      go : (call : PairCall) → Unsent pair (called call full n.ends) → Did a b own own' n m u v pair (called call full n.ends)
       go (Ask_to_receive with_room) x = by-none a b own own' n m u v pair (called (Ask_to_receive with_room) full n.ends) t (sex-refused pair with_room (free_link n.ends) (count has_asked n.ends) full (get n.ends pair) (receives-not pair s))
       go (Ask_to_send of_size with_room) x = by-sender a b own own' n m u v pair (called (Ask_to_send of_size with_room) full n.ends) t up s refl x
       go Close x = by-sender a b own own' n m u v pair (called Close full n.ends) t up s refl x
@@ -347,12 +346,12 @@ module _ (a b : Bool) (own own' : Owners) (n m : Node) (u v : List Command) (pai
       go Interrupt x = by-sender a b own own' n m u v pair (called Interrupt full n.ends) t up s refl x
 
   -- at a pair that is neither: it has no end
-  at-neither : (call : Call) → sends pair ≡ false → receives pair ≡ false → Did a b own own' n m u v pair (called call full n.ends)
+  at-neither : (call : PairCall) → sends pair ≡ false → receives pair ≡ false → Did a b own own' n m u v pair (called call full n.ends)
   at-neither call s r =
       let none : get n.ends pair ≡ None = t.there.proper pair (rw (s, r) refl) in
       by-none a b own own' n m u v pair (called call full n.ends) t (subst (Refusal pair (called call full n.ends)) (sym none) (none-refused pair call full n.ends s r))
 
-pub ties-calls : (a b : Bool) (own own' : Owners) (n m : Node) (u v : List Command) (pair : Pair) (call : Call) (full : Bool) → a ≡ true → Ties a b own own' n m u v
+pub ties-calls : (a b : Bool) (own own' : Owners) (n m : Node) (u v : List Command) (pair : Pair) (call : PairCall) (full : Bool) → a ≡ true → Ties a b own own' n m u v
     → record {
       ties : Ties a b own own' (record n { ends = put n.ends pair (happens pair (called call full n.ends) (get n.ends pair)).after; pasts = pasts_after pair (called call full n.ends) n.ends n.pasts }) m (u ++ (happens pair (called call full n.ends) (get n.ends pair)).made) v;
       safe : is_violation (happens pair (called call full n.ends) (get n.ends pair)).outcome ≡ false;

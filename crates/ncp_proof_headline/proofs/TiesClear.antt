@@ -11,15 +11,15 @@ use Rattle.ncp_model.specs.Pairs.{pair_cmp, turned}
 use Rattle.ncp_model.specs.End.{End, is_live}
 use Rattle.ncp_model.specs.Ends.{Ends, no_ends}
 use Rattle.ncp_model.specs.Act.{is_data_link}
-use Rattle.ncp_model.specs.Happenings as all
+use Rattle.ncp_model.specs.Happenings.{Happening}
 use Rattle.ncp_proof_watch.specs.Histories.{Past, no_past, Watched, watches}
 use Rattle.ncp_proof_connection.specs.Connections.{Text, No_text, Away, Here, no_end}
 use Rattle.ncp_proof_sharing.specs.Sharing.{Tagged, new_shared, Senders_are_cleared, Receivers_are_cleared, All_start_anew, shared_occurs}
 use Rattle.ncp_proof_sharing.specs.Finding.{link_out}
-use Rattle.ncp_proof_resets.specs.Delivery.{Slot, Empty, Ready, Travelling, Held, Subnet, Free, Accepted, Delivered, Lost, Dead, Link, idle, undelivered, answered, woken}
+use Rattle.ncp_proof_resets.specs.Delivery.{Slot, Empty, Ready, Travelling, Held, MessageTransit, Free, Accepted, Delivered, Lost, Dead, Link, idle, undelivered, link_answered, woken}
 use Rattle.ncp_proof_machine.specs.Hosts.{TextOut, Node, new_node, is_empty, all_empty, or_no_past, quiet, set_link}
 use Rattle.ncp_proof_headline.proofs.Lives.{Cut}
-use Rattle.ncp_proof_headline.specs.Tied.{watched}
+use Rattle.ncp_proof_headline.specs.Tied.{watched_at}
 use Rattle.ncp_proof_headline.proofs.Ties.{in_subnet, text_on, Carried, Owned, Owners, Texts, Way, commands_of, turn, turn_all, Apt, Flow, Ties, ties-turned, further}
 
 -- The lists of commands matter only for a host that is alive.
@@ -42,15 +42,15 @@ ties-to a b own own' n m u v w z e f t = record {
 -- A clearing.
 
 -- of what is watched it leaves the past
-cleared_watched : (p : Pair) (end : Option End) (past : Past) → watches p all.Is_cleared (record { end = end; past = past }) ≡ record { end = None; past = past }
+cleared_watched : (p : Pair) (end : Option End) (past : Past) → watches p Happening.Is_cleared (record { end = end; past = past }) ≡ record { end = None; past = past }
 cleared_watched p end past = ap (λ (x : Past). record { end = None; past = x }) (go (is_live end))
   where
     go : (b : Bool) → (if not b && false then no_past else past) ≡ past
     go true = refl
     go false = refl
 
-cleared_at : (n : Node) (p q : Pair) (w : Watched) → w ≡ watched n q → watches p all.Is_cleared w ≡ watched (record n { ends = no_ends }) q
-cleared_at n p q w e = ap (watches p all.Is_cleared) e ∙ (cleared_watched p (get n.ends q) (watched n q).past ∙ ap (λ (o : Option End). record { end = o; past = (watched n q).past }) (sym (get-empty pair_cmp q)))
+cleared_at : (n : Node) (p q : Pair) (w : Watched) → w ≡ watched_at n q → watches p Happening.Is_cleared w ≡ watched_at (record n { ends = no_ends }) q
+cleared_at n p q w e = ap (watches p Happening.Is_cleared) e ∙ (cleared_watched p (get n.ends q) (watched_at n q).past ∙ ap (λ (o : Option End). record { end = o; past = (watched_at n q).past }) (sym (get-empty pair_cmp q)))
 
 commands_taken : (k : ℕ) (cs : List Tagged) → commands_of (take k cs) ≡ take k (commands_of cs)
 commands_taken zero cs = refl
@@ -110,7 +110,7 @@ quiet_empty texts (suc many) from on e l h =
     let here : from ≡ on → is_empty (texts on).slot ≡ is_empty (texts from).slot = λ s. rw s refl in
     grind arith
 
-carried_some : (slot : Slot TextOut) (subnet : Subnet TextOut) → is_empty slot ≡ true → Carried slot subnet → ⊥
+carried_some : (slot : Slot TextOut) (subnet : MessageTransit TextOut) → is_empty slot ≡ true → Carried slot subnet → ⊥
 carried_some Empty subnet e k = k
 carried_some (Ready t) subnet e k = cc e
 carried_some (Travelling t) subnet e k = cc e
@@ -160,7 +160,7 @@ ties-fresh a b own own' n m u v e e' none none' t =
     ties-turned b a own' own m n [] [] (clear_fresh b a own' own m n e' (ties-turned a true own own' n m [] [] one))
 
 -- both hosts at their start
-none_watched : (p : Pair) → no_end ≡ watched new_node p
+none_watched : (p : Pair) → no_end ≡ watched_at new_node p
 none_watched p =
     ap (λ (o : Option End). record { end = o; past = no_past }) (sym (get-empty pair_cmp p))
     ∙ ap (λ (o : Option Past). record { end = get no_ends p; past = or_no_past o }) (sym (get-empty pair_cmp p))
@@ -242,8 +242,8 @@ unlike_idle slot t e = cc (ap (λ (l : Link TextOut). l.subnet) e)
 away : (on : ℕ) (t u : TextOut) → u ≡ t → Away on u.of_size u.bits ≡ Away on t.of_size t.bits
 away on t u e = ap (λ (x : TextOut). Away on x.of_size x.bits) e
 
-module _ (on : ℕ) (as_what : Subnet TextOut) (c : (t : TextOut) → Carried (Travelling t) as_what) (d : (t : TextOut) → in_subnet on t as_what ≡ Away on t.of_size t.bits) where
-  same_undelivered : (slot : Slot TextOut) (subnet : Subnet TextOut) → SameText on (record { slot = slot; subnet = subnet }) (record { slot = slot; subnet = undelivered as_what subnet })
+module _ (on : ℕ) (as_what : MessageTransit TextOut) (c : (t : TextOut) → Carried (Travelling t) as_what) (d : (t : TextOut) → in_subnet on t as_what ≡ Away on t.of_size t.bits) where
+  same_undelivered : (slot : Slot TextOut) (subnet : MessageTransit TextOut) → SameText on (record { slot = slot; subnet = subnet }) (record { slot = slot; subnet = undelivered as_what subnet })
   same_undelivered (Travelling t) (Accepted u) = record { stays_idle = λ e. absurd (unlike_idle (Travelling t) u e); carried = λ k. c t; text = λ k. away on t u k ∙ sym (d t) }
   same_undelivered Empty (Accepted u) = record { stays_idle = λ e. absurd (unlike_idle Empty u e); carried = λ k. absurd k; text = λ k. absurd k }
   same_undelivered (Ready t) (Accepted u) = record { stays_idle = λ e. absurd (unlike_idle (Ready t) u e); carried = λ k. absurd k; text = λ k. absurd k }
@@ -258,11 +258,11 @@ pub same-dead : (on : ℕ) (l : Link TextOut) → SameText on l (record l { subn
 same-dead on l = same_undelivered on Dead (λ t. tt) (λ t. refl) l.slot l.subnet
 
 -- an answer, but RFNM
-abbrev pub is_taken : Slot TextOut → Subnet TextOut → Bool
+abbrev pub is_taken : Slot TextOut → MessageTransit TextOut → Bool
 is_taken (Travelling t) Delivered = true
 is_taken slot subnet = false
 
-pub same-answered : (on : ℕ) (slot : Slot TextOut) (subnet : Subnet TextOut) → is_taken slot subnet ≡ false → SameText on (record { slot = slot; subnet = subnet }) (answered slot subnet)
+pub same-answered : (on : ℕ) (slot : Slot TextOut) (subnet : MessageTransit TextOut) → is_taken slot subnet ≡ false → SameText on (record { slot = slot; subnet = subnet }) (link_answered slot subnet)
 same-answered on (Travelling t) Delivered h = cc h
 same-answered on (Travelling t) Lost h = record { stays_idle = λ e. absurd (cc (ap (λ (l : Link TextOut). l.slot) e)); carried = λ k. tt; text = λ k. refl }
 same-answered on (Travelling t) Dead h = record { stays_idle = λ e. absurd (cc (ap (λ (l : Link TextOut). l.slot) e)); carried = λ k. tt; text = λ k. refl }
@@ -272,11 +272,11 @@ same-answered on slot subnet h = same-text on (record { slot = slot; subnet = su
 pub same-woken : (on : ℕ) (l : Link TextOut) → SameText on l (record { slot = woken l.slot; subnet = l.subnet })
 same-woken on l = go l.slot l.subnet
   where
-    go : (slot : Slot TextOut) (subnet : Subnet TextOut) → SameText on (record { slot = slot; subnet = subnet }) (record { slot = woken slot; subnet = subnet })
+    go : (slot : Slot TextOut) (subnet : MessageTransit TextOut) → SameText on (record { slot = slot; subnet = subnet }) (record { slot = woken slot; subnet = subnet })
     go (Held t) Free = record { stays_idle = λ e. absurd (cc (ap (λ (l : Link TextOut). l.slot) e)); carried = λ k. tt; text = λ k. refl }
     go (Held t) subnet = record { stays_idle = λ e. absurd (cc (ap (λ (l : Link TextOut). l.slot) e)); carried = λ k. absurd k; text = λ k. refl }
     go slot subnet = same-text on (record { slot = slot; subnet = subnet })
 
 -- a text that is ready goes out
-pub same-ready : (on : ℕ) (t : TextOut) (subnet : Subnet TextOut) → SameText on (record { slot = Ready t; subnet = subnet }) (record { slot = Travelling t; subnet = Accepted t })
+pub same-ready : (on : ℕ) (t : TextOut) (subnet : MessageTransit TextOut) → SameText on (record { slot = Ready t; subnet = subnet }) (record { slot = Travelling t; subnet = Accepted t })
 same-ready on t subnet = record { stays_idle = λ e. absurd (cc (ap (λ (l : Link TextOut). l.slot) e)); carried = λ k. refl; text = λ k. refl }

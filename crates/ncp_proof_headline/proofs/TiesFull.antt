@@ -6,10 +6,8 @@ use Rattle.std.specs.FinMap.{get, insert, get-empty, get-insert}
 use Rattle.std.specs.Ordering.{eq_by_cmp}
 use Rattle.std.proofs.lemmas.Map.Views.{tells_apart}
 use Rattle.ncp_terms.specs.declared.command.Command.{Command}
-use Rattle.ncp_terms.specs.declared.command.Command.TheVariants as commands
 use Rattle.ncp_model.specs.declared.pair.Pair.{Pair}
 use Rattle.ncp_model.specs.declared.outcomes.Heard.{Heard}
-use Rattle.ncp_model.specs.declared.outcomes.Heard.TheVariants as heard
 use Rattle.ncp_model.specs.declared.limits.TheConstants.{MAX_BY_PEER}
 use Rattle.ncp_model.specs.Pairs.{pair_cmp, sends, receives, turned}
 use Rattle.ncp_model.specs.End.{End, or_new, is_live}
@@ -18,7 +16,6 @@ use Rattle.ncp_model.specs.Commands.{errs, hear_cls, hear_all, hear_gvb, hear_re
 use Rattle.ncp_model.specs.Texts.{Rfnm, made_by_text}
 use Rattle.ncp_model.specs.Ends.{Ends, count, any, is_by_peer, hears_link, sender_on, receiver_on, end_of, pair_of, leads_to, hear, text_in, answered_at, answered_in, map_after_at, no_ends}
 use Rattle.ncp_model.specs.Happenings.{Happening, happens, of_hearing, is_violation}
-use Rattle.ncp_model.specs.Happenings as all
 use Rattle.ncp_proof_watch.specs.Histories.{Past, no_past, opens}
 use Rattle.ncp_model.specs.Leading.{passes, comes}
 use Rattle.ncp_model.specs.Phase.{is_reset}
@@ -27,13 +24,13 @@ use Rattle.ncp_model.proofs.PairOrder.{pairs_exact, pairs_total}
 use Rattle.ncp_proof_headline.proofs.HostsJoined.{AllOther}
 use Rattle.ncp_model.proofs.Lookups.{nowhere}
 use Rattle.ncp_model.proofs.Makes.{none-reset}
-use Rattle.ncp_proof_headline.specs.Tied.{watched}
+use Rattle.ncp_proof_headline.specs.Tied.{watched_at}
 use Rattle.ncp_proof_headline.proofs.Ties.{Owners, Ties}
 
 -- A command that is answered Full.
 
 full_is_safe : (h : Heard) → is_full_up h ≡ true → is_violation (of_hearing h) ≡ false
-full_is_safe heard.Full e = refl
+full_is_safe Heard.Full e = refl
 full_is_safe h e = absurd (cc e)
 
 pub full-safe : (c : Command) (m : Ends) → is_full_up (answer (hear c m)) ≡ true → is_violation (of_hearing (answer (hear c m))) ≡ false
@@ -41,8 +38,8 @@ full-safe c m = full_is_safe (answer (hear c m))
 
 -- a request is refused, answered Full or taken: only the last changes the end
 full_stays : (wrong full : Bool) (before : Option End) (c : Command) (e : End)
-    → is_full_up (answer (if wrong then errs wrong_parameters c else if full then Stays heard.Full else Becomes e heard.Nothing)) ≡ true
-    → end_after before (if wrong then errs wrong_parameters c else if full then Stays heard.Full else Becomes e heard.Nothing) ≡ before
+    → is_full_up (answer (if wrong then errs wrong_parameters c else if full then Stays Heard.Full else Becomes e Heard.Nothing)) ≡ true
+    → end_after before (if wrong then errs wrong_parameters c else if full then Stays Heard.Full else Becomes e Heard.Nothing) ≡ before
 full_stays true full before c e h = refl
 full_stays false true before c e h = refl
 full_stays false false before c e h = absurd (cc h)
@@ -95,28 +92,28 @@ ins_room on None = refl
 ins_room on (Some e) = grind arith
 
 pub full-pasts : (c : Command) (n : Node) → is_full_up (answer (hear c n.ends)) ≡ true → (p : Pair) → past_of (pasts_after_at (leads_to c n.ends) (comes c n.ends) n.ends n.pasts) p ≡ past_of n.pasts p
-full-pasts (commands.Rts receive send on) n h =
+full-pasts (Command.Rts receive send on) n h =
     let pair : Pair = record { local = send; remote = receive } in
     let before : Option End = get n.ends pair in
-    unopened n.pasts pair before (happens pair (all.Rts_comes on (any (hears_link on) n.ends) (count is_by_peer n.ends)) before).after
+    unopened n.pasts pair before (happens pair (Happening.Rts_comes on (any (hears_link on) n.ends) (count is_by_peer n.ends)) before).after
     (full_stays
     (not (sends pair) || not (is_data_link on) || (or_new before).heard || any (hears_link on) n.ends)
     (is_none before && nat_le MAX_BY_PEER (count is_by_peer n.ends))
-    before (commands.Rts receive send on) (met (record (or_new before) { heard = true; link = on })) h)
-full-pasts (commands.Str send receive of_size) n h =
+    before (Command.Rts receive send on) (met (record (or_new before) { heard = true; link = on })) h)
+full-pasts (Command.Str send receive of_size) n h =
     let pair : Pair = record { local = receive; remote = send } in
     let before : Option End = get n.ends pair in
-    unopened n.pasts pair before (happens pair (all.Str_comes of_size (count is_by_peer n.ends)) before).after
+    unopened n.pasts pair before (happens pair (Happening.Str_comes of_size (count is_by_peer n.ends)) before).after
     (full_stays
     (not (receives pair) || of_size == 0 || (or_new before).heard)
     (is_none before && nat_le MAX_BY_PEER (count is_by_peer n.ends))
-    before (commands.Str send receive of_size) (met (record (or_new before) { heard = true; size = of_size })) h)
-full-pasts (commands.Cls my your) n h = let pair : Pair = record { local = your; remote = my } in absurd (cc (h, cls_room pair (get n.ends pair)))
-full-pasts (commands.All on a b) n h = absurd (cc (h, all_room on a b (end_of (sender_on on n.ends))))
-full-pasts (commands.Gvb on a b) n h = absurd (cc (h, gvb_room on a b (end_of (sender_on on n.ends))))
-full-pasts (commands.Ret on a b) n h = absurd (cc (h, ret_room on a b (end_of (receiver_on on n.ends))))
-full-pasts (commands.Inr on) n h = absurd (cc (h, inr_room on (end_of (sender_on on n.ends))))
-full-pasts (commands.Ins on) n h = absurd (cc (h, ins_room on (end_of (receiver_on on n.ends))))
+    before (Command.Str send receive of_size) (met (record (or_new before) { heard = true; size = of_size })) h)
+full-pasts (Command.Cls my your) n h = let pair : Pair = record { local = your; remote = my } in absurd (cc (h, cls_room pair (get n.ends pair)))
+full-pasts (Command.All on a b) n h = absurd (cc (h, all_room on a b (end_of (sender_on on n.ends))))
+full-pasts (Command.Gvb on a b) n h = absurd (cc (h, gvb_room on a b (end_of (sender_on on n.ends))))
+full-pasts (Command.Ret on a b) n h = absurd (cc (h, ret_room on a b (end_of (receiver_on on n.ends))))
+full-pasts (Command.Inr on) n h = absurd (cc (h, inr_room on (end_of (sender_on on n.ends))))
+full-pasts (Command.Ins on) n h = absurd (cc (h, ins_room on (end_of (receiver_on on n.ends))))
 full-pasts c n h = absurd (cc h)
 
 -- The histories that a host keeps are written otherwise, and say the same.
@@ -133,7 +130,7 @@ ties-pasts a b own own' n m u v pasts e t = record {
   coming = t.coming;
 }
   where
-    knows : (p : Pair) → watched n p ≡ watched (record n { pasts = pasts }) p
+    knows : (p : Pair) → watched_at n p ≡ watched_at (record n { pasts = pasts }) p
     knows p = ap (λ (past : Past). record { end = get n.ends p; past = past }) (sym (e p))
 
 -- What a host makes is neither RST nor RRP.
@@ -158,32 +155,32 @@ any_pair : Pair
 any_pair = record { local = 0; remote = 0 }
 
 heard-other : (c : Command) (m : Ends) → AllOther (made_by_hearing (answer (hear c m)))
-heard-other (commands.Rts receive send on) m = let pair : Pair = record { local = send; remote = receive } in called-other pair (all.Rts_comes on (any (hears_link on) m) (count is_by_peer m)) (get m pair)
-heard-other (commands.Str send receive of_size) m = let pair : Pair = record { local = receive; remote = send } in called-other pair (all.Str_comes of_size (count is_by_peer m)) (get m pair)
-heard-other (commands.Cls my your) m = let pair : Pair = record { local = your; remote = my } in called-other pair all.Cls_comes (get m pair)
-heard-other (commands.All on a b) m = called-other any_pair (all.All_comes on a b) (end_of (sender_on on m))
-heard-other (commands.Gvb on a b) m = called-other any_pair (all.Gvb_comes on a b) (end_of (sender_on on m))
-heard-other (commands.Ret on a b) m = called-other any_pair (all.Ret_comes on a b) (end_of (receiver_on on m))
-heard-other (commands.Inr on) m = called-other any_pair (all.Inr_comes on) (end_of (sender_on on m))
-heard-other (commands.Ins on) m = called-other any_pair (all.Ins_comes on) (end_of (receiver_on on m))
+heard-other (Command.Rts receive send on) m = let pair : Pair = record { local = send; remote = receive } in called-other pair (Happening.Rts_comes on (any (hears_link on) m) (count is_by_peer m)) (get m pair)
+heard-other (Command.Str send receive of_size) m = let pair : Pair = record { local = receive; remote = send } in called-other pair (Happening.Str_comes of_size (count is_by_peer m)) (get m pair)
+heard-other (Command.Cls my your) m = let pair : Pair = record { local = your; remote = my } in called-other pair Happening.Cls_comes (get m pair)
+heard-other (Command.All on a b) m = called-other any_pair (Happening.All_comes on a b) (end_of (sender_on on m))
+heard-other (Command.Gvb on a b) m = called-other any_pair (Happening.Gvb_comes on a b) (end_of (sender_on on m))
+heard-other (Command.Ret on a b) m = called-other any_pair (Happening.Ret_comes on a b) (end_of (receiver_on on m))
+heard-other (Command.Inr on) m = called-other any_pair (Happening.Inr_comes on) (end_of (sender_on on m))
+heard-other (Command.Ins on) m = called-other any_pair (Happening.Ins_comes on) (end_of (receiver_on on m))
 heard-other c m = tt
 
 echoed-other : (c : Command) → AllOther (echo_replies c)
-echoed-other (commands.Eco byte) = (refl, tt)
+echoed-other (Command.Eco byte) = (refl, tt)
 echoed-other c = tt
 
 pub hear-other : (c : Command) (m : Ends) → AllOther (made_by_hearing (answer (hear c m)) ++ echo_replies c)
 hear-other c m = more_other (made_by_hearing (answer (hear c m))) (echo_replies c) (heard-other c m) (echoed-other c)
 
 pub text-other : (head : List Bool) (on of_size : ℕ) (text : List Bool) (m : Ends) → AllOther (made_by_text head text (answer (text_in on of_size text m)))
-text-other head on of_size text m = called-other any_pair (all.Text_comes head of_size text) (end_of (receiver_on on m))
+text-other head on of_size text m = called-other any_pair (Happening.Text_comes head of_size text) (end_of (receiver_on on m))
 
 pub answered-other : (on : ℕ) (m : Ends) → AllOther (made_if_any (answer (answered_in on Rfnm m)))
 answered-other on m = go (sender_on on m)
   where
     go : (o : Option (Pair × End)) → AllOther (made_if_any (answer (answered_at Rfnm o)))
     go None = tt
-    go (Some q) = called-other q.0 (all.Is_answered Rfnm) (Some q.1)
+    go (Some q) = called-other q.0 (Happening.Is_answered Rfnm) (Some q.1)
 
 -- No end is found where there is none.
 

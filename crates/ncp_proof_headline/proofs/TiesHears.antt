@@ -7,10 +7,8 @@ use Rattle.std.proofs.lemmas.Bool.{both_ways}
 use Rattle.std.proofs.lemmas.List.{append-nil}
 use Rattle.std.proofs.lemmas.Map.Views.{tells_apart}
 use Rattle.ncp_terms.specs.declared.command.Command.{Command}
-use Rattle.ncp_terms.specs.declared.command.Command.TheVariants as commands
 use Rattle.ncp_model.specs.declared.pair.Pair.{Pair}
 use Rattle.ncp_model.specs.declared.outcomes.Heard.{Heard}
-use Rattle.ncp_model.specs.declared.outcomes.Heard.TheVariants as heard
 use Rattle.ncp_model.specs.Pairs.{pair_cmp, sends, receives, is_proper, turned}
 use Rattle.ncp_model.specs.End.{End, or_new}
 use Rattle.ncp_model.specs.Act.{Act, answer, made_by_hearing}
@@ -18,12 +16,11 @@ use Rattle.ncp_model.specs.Commands.{hear_rts, hear_str}
 use Rattle.ncp_model.specs.Ends.{Ends, count, any, is_by_peer, hears_link, uses_link, leads_to, hear, map_after, map_after_at}
 use Rattle.ncp_model.specs.Leading.{passes, comes}
 use Rattle.ncp_model.specs.Happenings.{Happening, Outcome, Happened, happens, happened, of_reply, of_hearing, is_violation}
-use Rattle.ncp_model.specs.Happenings as all
 use Rattle.ncp_proof_watch.specs.Histories.{Watched, Past, watches}
 use Rattle.ncp_proof_resets.specs.Delivery.{Link}
-use Rattle.ncp_proof_connection.specs.Connections.{Text, Connection, text_after, command_comes}
+use Rattle.ncp_proof_connection.specs.Connections.{Text, Connection, text_after_outcome, command_comes}
 use Rattle.ncp_proof_sharing.specs.Finding.{link_out, Only}
-use Rattle.ncp_proof_sharing.specs.Sharing.{Tagged, Shared, set_at, only, at, shared_occurs, Next_to_senders, Next_to_receivers, hears_at, uses_at}
+use Rattle.ncp_proof_sharing.specs.Sharing.{Tagged, Shared, set_at_pair, only, connection_at, shared_occurs, Next_to_senders, Next_to_receivers, hears_at, uses_at}
 use Rattle.ncp_proof_machine.specs.Hosts.{Pasts, TextOut, Node, or_no_past, past_of, past_after, pasts_after, pasts_after_at, is_full_up, echo_replies}
 use Rattle.ncp_model.proofs.PairOrder.{pairs_exact, pairs_total}
 use Rattle.ncp_model.proofs.LinksLead.{itself, command-led, hearer-sends, user-receives}
@@ -36,7 +33,7 @@ use Rattle.ncp_proof_connection.proofs.Outliving.{Fit}
 use Rattle.ncp_proof_sharing.proofs.Projecting.{same_refl}
 use Rattle.ncp_proof_sharing.proofs.Found.{grant_finds, return_finds, request_fits}
 use Rattle.ncp_proof_sharing.proofs.Named.{AllNamed, names_ever, sockets_find_sender, sockets_find_receiver}
-use Rattle.ncp_proof_headline.specs.Tied.{watched}
+use Rattle.ncp_proof_headline.specs.Tied.{watched_at}
 use Rattle.ncp_proof_headline.proofs.Ties.{Reached, Owned, Owners, Texts, commands_of, turn_all, leads_nowhere, Apt, Flow, Ties, further, reached-same}
 use Rattle.ncp_proof_headline.proofs.TiesCalls.{ties-echo}
 use Rattle.ncp_proof_headline.proofs.TiesBase.{Sees, all-fit, all-linked, set_same, sender_did, receiver_did, sender-acts, receiver-acts}
@@ -58,24 +55,24 @@ alien-fits-too q sq false c cs w d k = alien_to_receiver q sq c (cs ++ k.lost) (
 
 no-alien : (g : Shared) (q : Pair) (c : Command) (rest : List Tagged) → Reached g → g.sends ≡ true → sends q ≡ true → g.to_senders ≡ record { pair = q; command = c } ∷ rest → to_sender_kind c ≡ Alien → ⊥
 no-alien g q c rest r a sq e d =
-    alien-fits q sq g.receives c (only q rest) (at q g) d
-    (subst (λ (x : Bool). Fit q x g.receives (record (at q g) { to_sender = c ∷ only q rest })) a
-    (rw (same_refl q) at (subst (λ (xs : List Tagged). Fit q g.sends g.receives (record (at q g) { to_sender = only q xs })) e (all-fit g r q sq))))
+    alien-fits q sq g.receives c (only q rest) (connection_at q g) d
+    (subst (λ (x : Bool). Fit q x g.receives (record (connection_at q g) { to_sender = c ∷ only q rest })) a
+    (rw (same_refl q) at (subst (λ (xs : List Tagged). Fit q g.sends g.receives (record (connection_at q g) { to_sender = only q xs })) e (all-fit g r q sq))))
 
 no-alien-too : (g : Shared) (q : Pair) (c : Command) (rest : List Tagged) → Reached g → g.receives ≡ true → sends q ≡ true → g.to_receivers ≡ record { pair = q; command = c } ∷ rest → to_receiver_kind c ≡ Alien → ⊥
 no-alien-too g q c rest r a sq e d =
-    alien-fits-too q sq g.sends c (only q rest) (at q g) d
-    (subst (λ (x : Bool). Fit q g.sends x (record (at q g) { to_receiver = c ∷ only q rest })) a
-    (rw (same_refl q) at (subst (λ (xs : List Tagged). Fit q g.sends g.receives (record (at q g) { to_receiver = only q xs })) e (all-fit g r q sq))))
+    alien-fits-too q sq g.sends c (only q rest) (connection_at q g) d
+    (subst (λ (x : Bool). Fit q g.sends x (record (connection_at q g) { to_receiver = c ∷ only q rest })) a
+    (rw (same_refl q) at (subst (λ (xs : List Tagged). Fit q g.sends g.receives (record (connection_at q g) { to_receiver = only q xs })) e (all-fit g r q sq))))
 
 -- The events of the machines.
 
 hears-sender : (g : Shared) (r : Pair) (c : Command) (rest : List Tagged) (what : Happening) → Reached g → g.sends ≡ true → sends r ≡ true
     → g.to_senders ≡ record { pair = r; command = c } ∷ rest → command_comes 0 c ≡ Some what
-    → Reached (sender_did r what (text_after (or_new (g.sender r).end).link (happens r what (g.sender r).end).outcome (g.text r)) (record g { to_senders = rest }))
-hears-sender g r c rest what k a s e h = reached-same (shared_occurs (Next_to_senders 0) g) (sender_did r what (text_after (or_new (g.sender r).end).link (happens r what (g.sender r).end).outcome (g.text r)) (record g { to_senders = rest })) so (further g (Next_to_senders 0) k tt)
+    → Reached (sender_did r what (text_after_outcome (or_new (g.sender r).end).link (happens r what (g.sender r).end).outcome (g.text r)) (record g { to_senders = rest }))
+hears-sender g r c rest what k a s e h = reached-same (shared_occurs (Next_to_senders 0) g) (sender_did r what (text_after_outcome (or_new (g.sender r).end).link (happens r what (g.sender r).end).outcome (g.text r)) (record g { to_senders = rest })) so (further g (Next_to_senders 0) k tt)
   where
-    so : shared_occurs (Next_to_senders 0) g ≡ sender_did r what (text_after (or_new (g.sender r).end).link (happens r what (g.sender r).end).outcome (g.text r)) (record g { to_senders = rest })
+    so : shared_occurs (Next_to_senders 0) g ≡ sender_did r what (text_after_outcome (or_new (g.sender r).end).link (happens r what (g.sender r).end).outcome (g.text r)) (record g { to_senders = rest })
     so = rw (e, s, a, h) refl
 
 hears-receiver : (g : Shared) (q : Pair) (c : Command) (rest : List Tagged) (what : Happening) → Reached g → g.receives ≡ true → sends q ≡ true
@@ -102,10 +99,10 @@ pops-receiver g q c rest k s e = reached-same (shared_occurs (Next_to_receivers 
 
 -- of a host's senders, and of its receivers
 abbrev Senders : Shared → Node → Type 0
-Senders g n = (p : Pair) → sends p ≡ true → g.sender p ≡ watched n p
+Senders g n = (p : Pair) → sends p ≡ true → g.sender p ≡ watched_at n p
 
 abbrev Receivers : Shared → Node → Type 0
-Receivers g n = (p : Pair) → sends p ≡ true → g.receiver p ≡ watched n (turned p)
+Receivers g n = (p : Pair) → sends p ≡ true → g.receiver p ≡ watched_at n (turned p)
 
 passes-some : (test : Pair × End → Bool) (p : Pair) (o : Option End) → passes test p o ≡ true → test (p, or_new o) ≡ true
 passes-some test p None h = absurd (cc h)
@@ -147,22 +144,22 @@ module _ (g : Shared) (n : Node) (w : Senders g n) where
       by_test p false e = refl
 
   module _ (k : Reached g) (a : g.sends ≡ true) (r : Pair) (s : sends r ≡ true) (rest : List Tagged) where
-    by-grant : (c : Command) (on : ℕ) → g.to_senders ≡ record { pair = r; command = c } ∷ rest → Only (hears_at g on) r → leads_to (commands.Inr on) n.ends ≡ Some r
+    by-grant : (c : Command) (on : ℕ) → g.to_senders ≡ record { pair = r; command = c } ∷ rest → Only (hears_at g on) r → leads_to (Command.Inr on) n.ends ≡ Some r
     by-grant c on e o = leads-there (hears_link on) n.ends r (hears-here on r s o.0) (λ p h. o.1 p (hears-there on p h))
 
     leads-sender : (c : Command) (what : Happening) → g.to_senders ≡ record { pair = r; command = c } ∷ rest → command_comes 0 c ≡ Some what → leads_to c n.ends ≡ Some r
-    leads-sender (commands.Rts x y on) what e h = sockets_find_sender g (all-named g k) r (commands.Rts x y on) rest n.ends e s refl
-    leads-sender (commands.Str x y z) what e h = sockets_find_sender g (all-named g k) r (commands.Str x y z) rest n.ends e s refl
-    leads-sender (commands.Cls x y) what e h = sockets_find_sender g (all-named g k) r (commands.Cls x y) rest n.ends e s refl
-    leads-sender (commands.All on x y) what e h = by-grant (commands.All on x y) on e (grant_finds g (all-fit g k) (all-linked g k) a r (commands.All on x y) on rest e s refl)
-    leads-sender (commands.Gvb on x y) what e h = by-grant (commands.Gvb on x y) on e (grant_finds g (all-fit g k) (all-linked g k) a r (commands.Gvb on x y) on rest e s refl)
-    leads-sender (commands.Inr on) what e h = by-grant (commands.Inr on) on e (grant_finds g (all-fit g k) (all-linked g k) a r (commands.Inr on) on rest e s refl)
-    leads-sender (commands.Ret on x y) what e h = absurd (no-alien g r (commands.Ret on x y) rest k a s e refl)
-    leads-sender (commands.Ins on) what e h = absurd (no-alien g r (commands.Ins on) rest k a s e refl)
+    leads-sender (Command.Rts x y on) what e h = sockets_find_sender g (all-named g k) r (Command.Rts x y on) rest n.ends e s refl
+    leads-sender (Command.Str x y z) what e h = sockets_find_sender g (all-named g k) r (Command.Str x y z) rest n.ends e s refl
+    leads-sender (Command.Cls x y) what e h = sockets_find_sender g (all-named g k) r (Command.Cls x y) rest n.ends e s refl
+    leads-sender (Command.All on x y) what e h = by-grant (Command.All on x y) on e (grant_finds g (all-fit g k) (all-linked g k) a r (Command.All on x y) on rest e s refl)
+    leads-sender (Command.Gvb on x y) what e h = by-grant (Command.Gvb on x y) on e (grant_finds g (all-fit g k) (all-linked g k) a r (Command.Gvb on x y) on rest e s refl)
+    leads-sender (Command.Inr on) what e h = by-grant (Command.Inr on) on e (grant_finds g (all-fit g k) (all-linked g k) a r (Command.Inr on) on rest e s refl)
+    leads-sender (Command.Ret on x y) what e h = absurd (no-alien g r (Command.Ret on x y) rest k a s e refl)
+    leads-sender (Command.Ins on) what e h = absurd (no-alien g r (Command.Ins on) rest k a s e refl)
     leads-sender c what e h = absurd (cc h)
 
     -- a request's link is on no sender here
-    request-free : (c : Command) → g.to_senders ≡ record { pair = r; command = c } ∷ rest → (x y on : ℕ) → c ≡ commands.Rts x y on → any (hears_link on) n.ends ≡ false
+    request-free : (c : Command) → g.to_senders ≡ record { pair = r; command = c } ∷ rest → (x y on : ℕ) → c ≡ Command.Rts x y on → any (hears_link on) n.ends ≡ false
     request-free c e x y on d =
         none-hears on (request_fits g (all-fit g k) (all-linked g k) a r x y on rest (subst (λ (f : Command). g.to_senders ≡ record { pair = r; command = f } ∷ rest) d e) s)
 
@@ -175,23 +172,23 @@ module _ (g : Shared) (n : Node) (w : Receivers g n) where
   uses-here on q s h = some-passes (uses_link on) (turned q) (get n.ends (turned q)) (no-user on (turned q)) (subst (λ (x : Watched). uses_link on (turned q, or_new x.end) ≡ true) (w q s) h)
 
   module _ (k : Reached g) (a : g.receives ≡ true) (q : Pair) (s : sends q ≡ true) (rest : List Tagged) where
-    by-return : (on : ℕ) → Only (uses_at g on) q → leads_to (commands.Ins on) n.ends ≡ Some (turned q)
+    by-return : (on : ℕ) → Only (uses_at g on) q → leads_to (Command.Ins on) n.ends ≡ Some (turned q)
     by-return on o = leads-there (uses_link on) n.ends (turned q) (uses-here on q s o.0) (λ p h. ap turned (o.1 (turned p) (uses-there on p h)))
 
     leads-receiver : (c : Command) (what : Happening) → g.to_receivers ≡ record { pair = q; command = c } ∷ rest → command_comes 0 c ≡ Some what → leads_to c n.ends ≡ Some (turned q)
-    leads-receiver (commands.Rts x y on) what e h = sockets_find_receiver g (all-named g k) q (commands.Rts x y on) rest n.ends e s refl
-    leads-receiver (commands.Str x y z) what e h = sockets_find_receiver g (all-named g k) q (commands.Str x y z) rest n.ends e s refl
-    leads-receiver (commands.Cls x y) what e h = sockets_find_receiver g (all-named g k) q (commands.Cls x y) rest n.ends e s refl
-    leads-receiver (commands.Ret on x y) what e h = by-return on (return_finds g (all-fit g k) (all-linked g k) a q (commands.Ret on x y) on rest e s refl)
-    leads-receiver (commands.Ins on) what e h = by-return on (return_finds g (all-fit g k) (all-linked g k) a q (commands.Ins on) on rest e s refl)
-    leads-receiver (commands.All on x y) what e h = absurd (no-alien-too g q (commands.All on x y) rest k a s e refl)
-    leads-receiver (commands.Gvb on x y) what e h = absurd (no-alien-too g q (commands.Gvb on x y) rest k a s e refl)
-    leads-receiver (commands.Inr on) what e h = absurd (no-alien-too g q (commands.Inr on) rest k a s e refl)
+    leads-receiver (Command.Rts x y on) what e h = sockets_find_receiver g (all-named g k) q (Command.Rts x y on) rest n.ends e s refl
+    leads-receiver (Command.Str x y z) what e h = sockets_find_receiver g (all-named g k) q (Command.Str x y z) rest n.ends e s refl
+    leads-receiver (Command.Cls x y) what e h = sockets_find_receiver g (all-named g k) q (Command.Cls x y) rest n.ends e s refl
+    leads-receiver (Command.Ret on x y) what e h = by-return on (return_finds g (all-fit g k) (all-linked g k) a q (Command.Ret on x y) on rest e s refl)
+    leads-receiver (Command.Ins on) what e h = by-return on (return_finds g (all-fit g k) (all-linked g k) a q (Command.Ins on) on rest e s refl)
+    leads-receiver (Command.All on x y) what e h = absurd (no-alien-too g q (Command.All on x y) rest k a s e refl)
+    leads-receiver (Command.Gvb on x y) what e h = absurd (no-alien-too g q (Command.Gvb on x y) rest k a s e refl)
+    leads-receiver (Command.Inr on) what e h = absurd (no-alien-too g q (Command.Inr on) rest k a s e refl)
     leads-receiver c what e h = absurd (cc h)
 
     -- no request for a sender comes to a receiver
-    no-request : (c : Command) → g.to_receivers ≡ record { pair = q; command = c } ∷ rest → (x y on : ℕ) → c ≡ commands.Rts x y on → ⊥
-    no-request c e x y on d = no-alien-too g q (commands.Rts x y on) rest k a s (subst (λ (f : Command). g.to_receivers ≡ record { pair = q; command = f } ∷ rest) d e) refl
+    no-request : (c : Command) → g.to_receivers ≡ record { pair = q; command = c } ∷ rest → (x y on : ℕ) → c ≡ Command.Rts x y on → ⊥
+    no-request c e x y on d = no-alien-too g q (Command.Rts x y on) rest k a s (subst (λ (f : Command). g.to_receivers ≡ record { pair = q; command = f } ∷ rest) d e) refl
 
 -- What is heard at the end, for the host and for the machine: a machine counts no other ends, and
 -- where the host is not full the count makes no difference.
@@ -216,14 +213,14 @@ record Meets (c : Command) (m : Ends) (pair : Pair) (what : Happening) : Type 0 
 plainly : (c : Command) (m : Ends) (pair : Pair) (what : Happening) → leads_to c m ≡ Some pair → comes c m ≡ Some what → Meets c m pair what
 plainly c m pair what e f = record { led = e; its = what; comes_as = f; agree = (command-led m c pair what e f).1; past = λ past. refl }
 
-rts-meets : (x y on : ℕ) (m : Ends) → any (hears_link on) m ≡ false → is_full_up (answer (hear (commands.Rts x y on) m)) ≡ false
-    → Meets (commands.Rts x y on) m (record { local = y; remote = x }) (all.Rts_comes on false 0)
+rts-meets : (x y on : ℕ) (m : Ends) → any (hears_link on) m ≡ false → is_full_up (answer (hear (Command.Rts x y on) m)) ≡ false
+    → Meets (Command.Rts x y on) m (record { local = y; remote = x }) (Happening.Rts_comes on false 0)
 rts-meets x y on m t f = record {
   led = refl;
-  its = all.Rts_comes on (any (hears_link on) m) (count is_by_peer m);
+  its = Happening.Rts_comes on (any (hears_link on) m) (count is_by_peer m);
   comes_as = refl;
   agree = ap (λ (act : Act Heard). happened (get m pair) act made_by_hearing of_hearing) same_act;
-  past = λ past. ap (λ (act : Act Heard). past_after (get m pair) (all.Rts_comes on false 0) (happened (get m pair) act made_by_hearing of_hearing) past) (sym same_act);
+  past = λ past. ap (λ (act : Act Heard). past_after (get m pair) (Happening.Rts_comes on false 0) (happened (get m pair) act made_by_hearing of_hearing) past) (sym same_act);
 }
   where
     pair : Pair
@@ -233,14 +230,14 @@ rts-meets x y on m t f = record {
     same_act = sym (ap (λ (b : Bool). hear_rts pair on b (count is_by_peer m) (get m pair)) t
         ∙ few-rts pair on (count is_by_peer m) (get m pair) (subst (λ (b : Bool). is_full_up (answer (hear_rts pair on b (count is_by_peer m) (get m pair))) ≡ false) t f))
 
-str-meets : (x y size : ℕ) (m : Ends) → is_full_up (answer (hear (commands.Str x y size) m)) ≡ false
-    → Meets (commands.Str x y size) m (record { local = y; remote = x }) (all.Str_comes size 0)
+str-meets : (x y size : ℕ) (m : Ends) → is_full_up (answer (hear (Command.Str x y size) m)) ≡ false
+    → Meets (Command.Str x y size) m (record { local = y; remote = x }) (Happening.Str_comes size 0)
 str-meets x y size m f = record {
   led = refl;
-  its = all.Str_comes size (count is_by_peer m);
+  its = Happening.Str_comes size (count is_by_peer m);
   comes_as = refl;
   agree = ap (λ (act : Act Heard). happened (get m pair) act made_by_hearing of_hearing) same_act;
-  past = λ past. ap (λ (act : Act Heard). past_after (get m pair) (all.Str_comes size 0) (happened (get m pair) act made_by_hearing of_hearing) past) (sym same_act);
+  past = λ past. ap (λ (act : Act Heard). past_after (get m pair) (Happening.Str_comes size 0) (happened (get m pair) act made_by_hearing of_hearing) past) (sym same_act);
 }
   where
     pair : Pair
@@ -256,15 +253,15 @@ becomes c m p pair w what e f h =
     subst (λ q. Meets c m q what) s (subst (λ v. Meets c m p v) t h)
 
 meets : (c : Command) (m : Ends) (pair : Pair) (what : Happening) → leads_to c m ≡ Some pair → command_comes 0 c ≡ Some what → is_full_up (answer (hear c m)) ≡ false
-    → ((x y on : ℕ) → c ≡ commands.Rts x y on → any (hears_link on) m ≡ false) → Meets c m pair what
-meets (commands.Rts x y on) m pair what e h f t = becomes (commands.Rts x y on) m (record { local = y; remote = x }) pair (all.Rts_comes on false 0) what e h (rts-meets x y on m (t x y on refl) f)
-meets (commands.Str x y size) m pair what e h f t = becomes (commands.Str x y size) m (record { local = y; remote = x }) pair (all.Str_comes size 0) what e h (str-meets x y size m f)
-meets (commands.Cls x y) m pair what e h f t = plainly (commands.Cls x y) m pair what e h
-meets (commands.All on x y) m pair what e h f t = plainly (commands.All on x y) m pair what e h
-meets (commands.Gvb on x y) m pair what e h f t = plainly (commands.Gvb on x y) m pair what e h
-meets (commands.Ret on x y) m pair what e h f t = plainly (commands.Ret on x y) m pair what e h
-meets (commands.Inr on) m pair what e h f t = plainly (commands.Inr on) m pair what e h
-meets (commands.Ins on) m pair what e h f t = plainly (commands.Ins on) m pair what e h
+    → ((x y on : ℕ) → c ≡ Command.Rts x y on → any (hears_link on) m ≡ false) → Meets c m pair what
+meets (Command.Rts x y on) m pair what e h f t = becomes (Command.Rts x y on) m (record { local = y; remote = x }) pair (Happening.Rts_comes on false 0) what e h (rts-meets x y on m (t x y on refl) f)
+meets (Command.Str x y size) m pair what e h f t = becomes (Command.Str x y size) m (record { local = y; remote = x }) pair (Happening.Str_comes size 0) what e h (str-meets x y size m f)
+meets (Command.Cls x y) m pair what e h f t = plainly (Command.Cls x y) m pair what e h
+meets (Command.All on x y) m pair what e h f t = plainly (Command.All on x y) m pair what e h
+meets (Command.Gvb on x y) m pair what e h f t = plainly (Command.Gvb on x y) m pair what e h
+meets (Command.Ret on x y) m pair what e h f t = plainly (Command.Ret on x y) m pair what e h
+meets (Command.Inr on) m pair what e h f t = plainly (Command.Inr on) m pair what e h
+meets (Command.Ins on) m pair what e h f t = plainly (Command.Ins on) m pair what e h
 meets c m pair what e h f t = absurd (cc h)
 
 -- The host afterwards.
@@ -303,11 +300,11 @@ sees-act n pair what its act e f = record { at_it = at_it; beside = beside }
     new : Past
     new = past_after (get n.ends pair) its (happens pair its (get n.ends pair)) (past_of n.pasts pair)
 
-    at_it : watched (record n { ends = map_after n.ends pair act; pasts = pasts_after pair its n.ends n.pasts }) pair ≡ watches pair what (watched n pair)
-    at_it = both-watched (watched (record n { ends = map_after n.ends pair act; pasts = pasts_after pair its n.ends n.pasts }) pair) (watches pair what (watched n pair)) ch.there (past-at n.pasts pair new ∙ f (past_of n.pasts pair))
+    at_it : watched_at (record n { ends = map_after n.ends pair act; pasts = pasts_after pair its n.ends n.pasts }) pair ≡ watches pair what (watched_at n pair)
+    at_it = both-watched (watched_at (record n { ends = map_after n.ends pair act; pasts = pasts_after pair its n.ends n.pasts }) pair) (watches pair what (watched_at n pair)) ch.there (past-at n.pasts pair new ∙ f (past_of n.pasts pair))
 
-    beside : (q : Pair) → ((q ≡ pair) → ⊥) → watched (record n { ends = map_after n.ends pair act; pasts = pasts_after pair its n.ends n.pasts }) q ≡ watched n q
-    beside q d = both-watched (watched (record n { ends = map_after n.ends pair act; pasts = pasts_after pair its n.ends n.pasts }) q) (watched n q) (ch.elsewhere q d) (past-beside n.pasts pair new q d)
+    beside : (q : Pair) → ((q ≡ pair) → ⊥) → watched_at (record n { ends = map_after n.ends pair act; pasts = pasts_after pair its n.ends n.pasts }) q ≡ watched_at n q
+    beside q d = both-watched (watched_at (record n { ends = map_after n.ends pair act; pasts = pasts_after pair its n.ends n.pasts }) q) (watched_at n q) (ch.elsewhere q d) (past-beside n.pasts pair new q d)
 
 sees : (n : Node) (c : Command) (pair : Pair) (what : Happening) → Meets c n.ends pair what → Sees n (heard_by c n) pair what
 sees n c pair what k =
@@ -317,15 +314,15 @@ sees n c pair what k =
 
 -- What is heard sends no text.
 
-reply-text : (on : ℕ) (c : Command) (t : Text) → text_after on (of_reply c) t ≡ t
-reply-text on (commands.Err code bytes) t = refl
+reply-text : (on : ℕ) (c : Command) (t : Text) → text_after_outcome on (of_reply c) t ≡ t
+reply-text on (Command.Err code bytes) t = refl
 reply-text on c t = refl
 
-hearing-text : (on : ℕ) (h : Heard) (t : Text) → text_after on (of_hearing h) t ≡ t
-hearing-text on heard.Nothing t = refl
-hearing-text on (heard.Reply c) t = reply-text on c t
-hearing-text on heard.Late t = refl
-hearing-text on heard.Full t = refl
+hearing-text : (on : ℕ) (h : Heard) (t : Text) → text_after_outcome on (of_hearing h) t ≡ t
+hearing-text on Heard.Nothing t = refl
+hearing-text on (Heard.Reply c) t = reply-text on c t
+hearing-text on Heard.Late t = refl
+hearing-text on Heard.Full t = refl
 
 -- texts that are the same for each pair
 same-owned : (on : ℕ) (o : Option Pair) (l : Link TextOut) (f h : Pair → Text) → ((p : Pair) → h p ≡ f p) → Owned on o l f → Owned on o l h
@@ -338,13 +335,13 @@ same-texts own links f h e x = record {
   out = λ p on k. x.out p on (ap link_out (sym (e p)) ∙ k);
 }
 
-set-text : (p : Pair) (t : Text) (f : Pair → Text) → t ≡ f p → (q : Pair) → set_at p t f q ≡ f q
-set-text p t f e q = ap (λ (s : Text). set_at p s f q) e ∙ set_same p q f
+set-text : (p : Pair) (t : Text) (f : Pair → Text) → t ≡ f p → (q : Pair) → set_at_pair p t f q ≡ f q
+set-text p t f e q = ap (λ (s : Text). set_at_pair p s f q) e ∙ set_same p q f
 
 -- What leads nowhere does nothing at an end; an ECO is answered.
 
 no-reply : (c : Command) (what : Happening) → command_comes 0 c ≡ Some what → echo_replies c ≡ []
-no-reply (commands.Eco byte) what h = absurd (cc h)
+no-reply (Command.Eco byte) what h = absurd (cc h)
 no-reply c what h = refl
 
 -- the host hears a command, and stays tied
@@ -359,15 +356,15 @@ module _ (a b : Bool) (own own' : Owners) (n m : Node) (u v : List Command) wher
   silent u' e t = subst (λ (l : List Command). Ties a b own own' n m l v) (sym (ap (λ (l : List Command). u ++ l) e ∙ append-nil u)) t
 
   heard-nowhere : (c : Command) → leads_nowhere c ≡ true → Ties a b own own' n m u v → Hears a b own own' n m u v c
-  heard-nowhere (commands.Eco byte) e t = record { ties = ties-echo a b own own' n m u v (commands.Erp byte) refl t; safe = refl }
-  heard-nowhere (commands.Rts x y z) e t = absurd (cc e)
-  heard-nowhere (commands.Str x y z) e t = absurd (cc e)
-  heard-nowhere (commands.Cls x y) e t = absurd (cc e)
-  heard-nowhere (commands.All x y z) e t = absurd (cc e)
-  heard-nowhere (commands.Gvb x y z) e t = absurd (cc e)
-  heard-nowhere (commands.Ret x y z) e t = absurd (cc e)
-  heard-nowhere (commands.Inr x) e t = absurd (cc e)
-  heard-nowhere (commands.Ins x) e t = absurd (cc e)
+  heard-nowhere (Command.Eco byte) e t = record { ties = ties-echo a b own own' n m u v (Command.Erp byte) refl t; safe = refl }
+  heard-nowhere (Command.Rts x y z) e t = absurd (cc e)
+  heard-nowhere (Command.Str x y z) e t = absurd (cc e)
+  heard-nowhere (Command.Cls x y) e t = absurd (cc e)
+  heard-nowhere (Command.All x y z) e t = absurd (cc e)
+  heard-nowhere (Command.Gvb x y z) e t = absurd (cc e)
+  heard-nowhere (Command.Ret x y z) e t = absurd (cc e)
+  heard-nowhere (Command.Inr x) e t = absurd (cc e)
+  heard-nowhere (Command.Ins x) e t = absurd (cc e)
   heard-nowhere c e t = record { ties = silent [] refl t; safe = refl }
 
   -- what happened at the pair is what was heard
@@ -411,17 +408,17 @@ module _ (a b : Bool) (own own' : Owners) (n m : Node) (u v : List Command) wher
     to-sender : (what : Happening) → command_comes 0 c ≡ Some what → sends (turned q) ≡ true → sends q ≡ false → Hears a b own own' n m u v c
     to-sender what h s d =
         let r : Pair = turned q in
-        let x : Text = text_after (or_new (t.g.sender r).end).link (happens r what (t.g.sender r).end).outcome (t.g.text r) in
+        let x : Text = text_after_outcome (or_new (t.g.sender r).end).link (happens r what (t.g.sender r).end).outcome (t.g.text r) in
         let g1 : Shared = record t.g { to_senders = turn_all rest } in
         let back1 : Shared = record t.back { to_receivers = rest } in
         let l : leads_to c n.ends ≡ Some r = leads-sender t.g n t.there.sender t.reached g_sends r s (turn_all rest) c what e' h in
         let k : Meets c n.ends r what = meets c n.ends r what l h fit (request-free t.g n t.there.sender t.reached g_sends r s (turn_all rest) c e') in
         let o : (happens r what (t.g.sender r).end).outcome ≡ of_hearing (answer (hear c n.ends)) = ap (λ (y : Watched). (happens r what y.end).outcome) (t.there.sender r s) ∙ ap (λ (y : Happened). y.outcome) k.agree in
-        let still : x ≡ t.g.text r = ap (λ (y : Outcome). text_after (or_new (t.g.sender r).end).link y (t.g.text r)) o ∙ hearing-text (or_new (t.g.sender r).end).link (answer (hear c n.ends)) (t.g.text r) in
+        let still : x ≡ t.g.text r = ap (λ (y : Outcome). text_after_outcome (or_new (t.g.sender r).end).link y (t.g.text r)) o ∙ hearing-text (or_new (t.g.sender r).end).link (answer (hear c n.ends)) (t.g.text r) in
         as-heard c r what k h
         (sender-acts a b own own' n (heard_by c n) m u v what g1 back1 r x own s t.there t.here t.going later
         (hears-sender t.g r c (turn_all rest) what t.reached g_sends s e' h) (pops-receiver t.back q c rest t.reached_back d e)
-        (sees n c r what k) (same-texts own n.texts t.g.text (set_at r x t.g.text) (set-text r x t.g.text still) t.there.texts))
+        (sees n c r what k) (same-texts own n.texts t.g.text (set_at_pair r x t.g.text) (set-text r x t.g.text still) t.there.texts))
 
     -- it is for a receiver of n
     to-receiver : (what : Happening) → command_comes 0 c ≡ Some what → sends q ≡ true → sends (turned q) ≡ false → Hears a b own own' n m u v c
@@ -434,7 +431,7 @@ module _ (a b : Bool) (own own' : Owners) (n m : Node) (u v : List Command) wher
         (receiver-acts a b own own' n (heard_by c n) m u v what g1 back1 m q (t.back.text q) own' s t.there t.here t.going later
         (pops-sender t.g (turned q) c (turn_all rest) t.reached d e') (hears-receiver t.back q c rest what t.reached_back back_receives s e h)
         (sees n c (turned q) what k) (λ p. refl) t.there.texts
-        (same-texts own' m.texts t.back.text (set_at q (t.back.text q) t.back.text) (set-text q (t.back.text q) t.back.text refl) t.here.texts))
+        (same-texts own' m.texts t.back.text (set_at_pair q (t.back.text q) t.back.text) (set-text q (t.back.text q) t.back.text refl) t.here.texts))
 
     -- it is for neither
     to-none : sends q ≡ false → sends (turned q) ≡ false → Hears a b own own' n m u v c

@@ -14,14 +14,13 @@ use Rattle.ncp_model.specs.End.{End, or_new}
 use Rattle.ncp_model.specs.Act.{answer, is_data_link, made_if_any}
 use Rattle.ncp_model.specs.Texts.{hear_text, made_by_text, Rfnm}
 use Rattle.ncp_model.specs.Ends.{Ends, hears_link, uses_link, sender_on, receiver_on, pair_of, text_in, cut_in, cut_at, answered_in, map_after_at}
-use Rattle.ncp_model.specs.Happenings.{Happening, Outcome, Happened, happens, happened, of_text, of_cut, is_violation}
-use Rattle.ncp_model.specs.Happenings as all
+use Rattle.ncp_model.specs.Happenings.{Happening, Outcome, Happened, happens, happened, outcome_of_text, of_cut, is_violation}
 use Rattle.ncp_model.specs.Leading.{passes}
 use Rattle.ncp_proof_watch.specs.Limits.{InLimitsAt}
 use Rattle.ncp_proof_watch.specs.Histories.{Past, Watched, no_past, adds, opens}
-use Rattle.ncp_proof_resets.specs.Delivery.{Slot, Empty, Ready, Travelling, Held, Subnet, Free, Accepted, Delivered, Lost, Dead, Link, idle}
-use Rattle.ncp_proof_connection.specs.Connections.{Text, No_text, Away, Here, text_after, Text_goes_out, Text_comes, Text_is_answered}
-use Rattle.ncp_proof_sharing.specs.Sharing.{Tagged, Shared, set_at, On, shared_occurs, hears_at, uses_at}
+use Rattle.ncp_proof_resets.specs.Delivery.{Slot, Empty, Ready, Travelling, Held, MessageTransit, Free, Accepted, Delivered, Lost, Dead, Link, idle}
+use Rattle.ncp_proof_connection.specs.Connections.{Text, No_text, Away, Here, text_after_outcome, Text_goes_out, Text_comes, Text_is_answered}
+use Rattle.ncp_proof_sharing.specs.Sharing.{Tagged, Shared, set_at_pair, On, shared_occurs, hears_at, uses_at}
 use Rattle.ncp_proof_sharing.specs.Finding.{link_out, Only, SenderHoldsLink, ReceiverHoldsLink}
 use Rattle.ncp_proof_machine.specs.Hosts.{TextOut, Node, past_of, or_no_past, pasts_after, pasts_after_at, set_link}
 use Rattle.ncp_model.proofs.PairOrder.{pairs_exact, pairs_total}
@@ -40,10 +39,10 @@ owned_by on p own k = if k == on then p else own k
 
 -- Functions of pairs.
 
-set-own : {A : Type 0} → (p : Pair) (x : A) (f : Pair → A) → set_at p x f p ≡ x
+set-own : {A : Type 0} → (p : Pair) (x : A) (f : Pair → A) → set_at_pair p x f p ≡ x
 set-own p x f = rw (same_refl p) refl
 
-set-other : {A : Type 0} → (p q : Pair) (x : A) (f : Pair → A) → ((q ≡ p) → ⊥) → set_at p x f q ≡ f q
+set-other : {A : Type 0} → (p q : Pair) (x : A) (f : Pair → A) → ((q ≡ p) → ⊥) → set_at_pair p x f q ≡ f q
 set-other p q x f d = go (same p q) refl
   where
     go : (b : Bool) → same p q ≡ b → (if b then x else f q) ≡ f q
@@ -54,7 +53,7 @@ set-other p q x f d = go (same p q) refl
 -- Texts and links.
 
 -- what is carried is out on the link
-carried-out : (on : ℕ) (slot : Slot TextOut) (subnet : Subnet TextOut) → Carried slot subnet → link_out (text_on on slot subnet) ≡ Some on
+carried-out : (on : ℕ) (slot : Slot TextOut) (subnet : MessageTransit TextOut) → Carried slot subnet → link_out (text_on on slot subnet) ≡ Some on
 carried-out on Empty subnet c = absurd c
 carried-out on (Ready t) subnet c = refl
 carried-out on (Held t) subnet c = refl
@@ -88,7 +87,7 @@ module _ (own : Owners) (links : ℕ → Link TextOut) (texts : Pair → Text) (
   accepted-text : (on : ℕ) (p : Pair) (t : TextOut) → own on ≡ Some p → (links on).subnet ≡ Accepted t → texts p ≡ Away on t.of_size t.bits
   accepted-text on p t o s = go (links on).slot (links on).subnet s (owned-at on p o).carried (owned-at on p o).text
     where
-      go : (slot : Slot TextOut) (subnet : Subnet TextOut) → subnet ≡ Accepted t → Carried slot subnet → texts p ≡ text_on on slot subnet → texts p ≡ Away on t.of_size t.bits
+      go : (slot : Slot TextOut) (subnet : MessageTransit TextOut) → subnet ≡ Accepted t → Carried slot subnet → texts p ≡ text_on on slot subnet → texts p ≡ Away on t.of_size t.bits
       go (Travelling u) (Accepted w) s c e = let k : w ≡ t = cc s in e ∙ ap (λ (y : TextOut). Away on y.of_size y.bits) k
       go Empty subnet s c e = absurd c
       go (Ready u) (Accepted w) s c e = absurd c
@@ -103,7 +102,7 @@ module _ (own : Owners) (links : ℕ → Link TextOut) (texts : Pair → Text) (
   delivered-text on p t o f s = (owned-at on p o).text ∙ rw (f, s) refl
 
   -- another link is another pair's
-  beside-owned : (on k : ℕ) (p : Pair) (t : Text) → ((k ≡ on) → ⊥) → link_out (texts p) ≡ Some on → (q : Pair) → own k ≡ Some q → set_at p t texts q ≡ texts q
+  beside-owned : (on k : ℕ) (p : Pair) (t : Text) → ((k ≡ on) → ⊥) → link_out (texts p) ≡ Some on → (q : Pair) → own k ≡ Some q → set_at_pair p t texts q ≡ texts q
   beside-owned on k p t d e q o = set-other p q t texts (λ f. d (let h : Some k ≡ Some on = sym (owned-out k q o) ∙ ap (λ (y : Pair). link_out (texts y)) f ∙ e in cc h))
 
 -- an owner whose text stays
@@ -116,20 +115,20 @@ not-equal k on f e = both_ways (k == on) f (eq-eqb k on e)
 
 -- The owner, the text of one link and of one pair change.
 module _ (own : Owners) (links : ℕ → Link TextOut) (texts : Pair → Text) (x : Texts own links texts) (on : ℕ) (p : Pair) (o : Option Pair) (l : Link TextOut) (t : Text) where
-  moved : Owned on o l (set_at p t texts)
-      → ((k : ℕ) (q : Pair) → ((k ≡ on) → ⊥) → own k ≡ Some q → set_at p t texts q ≡ texts q)
+  moved : Owned on o l (set_at_pair p t texts)
+      → ((k : ℕ) (q : Pair) → ((k ≡ on) → ⊥) → own k ≡ Some q → set_at_pair p t texts q ≡ texts q)
       → ((k : ℕ) → link_out t ≡ Some k → (k ≡ on) × (o ≡ Some p))
       → ((q : Pair) → ((q ≡ p) → ⊥) → own on ≡ Some q → ⊥)
-      → Texts (owned_by on o own) (set_link on l links) (set_at p t texts)
+      → Texts (owned_by on o own) (set_link on l links) (set_at_pair p t texts)
   moved here beside out others = record { owned = λ k. owned_at k (k == on) refl; out = λ q k e. out_at q k (same_or q p) e }
     where
-      owned_at : (k : ℕ) (b : Bool) → (k == on) ≡ b → Owned k (if b then o else own k) (if b then l else links k) (set_at p t texts)
-      owned_at k true e = subst (λ (i : ℕ). Owned i o l (set_at p t texts)) (sym (eqb-true k on e)) here
-      owned_at k false e = still-owned k (own k) (links k) texts (set_at p t texts) (λ q f. beside k q (not-equal k on e) f) (x.owned k)
+      owned_at : (k : ℕ) (b : Bool) → (k == on) ≡ b → Owned k (if b then o else own k) (if b then l else links k) (set_at_pair p t texts)
+      owned_at k true e = subst (λ (i : ℕ). Owned i o l (set_at_pair p t texts)) (sym (eqb-true k on e)) here
+      owned_at k false e = still-owned k (own k) (links k) texts (set_at_pair p t texts) (λ q f. beside k q (not-equal k on e) f) (x.owned k)
 
-      out_at : (q : Pair) (k : ℕ) → (q ≡ p) ⊎ ((q ≡ p) → ⊥) → link_out (set_at p t texts q) ≡ Some k → owned_by on o own k ≡ Some q
+      out_at : (q : Pair) (k : ℕ) → (q ≡ p) ⊎ ((q ≡ p) → ⊥) → link_out (set_at_pair p t texts q) ≡ Some k → owned_by on o own k ≡ Some q
       out_at q k (inl e) h =
-          let r = out k (ap link_out (sym (set-own p t texts)) ∙ ap (λ (y : Pair). link_out (set_at p t texts y)) (sym e) ∙ h) in
+          let r = out k (ap link_out (sym (set-own p t texts)) ∙ ap (λ (y : Pair). link_out (set_at_pair p t texts y)) (sym e) ∙ h) in
           rw (eq-eqb k on r.0) (r.1 ∙ ap (λ (y : Pair). Some y) (sym e))
       out_at q k (inr d) h = by_link (k == on) refl (x.out q k (ap link_out (sym (set-other p q t texts d)) ∙ h))
         where
@@ -140,7 +139,7 @@ module _ (own : Owners) (links : ℕ → Link TextOut) (texts : Pair → Text) (
 module _ (own : Owners) (links : ℕ → Link TextOut) (texts : Pair → Text) (x : Texts own links texts) (on : ℕ) (p : Pair) where
   -- a text goes out
   texts-start : (t : TextOut) → sends p ≡ true → is_data_link on ≡ true → texts p ≡ No_text → (links on).slot ≡ Empty
-      → Texts (owned_by on (Some p) own) (set_link on (record { slot = Travelling t; subnet = Accepted t }) links) (set_at p (Away on t.of_size t.bits) texts)
+      → Texts (owned_by on (Some p) own) (set_link on (record { slot = Travelling t; subnet = Accepted t }) links) (set_at_pair p (Away on t.of_size t.bits) texts)
   texts-start t s d n e = moved own links texts x on p (Some p) (record { slot = Travelling t; subnet = Accepted t }) (Away on t.of_size t.bits)
       (record { sending = s; data_link = d; carried = refl; text = set-own p (Away on t.of_size t.bits) texts })
       (λ k q f o. set-other p q (Away on t.of_size t.bits) texts (λ g. absurd (cc (ap (λ (y : Pair). link_out (texts y)) g ∙ ap link_out n, owned-out own links texts x k q o))))
@@ -149,7 +148,7 @@ module _ (own : Owners) (links : ℕ → Link TextOut) (texts : Pair → Text) (
 
   -- it comes
   texts-come : (t : TextOut) → own on ≡ Some p → (links on).subnet ≡ Accepted t
-      → Texts (owned_by on (Some p) own) (set_link on (record (links on) { subnet = Delivered }) links) (set_at p (Here on) texts)
+      → Texts (owned_by on (Some p) own) (set_link on (record (links on) { subnet = Delivered }) links) (set_at_pair p (Here on) texts)
   texts-come t o s = moved own links texts x on p (Some p) (record (links on) { subnet = Delivered }) (Here on)
       (record { sending = k.sending; data_link = k.data_link; carried = came.0; text = set-own p (Here on) texts ∙ came.1 })
       (λ i q d f. beside-owned own links texts x on i p (Here on) d (owned-out own links texts x on p o) q f)
@@ -169,7 +168,7 @@ module _ (own : Owners) (links : ℕ → Link TextOut) (texts : Pair → Text) (
           go (Travelling u) c = (tt, refl)
 
   -- it is answered
-  texts-end : own on ≡ Some p → Texts (owned_by on None own) (set_link on idle links) (set_at p No_text texts)
+  texts-end : own on ≡ Some p → Texts (owned_by on None own) (set_link on idle links) (set_at_pair p No_text texts)
   texts-end o = moved own links texts x on p None idle No_text
       refl
       (λ i q d f. beside-owned own links texts x on i p No_text d (owned-out own links texts x on p o) q f)
@@ -187,24 +186,24 @@ same-owners own on p links texts e x = record { owned = λ k. subst (λ o. Owned
 -- What a machine does where a text goes out, comes or is answered.
 
 goes_out_event : (p : Pair) (g : Shared) → sends p ≡ true → g.sends ≡ true
-    → shared_occurs (On p Text_goes_out) g ≡ sender_did p all.Text_goes_out (text_after (or_new (g.sender p).end).link (happens p all.Text_goes_out (g.sender p).end).outcome (g.text p)) g
+    → shared_occurs (On p Text_goes_out) g ≡ sender_did p Happening.Text_goes_out (text_after_outcome (or_new (g.sender p).end).link (happens p Happening.Text_goes_out (g.sender p).end).outcome (g.text p)) g
 goes_out_event p g s a = rw (s, a) refl
 
 comes_event : (p : Pair) (head : List Bool) (on of_size : ℕ) (bits : List Bool) (g : Shared) → sends p ≡ true → g.receives ≡ true → g.text p ≡ Away on of_size bits
-    → shared_occurs (On p (Text_comes head)) g ≡ receiver_did p (all.Text_comes head of_size bits) (Here on) g
+    → shared_occurs (On p (Text_comes head)) g ≡ receiver_did p (Happening.Text_comes head of_size bits) (Here on) g
 comes_event p head on of_size bits g s a t = rw (s, a, t) refl
 
 answered_event : (p : Pair) (on : ℕ) (g : Shared) → sends p ≡ true → g.sends ≡ true → g.text p ≡ Here on
-    → shared_occurs (On p (Text_is_answered Rfnm)) g ≡ sender_did p (all.Is_answered Rfnm) No_text g
+    → shared_occurs (On p (Text_is_answered Rfnm)) g ≡ sender_did p (Happening.Is_answered Rfnm) No_text g
 answered_event p on g s a t = rw (s, a, t) refl
 
 -- only the text of a pair changes
 abbrev text_did : Pair → Text → Shared → Shared
 text_did p t g = record g {
-  sender = set_at p (g.sender p) g.sender;
-  receiver = set_at p (g.receiver p) g.receiver;
-  text = set_at p t g.text;
-  violated = set_at p (g.violated p) g.violated;
+  sender = set_at_pair p (g.sender p) g.sender;
+  receiver = set_at_pair p (g.receiver p) g.receiver;
+  text = set_at_pair p t g.text;
+  violated = set_at_pair p (g.violated p) g.violated;
   to_receivers = g.to_receivers ++ [];
   to_senders = g.to_senders ++ [];
 }
@@ -321,17 +320,17 @@ sees-kept n n' p what c e = record {
 
 -- Nothing opens where a text goes out or is answered.
 
-cut-opens : (p : Pair) (o : Option End) → opens o (happens p all.Text_goes_out o).after ≡ false
+cut-opens : (p : Pair) (o : Option End) → opens o (happens p Happening.Text_goes_out o).after ≡ false
 cut-opens p None = refl
 cut-opens p (Some e) = grind arith
 
-answer-opens : (p : Pair) (o : Option End) → opens o (happens p (all.Is_answered Rfnm) o).after ≡ false
+answer-opens : (p : Pair) (o : Option End) → opens o (happens p (Happening.Is_answered Rfnm) o).after ≡ false
 answer-opens p None = refl
 answer-opens p (Some e) = grind arith
 
 -- A cleared host: only the text of the machine changes.
 
-way-text : (a b : Bool) (own own1 : Owners) (n m : Node) (g : Shared) (p : Pair) (t : Text) (links : ℕ → Link TextOut) → Texts own1 links (set_at p t g.text)
+way-text : (a b : Bool) (own own1 : Owners) (n m : Node) (g : Shared) (p : Pair) (t : Text) (links : ℕ → Link TextOut) → Texts own1 links (set_at_pair p t g.text)
     → Way a b own n m g → Way a b own1 (record n { texts = links }) m (text_did p t g)
 way-text a b own own1 n m g p t links x w = record {
   alive = w.alive;
@@ -358,7 +357,7 @@ ties-text-drops b own own' n m u v on t s k = go (owner-of own' m.texts k.back.t
     go (p, o) =
         let sent = (owned-at own' m.texts k.back.text k.here.texts on p o).sending in
         let away = accepted-text own' m.texts k.back.text k.here.texts on p t o s in
-        let x = same-owners own' on p (set_link on (record (m.texts on) { subnet = Delivered }) m.texts) (set_at p (Here on) k.back.text) o (texts-come own' m.texts k.back.text k.here.texts on p t o s) in
+        let x = same-owners own' on p (set_link on (record (m.texts on) { subnet = Delivered }) m.texts) (set_at_pair p (Here on) k.back.text) o (texts-come own' m.texts k.back.text k.here.texts on p t o s) in
         record {
           g = k.g;
           back = text_did p (Here on) k.back;
@@ -409,7 +408,7 @@ heard-data-link on p None l h = absurd (cc h)
 heard-data-link on p (Some e) l h = let k = hears_parts on p e h in subst (λ (i : ℕ). is_data_link i ≡ true) k.2 (l.link k.0 k.1)
 
 -- the text goes out on its end's link
-text-of-cut : (on : ℕ) (p : Pair) (o : Option End) (out : Outcome) (text : ℕ × List Bool) (t : Text) → passes (hears_link on) p o ≡ true → out ≡ all.Sent text.0 text.1 → text_after (or_new o).link out t ≡ Away on text.0 text.1
+text-of-cut : (on : ℕ) (p : Pair) (o : Option End) (out : Outcome) (text : ℕ × List Bool) (t : Text) → passes (hears_link on) p o ≡ true → out ≡ Outcome.Sent text.0 text.1 → text_after_outcome (or_new o).link out t ≡ Away on text.0 text.1
 text-of-cut on p None out text t h e = absurd (cc h)
 text-of-cut on p (Some x) out text t h e = rw e (ap (λ (i : ℕ). Away i text.0 text.1) (hears_parts on p x h).2)
 
@@ -438,22 +437,22 @@ module _ (b : Bool) (own own' : Owners) (n m : Node) (u v : List Command) (on : 
           let same = same-link on i p (get n.ends p) passed (sender-out a b own n m k.g k.there k.reached alive i p o).0 in
           empty-free own n.texts k.g.text k.there.texts on p free (subst (λ (j : ℕ). own j ≡ Some p) same o))
 
-      outcome : (happens p all.Text_goes_out (get n.ends p)).outcome ≡ all.Sent text.0 text.1
+      outcome : (happens p Happening.Text_goes_out (get n.ends p)).outcome ≡ Outcome.Sent text.0 text.1
       outcome = ap (λ (d : Happened). d.outcome) (cut-led n.ends on p e).1 ∙ ap of_cut cuts
 
-      goes : text_after (or_new (k.g.sender p).end).link (happens p all.Text_goes_out (k.g.sender p).end).outcome (k.g.text p) ≡ Away on text.0 text.1
-      goes = rw (k.there.sender p sent) (text-of-cut on p (get n.ends p) (happens p all.Text_goes_out (get n.ends p)).outcome text (k.g.text p) passed outcome)
+      goes : text_after_outcome (or_new (k.g.sender p).end).link (happens p Happening.Text_goes_out (k.g.sender p).end).outcome (k.g.text p) ≡ Away on text.0 text.1
+      goes = rw (k.there.sender p sent) (text-of-cut on p (get n.ends p) (happens p Happening.Text_goes_out (get n.ends p)).outcome text (k.g.text p) passed outcome)
 
-      reaches : Reached (sender_did p all.Text_goes_out (Away on text.0 text.1) k.g)
-      reaches = by_event k.g (sender_did p all.Text_goes_out (Away on text.0 text.1) k.g) p k.reached (goes_out_event p k.g sent (k.there.alive ∙ alive) ∙ ap (λ (t : Text). sender_did p all.Text_goes_out t k.g) goes)
+      reaches : Reached (sender_did p Happening.Text_goes_out (Away on text.0 text.1) k.g)
+      reaches = by_event k.g (sender_did p Happening.Text_goes_out (Away on text.0 text.1) k.g) p k.reached (goes_out_event p k.g sent (k.there.alive ∙ alive) ∙ ap (λ (t : Text). sender_did p Happening.Text_goes_out t k.g) goes)
 
-      sees : Sees n (after_cut n on text (Some p)) p all.Text_goes_out
-      sees = sees-still n (after_cut n on text (Some p)) p all.Text_goes_out
-          (act-changes n.ends p all.Text_goes_out (cut_in on n.ends) (ap (λ (d : Happened). d.after) (cut-led n.ends on p e).1))
+      sees : Sees n (after_cut n on text (Some p)) p Happening.Text_goes_out
+      sees = sees-still n (after_cut n on text (Some p)) p Happening.Text_goes_out
+          (act-changes n.ends p Happening.Text_goes_out (cut_in on n.ends) (ap (λ (d : Happened). d.after) (cut-led n.ends on p e).1))
           refl (cut-opens p (get n.ends p)) (λ o x. refl)
 
-      acts : record { ties : Ties a b (owned_by on (Some p) own) own' (after_cut n on text (Some p)) m (u ++ []) v; safe : is_violation (happens p all.Text_goes_out (get n.ends p)).outcome ≡ false }
-      acts = sender-acts a b own own' n (after_cut n on text (Some p)) m u v all.Text_goes_out k.g k.back p (Away on text.0 text.1) (owned_by on (Some p) own) sent
+      acts : record { ties : Ties a b (owned_by on (Some p) own) own' (after_cut n on text (Some p)) m (u ++ []) v; safe : is_violation (happens p Happening.Text_goes_out (get n.ends p)).outcome ≡ false }
+      acts = sender-acts a b own own' n (after_cut n on text (Some p)) m u v Happening.Text_goes_out k.g k.back p (Away on text.0 text.1) (owned_by on (Some p) own) sent
           k.there k.here k.going k.coming reaches k.reached_back sees
           (texts-start own n.texts k.g.text k.there.texts on p (record { of_size = text.0; bits = text.1 }) sent (heard-data-link on p (get n.ends p) limits passed) none free)
 
@@ -473,14 +472,14 @@ ties-goes-out a b own own' n m u v on text alive limits cuts free k = go (pair_o
 
 -- what it does where its link leads
 came-led : (on : ℕ) (head : List Bool) (of_size : ℕ) (bits : List Bool) (m : Ends) (q : Pair) → pair_of (receiver_on on m) ≡ Some q
-    → happens q (all.Text_comes head of_size bits) (get m q) ≡ happened (get m q) (text_in on of_size bits m) (made_by_text head bits) of_text
-came-led on head of_size bits m q e = ap (λ o. happened (get m q) (hear_text of_size bits o) (made_by_text head bits) of_text) (led (uses_link on) m q e).0
+    → happens q (Happening.Text_comes head of_size bits) (get m q) ≡ happened (get m q) (text_in on of_size bits m) (made_by_text head bits) outcome_of_text
+came-led on head of_size bits m q e = ap (λ o. happened (get m q) (hear_text of_size bits o) (made_by_text head bits) outcome_of_text) (led (uses_link on) m q e).0
 
 -- the host to which it comes, where the look-up by link led there, and the host that sent it
 abbrev after_coming : Node → ℕ → List Bool → TextOut → Option Pair → Node
 after_coming n on head t o = record n {
   ends = map_after_at n.ends o (text_in on t.of_size t.bits n.ends);
-  pasts = pasts_after_at o (Some (all.Text_comes head t.of_size t.bits)) n.ends n.pasts;
+  pasts = pasts_after_at o (Some (Happening.Text_comes head t.of_size t.bits)) n.ends n.pasts;
 }
 
 abbrev after_delivery : Node → ℕ → Node
@@ -489,7 +488,7 @@ after_delivery m on = record m { texts = set_link on (record (m.texts on) { subn
 abbrev Came : Bool → Bool → Owners → Owners → Node → Node → List Command → List Command → ℕ → List Bool → TextOut → Option Pair → Type 0
 Came a b own own' n m u v on head t o = record {
   ties : Ties a b own own' (after_coming n on head t o) (after_delivery m on) (u ++ made_by_text head t.bits (answer (text_in on t.of_size t.bits n.ends))) v;
-  safe : is_violation (of_text (answer (text_in on t.of_size t.bits n.ends))) ≡ false;
+  safe : is_violation (outcome_of_text (answer (text_in on t.of_size t.bits n.ends))) ≡ false;
 }
 
 module _ (a b : Bool) (own own' : Owners) (n m : Node) (u v : List Command) (on : ℕ) (head : List Bool) (t : TextOut) where
@@ -509,26 +508,26 @@ module _ (a b : Bool) (own own' : Owners) (n m : Node) (u v : List Command) (on 
       leads : pair_of (receiver_on on n.ends) ≡ Some (turned p)
       leads = leads-there (uses_link on) n.ends (turned p) found.0 found.1
 
-      does : happens (turned p) (all.Text_comes head t.of_size t.bits) (get n.ends (turned p)) ≡ happened (get n.ends (turned p)) (text_in on t.of_size t.bits n.ends) (made_by_text head t.bits) of_text
+      does : happens (turned p) (Happening.Text_comes head t.of_size t.bits) (get n.ends (turned p)) ≡ happened (get n.ends (turned p)) (text_in on t.of_size t.bits n.ends) (made_by_text head t.bits) outcome_of_text
       does = came-led on head t.of_size t.bits n.ends (turned p) leads
 
-      reaches : Reached (receiver_did p (all.Text_comes head t.of_size t.bits) (Here on) k.back)
-      reaches = by_coming k.back (receiver_did p (all.Text_comes head t.of_size t.bits) (Here on) k.back) p head k.reached_back
+      reaches : Reached (receiver_did p (Happening.Text_comes head t.of_size t.bits) (Here on) k.back)
+      reaches = by_coming k.back (receiver_did p (Happening.Text_comes head t.of_size t.bits) (Here on) k.back) p head k.reached_back
           (comes_event p head on t.of_size t.bits k.back sent (k.here.alive_too ∙ alive) (accepted-text own' m.texts k.back.text k.here.texts on p t o s))
 
-      sees : Sees n (after_coming n on head t (Some (turned p))) (turned p) (all.Text_comes head t.of_size t.bits)
-      sees = sees-kept n (after_coming n on head t (Some (turned p))) (turned p) (all.Text_comes head t.of_size t.bits)
-          (act-changes n.ends (turned p) (all.Text_comes head t.of_size t.bits) (text_in on t.of_size t.bits n.ends) (ap (λ (d : Happened). d.after) does)) refl
+      sees : Sees n (after_coming n on head t (Some (turned p))) (turned p) (Happening.Text_comes head t.of_size t.bits)
+      sees = sees-kept n (after_coming n on head t (Some (turned p))) (turned p) (Happening.Text_comes head t.of_size t.bits)
+          (act-changes n.ends (turned p) (Happening.Text_comes head t.of_size t.bits) (text_in on t.of_size t.bits n.ends) (ap (λ (d : Happened). d.after) does)) refl
 
       acts : record {
-        ties : Ties a b own own' (after_coming n on head t (Some (turned p))) (after_delivery m on) (u ++ (happens (turned p) (all.Text_comes head t.of_size t.bits) (get n.ends (turned p))).made) v;
-        safe : is_violation (happens (turned p) (all.Text_comes head t.of_size t.bits) (get n.ends (turned p))).outcome ≡ false;
+        ties : Ties a b own own' (after_coming n on head t (Some (turned p))) (after_delivery m on) (u ++ (happens (turned p) (Happening.Text_comes head t.of_size t.bits) (get n.ends (turned p))).made) v;
+        safe : is_violation (happens (turned p) (Happening.Text_comes head t.of_size t.bits) (get n.ends (turned p))).outcome ≡ false;
       }
-      acts = receiver-acts a b own own' n (after_coming n on head t (Some (turned p))) m u v (all.Text_comes head t.of_size t.bits) k.g k.back (after_delivery m on) p (Here on) own' sent
+      acts = receiver-acts a b own own' n (after_coming n on head t (Some (turned p))) m u v (Happening.Text_comes head t.of_size t.bits) k.g k.back (after_delivery m on) p (Here on) own' sent
           k.there k.here k.going k.coming k.reached reaches sees (λ q. refl) k.there.texts
-          (same-owners own' on p (set_link on (record (m.texts on) { subnet = Delivered }) m.texts) (set_at p (Here on) k.back.text) o (texts-come own' m.texts k.back.text k.here.texts on p t o s))
+          (same-owners own' on p (set_link on (record (m.texts on) { subnet = Delivered }) m.texts) (set_at_pair p (Here on) k.back.text) o (texts-come own' m.texts k.back.text k.here.texts on p t o s))
 
-pub ties-text-comes : (a b : Bool) (own own' : Owners) (n m : Node) (u v : List Command) (on : ℕ) (head : List Bool) (t : TextOut) → a ≡ true → (m.texts on).subnet ≡ Accepted t → Ties a b own own' n m u v → record { ties : Ties a b own own' (record n { ends = map_after_at n.ends (pair_of (receiver_on on n.ends)) (text_in on t.of_size t.bits n.ends); pasts = pasts_after_at (pair_of (receiver_on on n.ends)) (Some (all.Text_comes head t.of_size t.bits)) n.ends n.pasts }) (record m { texts = set_link on (record (m.texts on) { subnet = Delivered }) m.texts }) (u ++ made_by_text head t.bits (answer (text_in on t.of_size t.bits n.ends))) v; safe : is_violation (of_text (answer (text_in on t.of_size t.bits n.ends))) ≡ false }
+pub ties-text-comes : (a b : Bool) (own own' : Owners) (n m : Node) (u v : List Command) (on : ℕ) (head : List Bool) (t : TextOut) → a ≡ true → (m.texts on).subnet ≡ Accepted t → Ties a b own own' n m u v → record { ties : Ties a b own own' (record n { ends = map_after_at n.ends (pair_of (receiver_on on n.ends)) (text_in on t.of_size t.bits n.ends); pasts = pasts_after_at (pair_of (receiver_on on n.ends)) (Some (Happening.Text_comes head t.of_size t.bits)) n.ends n.pasts }) (record m { texts = set_link on (record (m.texts on) { subnet = Delivered }) m.texts }) (u ++ made_by_text head t.bits (answer (text_in on t.of_size t.bits n.ends))) v; safe : is_violation (outcome_of_text (answer (text_in on t.of_size t.bits n.ends))) ≡ false }
 ties-text-comes a b own own' n m u v on head t alive s k = go (owner-of own' m.texts k.back.text k.here.texts on (accepted-not-idle (m.texts on) t s))
   where
     go : (p : Pair) × (own' on ≡ Some p) → Came a b own own' n m u v on head t (pair_of (receiver_on on n.ends))
@@ -551,23 +550,23 @@ module _ (a b : Bool) (own own' : Owners) (n m : Node) (u v : List Command) (on 
       sent : sends p ≡ true
       sent = (owned-at own n.texts k.g.text k.there.texts on p o).sending
 
-      does : happens p (all.Is_answered Rfnm) (get n.ends p) ≡ happened (get n.ends p) (answered_in on Rfnm n.ends) made_if_any (λ _. all.Accepted)
+      does : happens p (Happening.Is_answered Rfnm) (get n.ends p) ≡ happened (get n.ends p) (answered_in on Rfnm n.ends) made_if_any (λ _. Outcome.Accepted)
       does = (answered-led n.ends on Rfnm p leads).1
 
-      reaches : Reached (sender_did p (all.Is_answered Rfnm) No_text k.g)
-      reaches = by_answer k.g (sender_did p (all.Is_answered Rfnm) No_text k.g) p k.reached
+      reaches : Reached (sender_did p (Happening.Is_answered Rfnm) No_text k.g)
+      reaches = by_answer k.g (sender_did p (Happening.Is_answered Rfnm) No_text k.g) p k.reached
           (answered_event p on k.g sent (k.there.alive ∙ alive) (delivered-text own n.texts k.g.text k.there.texts on p t o f s))
 
-      sees : Sees n (after_answer n on (Some p)) p (all.Is_answered Rfnm)
-      sees = sees-still n (after_answer n on (Some p)) p (all.Is_answered Rfnm)
-          (act-changes n.ends p (all.Is_answered Rfnm) (answered_in on Rfnm n.ends) (ap (λ (d : Happened). d.after) does))
+      sees : Sees n (after_answer n on (Some p)) p (Happening.Is_answered Rfnm)
+      sees = sees-still n (after_answer n on (Some p)) p (Happening.Is_answered Rfnm)
+          (act-changes n.ends p (Happening.Is_answered Rfnm) (answered_in on Rfnm n.ends) (ap (λ (d : Happened). d.after) does))
           refl (answer-opens p (get n.ends p)) (λ o x. refl)
 
       acts : record {
-        ties : Ties a b (owned_by on None own) own' (after_answer n on (Some p)) m (u ++ (happens p (all.Is_answered Rfnm) (get n.ends p)).made) v;
-        safe : is_violation (happens p (all.Is_answered Rfnm) (get n.ends p)).outcome ≡ false;
+        ties : Ties a b (owned_by on None own) own' (after_answer n on (Some p)) m (u ++ (happens p (Happening.Is_answered Rfnm) (get n.ends p)).made) v;
+        safe : is_violation (happens p (Happening.Is_answered Rfnm) (get n.ends p)).outcome ≡ false;
       }
-      acts = sender-acts a b own own' n (after_answer n on (Some p)) m u v (all.Is_answered Rfnm) k.g k.back p No_text (owned_by on None own) sent
+      acts = sender-acts a b own own' n (after_answer n on (Some p)) m u v (Happening.Is_answered Rfnm) k.g k.back p No_text (owned_by on None own) sent
           k.there k.here k.going k.coming reaches k.reached_back sees (texts-end own n.texts k.g.text k.there.texts on p o)
 
 pub ties-answered : (a b : Bool) (own own' : Owners) (n m : Node) (u v : List Command) (on : ℕ) (t : TextOut) → a ≡ true → (n.texts on).slot ≡ Travelling t → (n.texts on).subnet ≡ Delivered → Ties a b own own' n m u v → Ties a b (owned_by on None own) own' (record n { ends = map_after_at n.ends (pair_of (sender_on on n.ends)) (answered_in on Rfnm n.ends); texts = set_link on idle n.texts }) m (u ++ made_if_any (answer (answered_in on Rfnm n.ends))) v

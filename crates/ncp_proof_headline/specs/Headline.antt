@@ -12,22 +12,22 @@ use Rattle.ncp_model.specs.Leading.{passes}
 use Rattle.ncp_proof_watch.specs.Histories.{opens, IsBeginning}
 use Rattle.ncp_proof_watch.specs.Books.{BooksAt}
 use Rattle.ncp_proof_resets.specs.Delivery.{Accepted}
-pub use Rattle.ncp_proof_resets.specs.Delivery.{not_come}
-use Rattle.ncp_proof_resets.specs.Resets.{underway}
-use Rattle.ncp_proof_machine.specs.Hosts.{TextOut, Node, World, swap, past_of, is_empty, hears, hears_all}
+pub use Rattle.ncp_proof_resets.specs.Delivery.{message_not_come}
+use Rattle.ncp_proof_resets.specs.Resets.{commands_underway}
+use Rattle.ncp_proof_machine.specs.Hosts.{TextOut, Node, TwoNodes, nodes_swapped, past_of, is_empty, node_hears, node_hears_all}
 use Rattle.ncp_model.specs.Pairs.{turned}
 use Rattle.ncp_model.specs.Amounts.{granted_messages, granted_bits, returned_messages, returned_bits}
 
 -- The two ends of a pair.
 
-abbrev pub sender_at : Pair → World → End
-sender_at pair w = or_new (get w.this.ends pair)
+abbrev pub sender_in_model : Pair → TwoNodes → End
+sender_in_model pair w = or_new (get w.this.ends pair)
 
-abbrev pub receiver_at : Pair → World → End
-receiver_at pair w = or_new (get w.that.ends (turned pair))
+abbrev pub receiver_in_model : Pair → TwoNodes → End
+receiver_in_model pair w = or_new (get w.that.ends (turned pair))
 
-abbrev pub BothOpen : Pair → World → Type 0
-BothOpen pair w = (is_open (sender_at pair w) ≡ true) × (is_open (receiver_at pair w) ≡ true)
+abbrev pub BothOpenInModel : Pair → TwoNodes → Type 0
+BothOpenInModel pair w = (is_open (sender_in_model pair w) ≡ true) × (is_open (receiver_in_model pair w) ≡ true)
 
 -- What the commands that name a link carry.
 
@@ -41,75 +41,75 @@ sum_on on f (c ∷ cs) = (if names_link on (link_of c) then f c else 0) + sum_on
 
 -- how many messages, and which bits, the text of a link is that has not come
 
-abbrev pub how_many : Option TextOut → ℕ
-how_many None = 0
-how_many (Some t) = 1
+abbrev pub how_many_texts : Option TextOut → ℕ
+how_many_texts None = 0
+how_many_texts (Some t) = 1
 
-abbrev pub bits_of : Option TextOut → List Bool
-bits_of None = []
-bits_of (Some t) = t.bits
+abbrev pub bits_of_text : Option TextOut → List Bool
+bits_of_text None = []
+bits_of_text (Some t) = t.bits
 
 -- the text that is underway on the pair's link
-abbrev pub text_underway : Pair → World → Option TextOut
-text_underway pair w = let on = (sender_at pair w).link in not_come (w.this.texts on).slot (w.this.texts on).subnet
+abbrev pub text_underway : Pair → TwoNodes → Option TextOut
+text_underway pair w = let on = (sender_in_model pair w).link in message_not_come (w.this.texts on).slot (w.this.texts on).subnet
 
 -- the commands underway from the sender's host, and from the receiver's
 
-abbrev pub commands_there : World → List Command
-commands_there w = underway w.this.host w.this.control
+abbrev pub commands_there : TwoNodes → List Command
+commands_there w = commands_underway w.this.host w.this.control
 
-abbrev pub commands_back : World → List Command
-commands_back w = underway w.that.host w.that.control
+abbrev pub commands_back : TwoNodes → List Command
+commands_back w = commands_underway w.that.host w.that.control
 
 -- what ALL and RET carry that are underway on the pair's link
 
-abbrev pub granted_underway : (Command → ℕ) → Pair → World → ℕ
-granted_underway f pair w = sum_on (sender_at pair w).link f (commands_back w)
+abbrev pub granted_underway : (Command → ℕ) → Pair → TwoNodes → ℕ
+granted_underway f pair w = sum_on (sender_in_model pair w).link f (commands_back w)
 
-abbrev pub returned_underway : (Command → ℕ) → Pair → World → ℕ
-returned_underway f pair w = sum_on (sender_at pair w).link f (commands_there w)
+abbrev pub returned_underway : (Command → ℕ) → Pair → TwoNodes → ℕ
+returned_underway f pair w = sum_on (sender_in_model pair w).link f (commands_there w)
 
 -- While both ends are open: what is outstanding at the receiver is what the sender's counters hold,
 -- and what ALL underway, the text that has not come and RET underway carry, each on the pair's link.
 
-abbrev pub MessagesAgree : Pair → World → Type 0
-MessagesAgree pair w = BothOpen pair w
-    → (receiver_at pair w).messages
-    ≡ (sender_at pair w).messages
-    + (granted_underway granted_messages pair w + (how_many (text_underway pair w) + returned_underway returned_messages pair w))
+abbrev pub MessagesAgreeInModel : Pair → TwoNodes → Type 0
+MessagesAgreeInModel pair w = BothOpenInModel pair w
+    → (receiver_in_model pair w).messages
+    ≡ (sender_in_model pair w).messages
+    + (granted_underway granted_messages pair w + (how_many_texts (text_underway pair w) + returned_underway returned_messages pair w))
 
-abbrev pub BitsAgree : Pair → World → Type 0
-BitsAgree pair w = BothOpen pair w
-    → (receiver_at pair w).bits
-    ≡ (sender_at pair w).bits
-    + (granted_underway granted_bits pair w + (length (bits_of (text_underway pair w)) + returned_underway returned_bits pair w))
+abbrev pub BitsAgreeInModel : Pair → TwoNodes → Type 0
+BitsAgreeInModel pair w = BothOpenInModel pair w
+    → (receiver_in_model pair w).bits
+    ≡ (sender_in_model pair w).bits
+    + (granted_underway granted_bits pair w + (length (bits_of_text (text_underway pair w)) + returned_underway returned_bits pair w))
 
 -- While both ends are open, they are on one link; and what was given was got, is underway, or waits.
 
-abbrev pub OnOneLink : Pair → World → Type 0
-OnOneLink pair w = BothOpen pair w → (sender_at pair w).link ≡ (receiver_at pair w).link
+abbrev pub OnOneLink : Pair → TwoNodes → Type 0
+OnOneLink pair w = BothOpenInModel pair w → (sender_in_model pair w).link ≡ (receiver_in_model pair w).link
 
-abbrev pub Parted : Pair → World → Type 0
-Parted pair w = BothOpen pair w
-    → (past_of w.this.pasts pair).given ≡ (past_of w.that.pasts (turned pair)).got ++ (bits_of (text_underway pair w) ++ (sender_at pair w).stored)
+abbrev pub PartedInModel : Pair → TwoNodes → Type 0
+PartedInModel pair w = BothOpenInModel pair w
+    → (past_of w.this.pasts pair).given ≡ (past_of w.that.pasts (turned pair)).got ++ (bits_of_text (text_underway pair w) ++ (sender_in_model pair w).stored)
 
 -- While the receiver is live and not left, what it got was taken, or is held.
-abbrev pub TakenOrHeld : Pair → World → Type 0
-TakenOrHeld pair w = is_live (get w.that.ends (turned pair)) ≡ true → (receiver_at pair w).left ≡ false
-    → (past_of w.that.pasts (turned pair)).got ≡ (past_of w.that.pasts (turned pair)).taken ++ (receiver_at pair w).stored
+abbrev pub TakenOrHeld : Pair → TwoNodes → Type 0
+TakenOrHeld pair w = is_live (get w.that.ends (turned pair)) ≡ true → (receiver_in_model pair w).left ≡ false
+    → (past_of w.that.pasts (turned pair)).got ≡ (past_of w.that.pasts (turned pair)).taken ++ (receiver_in_model pair w).stored
 
 -- At the receiver, what is outstanding is what was granted less what was returned and used: so it
 -- never gets beyond its allocation.
-abbrev pub WithinAllocation : Pair → World → Type 0
-WithinAllocation pair w = BooksAt (get w.that.ends (turned pair)) (past_of w.that.pasts (turned pair))
+abbrev pub WithinAllocationInModel : Pair → TwoNodes → Type 0
+WithinAllocationInModel pair w = BooksAt (get w.that.ends (turned pair)) (past_of w.that.pasts (turned pair))
 
 -- While the receiver is live, what it got is a beginning of what was given since the sender last
 -- opened, whatever the sender has done since.
-abbrev pub Begins : Pair → World → Type 0
-Begins pair w = is_live (get w.that.ends (turned pair)) ≡ true → IsBeginning (past_of w.that.pasts (turned pair)).got (past_of w.this.pasts pair).given
+abbrev pub BeginsInModel : Pair → TwoNodes → Type 0
+BeginsInModel pair w = is_live (get w.that.ends (turned pair)) ≡ true → IsBeginning (past_of w.that.pasts (turned pair)).got (past_of w.this.pasts pair).given
 
 -- A text is out on a link, from its output to its RFNM, before a step and after it.
-abbrev pub StaysOut : ℕ → World → World → Type 0
+abbrev pub StaysOut : ℕ → TwoNodes → TwoNodes → Type 0
 StaysOut on w after = (is_empty (w.this.texts on).slot ≡ false) × (is_empty (after.this.texts on).slot ≡ false)
 
 -- In the step a pair opens with that link: at the sender's host, or at the receiver's, where the pair
@@ -122,23 +122,23 @@ SenderOpensAt on pair n after = (opens (get n.ends pair) (get after.ends pair) �
 abbrev pub ReceiverOpensAt : ℕ → Pair → Node → Node → Type 0
 ReceiverOpensAt on pair n after = (opens (get n.ends pair) (get after.ends pair) ≡ true) × (passes (uses_link on) pair (get after.ends pair) ≡ true)
 
-abbrev pub SenderOpens : ℕ → Pair → World → World → Type 0
+abbrev pub SenderOpens : ℕ → Pair → TwoNodes → TwoNodes → Type 0
 SenderOpens on pair w after = SenderOpensAt on pair w.this after.this
 
-abbrev pub ReceiverOpens : ℕ → Pair → World → World → Type 0
+abbrev pub ReceiverOpens : ℕ → Pair → TwoNodes → TwoNodes → Type 0
 ReceiverOpens on pair w after = ReceiverOpensAt on pair w.that after.that
 
 -- No pair opens, at either host, with a link on which a text of this host stays out: not in a step, and
 -- not by a command of the message that is coming to this host, whatever a later command of it does.
 
-abbrev pub NoPairOpens : World → World → Type 0
+abbrev pub NoPairOpens : TwoNodes → TwoNodes → Type 0
 NoPairOpens w after = (pair : Pair) (on : ℕ) → StaysOut on w after → (SenderOpens on pair w after → ⊥) × (ReceiverOpens on pair w after → ⊥)
 
-abbrev pub NoCommandOpens : World → Type 0
+abbrev pub NoCommandOpens : TwoNodes → Type 0
 NoCommandOpens w = (done rest : List Command) (c : Command) → w.that.control.subnet ≡ Accepted (done ++ c ∷ rest)
-    → (let n = hears_all done w.this in
-    (pair : Pair) (on : ℕ) → (is_empty (w.this.texts on).slot ≡ false → SenderOpensAt on pair n (hears c n) → ⊥) × (is_empty (w.that.texts on).slot ≡ false → ReceiverOpensAt on pair n (hears c n) → ⊥))
+    → (let n = node_hears_all done w.this in
+    (pair : Pair) (on : ℕ) → (is_empty (w.this.texts on).slot ≡ false → SenderOpensAt on pair n (node_hears c n) → ⊥) × (is_empty (w.that.texts on).slot ≡ false → ReceiverOpensAt on pair n (node_hears c n) → ⊥))
 
 -- either way: of what goes from this host to that one, and of what goes back
-abbrev pub Both : (World → Type 0) → World → Type 0
-Both P w = P w × P (swap w)
+abbrev pub BothWaysInModel : (TwoNodes → Type 0) → TwoNodes → Type 0
+BothWaysInModel P w = P w × P (nodes_swapped w)

@@ -5,17 +5,17 @@ use Rattle.ncp_model.specs.declared.pair.Pair.{Pair}
 use Rattle.ncp_model.specs.Pairs.{sends, turned}
 use Rattle.ncp_proof_watch.specs.Histories.{Watched}
 use Rattle.ncp_proof_sharing.specs.Sharing.{Shared, new_shared, Shared_event, shared, AllMayHappen}
-use Rattle.ncp_proof_machine.specs.Hosts.{Node, World, past_of}
+use Rattle.ncp_proof_machine.specs.Hosts.{Node, TwoNodes, past_of}
 
 -- what a host knows of a pair
-abbrev pub watched : Node → Pair → Watched
-watched n pair = record { end = get n.ends pair; past = past_of n.pasts pair }
+abbrev pub watched_at : Node → Pair → Watched
+watched_at n pair = record { end = get n.ends pair; past = past_of n.pasts pair }
 
 -- The machine's senders are the ends of this host that send, its receivers those of that host that
 -- receive, each with its history.
-abbrev pub HasEnds : Shared → World → Type 0
-HasEnds s w = (pair : Pair) → sends pair ≡ true → (s.sender pair ≡ watched w.this pair) × (s.receiver pair ≡ watched w.that (turned pair))
+abbrev pub HasEnds : Shared → TwoNodes → Type 0
+HasEnds s w = (pair : Pair) → sends pair ≡ true → (s.sender pair ≡ watched_at w.this pair) × (s.receiver pair ≡ watched_at w.that (turned pair))
 
 -- a list of the machine's events, each of which may happen, leaves these ends
-abbrev pub IsTied : World → Type 0
+abbrev pub IsTied : TwoNodes → Type 0
 IsTied w = (events : List Shared_event) × AllMayHappen events new_shared × HasEnds (shared events) w

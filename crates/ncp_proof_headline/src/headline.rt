@@ -9,11 +9,11 @@ ghost use Rattle.ncp_model.specs.Pairs.{sends};
 ghost use Rattle.ncp_model.specs.Act.{answer};
 ghost use Rattle.ncp_model.specs.Ends.{hear, text_in};
 ghost use Rattle.ncp_model.specs.Phase.{is_rst, is_rrp, is_other, up_phase};
-ghost use Rattle.ncp_model.specs.Happenings.{of_hearing, of_text, is_violation};
+ghost use Rattle.ncp_model.specs.Happenings.{of_hearing, outcome_of_text, is_violation};
 ghost use Rattle.ncp_proof_resets.specs.Delivery.{Accepted, Held, Free};
-ghost use Rattle.ncp_proof_resets.specs.Resets.{is_up, underway};
-ghost use Rattle.ncp_proof_machine.specs.Hosts.{Node, World, swap, past_of, is_empty, TextOut, Step, steps, hears, hears_all, hears_text, Call, calls, calls_echo, Calls_reset, Hears, Event, at, run};
-ghost use Rattle.ncp_proof_headline.specs.Headline.{BothOpen, sender_at, receiver_at, granted_underway, returned_underway, how_many, text_underway, MessagesAgree, BitsAgree, OnOneLink, WithinAllocation, Parted, TakenOrHeld, Begins, StaysOut, SenderOpens, ReceiverOpens, NoPairOpens, NoCommandOpens, Both};
+ghost use Rattle.ncp_proof_resets.specs.Resets.{is_up, commands_underway};
+ghost use Rattle.ncp_proof_machine.specs.Hosts.{Node, TwoNodes, nodes_swapped, past_of, is_empty, TextOut, NodeStep, node_steps, node_hears, node_hears_all, node_hears_text, PairCall, node_calls, node_calls_echo, Calls_reset, Hears, NodeEvent, node_at, run};
+ghost use Rattle.ncp_proof_headline.specs.Headline.{BothOpenInModel, sender_in_model, receiver_in_model, granted_underway, returned_underway, how_many_texts, text_underway, MessagesAgreeInModel, BitsAgreeInModel, OnOneLink, WithinAllocationInModel, PartedInModel, TakenOrHeld, BeginsInModel, StaysOut, SenderOpens, ReceiverOpens, NoPairOpens, NoCommandOpens, BothWaysInModel};
 ghost use Rattle.ncp_model.specs.Rows.{outward, inward, ones, noughts, counting};
 ghost use Rattle.ncp_proof_machine.specs.HostRuns.{calls_back_under_text, sender_cleared, held_past_reset, up_after_held, opened_after_held, with_text_out, meets, meets_there};
 ghost use Rattle.ncp_proof_resets.specs.Resets.{This, That};
@@ -24,21 +24,21 @@ use ncp_model::Pair;
 /// From making an RST until an RRP came, a host acts on nothing but RST and RRP. While its RST is
 /// underway it waits, and its waiting ends in no step but one in which an RRP comes to it.
 pub fn only_resets_act_until_the_answer()
-    ensures commands { (c : Command) (n : Node) → n.host.phase.wait ≡ true → is_other c ≡ true → hears c n ≡ n }
-    ensures texts { (on : ℕ) (head : List Bool) (t : TextOut) (n : Node) → n.host.phase.wait ≡ true → hears_text on head t n ≡ n }
-    ensures calls { (pair : Pair) (call : Call) (n : Node) → n.host.phase.wait ≡ true → calls pair call n ≡ n }
-    ensures echoes { (byte : ℕ) (n : Node) → n.host.phase.wait ≡ true → calls_echo byte n ≡ n }
-    ensures waits { (events : List Event) → list_any is_rst (underway (run events).this.host (run events).this.control) ≡ true → (run events).this.host.phase.wait ≡ true }
-    ensures waits_too { (events : List Event) → list_any is_rst (underway (run events).that.host (run events).that.control) ≡ true → (run events).that.host.phase.wait ≡ true }
-    ensures each { (step : Step) (w : World) → (steps step w).that.host ≡ w.that.host }
-    ensures until { (step : Step) (w : World) → w.this.host.phase.wait ≡ true → (steps step w).this.host.phase.wait ≡ false → (m : List Command) × (w.that.control.subnet ≡ Accepted m) × (list_any is_rrp m ≡ true) }
+    ensures commands { (c : Command) (n : Node) → n.host.phase.wait ≡ true → is_other c ≡ true → node_hears c n ≡ n }
+    ensures texts { (on : ℕ) (head : List Bool) (t : TextOut) (n : Node) → n.host.phase.wait ≡ true → node_hears_text on head t n ≡ n }
+    ensures calls { (pair : Pair) (call : PairCall) (n : Node) → n.host.phase.wait ≡ true → node_calls pair call n ≡ n }
+    ensures echoes { (byte : ℕ) (n : Node) → n.host.phase.wait ≡ true → node_calls_echo byte n ≡ n }
+    ensures waits { (events : List NodeEvent) → list_any is_rst (commands_underway (run events).this.host (run events).this.control) ≡ true → (run events).this.host.phase.wait ≡ true }
+    ensures waits_too { (events : List NodeEvent) → list_any is_rst (commands_underway (run events).that.host (run events).that.control) ≡ true → (run events).that.host.phase.wait ≡ true }
+    ensures each { (step : NodeStep) (w : TwoNodes) → (node_steps step w).that.host ≡ w.that.host }
+    ensures until { (step : NodeStep) (w : TwoNodes) → w.this.host.phase.wait ≡ true → (node_steps step w).this.host.phase.wait ≡ false → (m : List Command) × (w.that.control.subnet ≡ Accepted m) × (list_any is_rrp m ≡ true) }
 {}
 
 /// A host that is up notes in its ghost what is against the protocol: that it answers a command with an
 /// ERR, or a text as not connected, of the wrong size or beyond the allocation.
 pub fn what_is_against_the_protocol_is_noted()
-    ensures commands { (c : Command) (n : Node) → is_up n.host ≡ true → is_violation (of_hearing (answer (hear c n.ends))) ≡ true → (hears c n).violated ≡ true }
-    ensures texts { (on : ℕ) (head : List Bool) (t : TextOut) (n : Node) → is_up n.host ≡ true → is_violation (of_text (answer (text_in on t.of_size t.bits n.ends))) ≡ true → (hears_text on head t n).violated ≡ true }
+    ensures commands { (c : Command) (n : Node) → is_up n.host ≡ true → is_violation (of_hearing (answer (hear c n.ends))) ≡ true → (node_hears c n).violated ≡ true }
+    ensures texts { (on : ℕ) (head : List Bool) (t : TextOut) (n : Node) → is_up n.host ≡ true → is_violation (outcome_of_text (answer (text_in on t.of_size t.bits n.ends))) ≡ true → (node_hears_text on head t n).violated ≡ true }
 {}
 
 /// Neither host ever makes an ERR for a command of the other, or answers its text as not connected, of
@@ -49,14 +49,14 @@ pub fn what_is_against_the_protocol_is_noted()
 /// granted less what was returned and used; what it got was taken or is held, until it left; and it
 /// is a beginning of what was given since the sender last opened, whatever the sender has done since.
 pub fn hosts_lose_and_make_nothing()
-    ensures safe { (events : List Event) → ((run events).this.violated ≡ false) × ((run events).that.violated ≡ false) }
-    ensures messages { (events : List Event) (pair : Pair) → sends pair ≡ true → Both (MessagesAgree pair) (run events) }
-    ensures bits { (events : List Event) (pair : Pair) → sends pair ≡ true → Both (BitsAgree pair) (run events) }
-    ensures link { (events : List Event) (pair : Pair) → sends pair ≡ true → Both (OnOneLink pair) (run events) }
-    ensures allocation { (events : List Event) (pair : Pair) → sends pair ≡ true → Both (WithinAllocation pair) (run events) }
-    ensures parted { (events : List Event) (pair : Pair) → sends pair ≡ true → Both (Parted pair) (run events) }
-    ensures held { (events : List Event) (pair : Pair) → sends pair ≡ true → Both (TakenOrHeld pair) (run events) }
-    ensures beginning { (events : List Event) (pair : Pair) → sends pair ≡ true → Both (Begins pair) (run events) }
+    ensures safe { (events : List NodeEvent) → ((run events).this.violated ≡ false) × ((run events).that.violated ≡ false) }
+    ensures messages { (events : List NodeEvent) (pair : Pair) → sends pair ≡ true → BothWaysInModel (MessagesAgreeInModel pair) (run events) }
+    ensures bits { (events : List NodeEvent) (pair : Pair) → sends pair ≡ true → BothWaysInModel (BitsAgreeInModel pair) (run events) }
+    ensures link { (events : List NodeEvent) (pair : Pair) → sends pair ≡ true → BothWaysInModel (OnOneLink pair) (run events) }
+    ensures allocation { (events : List NodeEvent) (pair : Pair) → sends pair ≡ true → BothWaysInModel (WithinAllocationInModel pair) (run events) }
+    ensures parted { (events : List NodeEvent) (pair : Pair) → sends pair ≡ true → BothWaysInModel (PartedInModel pair) (run events) }
+    ensures held { (events : List NodeEvent) (pair : Pair) → sends pair ≡ true → BothWaysInModel (TakenOrHeld pair) (run events) }
+    ensures beginning { (events : List NodeEvent) (pair : Pair) → sends pair ≡ true → BothWaysInModel (BeginsInModel pair) (run events) }
 {}
 
 /// From the output of a text on a link to its RFNM no pair whose texts go on that link from that host
@@ -64,15 +64,15 @@ pub fn hosts_lose_and_make_nothing()
 /// control message is heard in one step; in that step too no command of it makes such an opening, even
 /// one that a later command of the same message would end.
 pub fn none_opens_while_its_link_has_a_text()
-    ensures steps { (events : List Event) (e : Event) → let w = run events in let after = at e.side e.step w in NoPairOpens w after × NoPairOpens (swap w) (swap after) }
-    ensures commands { (events : List Event) → Both NoCommandOpens (run events) }
+    ensures steps { (events : List NodeEvent) (e : NodeEvent) → let w = run events in let after = node_at e.side e.step w in NoPairOpens w after × NoPairOpens (nodes_swapped w) (nodes_swapped after) }
+    ensures commands { (events : List NodeEvent) → BothWaysInModel NoCommandOpens (run events) }
 {}
 
 /// That these laws speak of something: both ends are open while an ALL, a text and a RET are underway;
 /// and a receiver lives on what it got while its sender was cleared.
 pub fn all_terms_are_underway()
-    ensures open { BothOpen outward (run calls_back_under_text) }
-    ensures messages { let w = run calls_back_under_text in ((receiver_at outward w).messages ≡ 5) × ((sender_at outward w).messages ≡ 0) × (granted_underway granted_messages outward w ≡ 3) × (how_many (text_underway outward w) ≡ 1) × (returned_underway returned_messages outward w ≡ 1) }
+    ensures open { BothOpenInModel outward (run calls_back_under_text) }
+    ensures messages { let w = run calls_back_under_text in ((receiver_in_model outward w).messages ≡ 5) × ((sender_in_model outward w).messages ≡ 0) × (granted_underway granted_messages outward w ≡ 3) × (how_many_texts (text_underway outward w) ≡ 1) × (returned_underway returned_messages outward w ≡ 1) }
     ensures alone { let w = run sender_cleared in (get w.this.ends outward ≡ None) × (get w.that.ends inward ≡ Some (record (counting 1 0) { stored = ones 16 })) × ((past_of w.that.pasts inward).got ≡ ones 16) × ((past_of w.this.pasts outward).given ≡ ones 16 ++ noughts 8) }
 {}
 
@@ -88,9 +88,9 @@ pub fn a_text_is_held_back_past_a_reset()
 /// The premises of the laws on openings are each met: a text stays out in a step; a step of the
 /// sender's host opens a pair with a link, and one of the receiver's does, each hearing one command.
 pub fn openings_and_texts_out_happen()
-    ensures stays_out { StaysOut 2 (run with_text_out) (at That Calls_reset (run with_text_out)) }
-    ensures sender { SenderOpens 2 outward (run meets) (at This Hears (run meets)) }
-    ensures receiver { ReceiverOpens 2 inward (run meets_there) (at That Hears (run meets_there)) }
+    ensures stays_out { StaysOut 2 (run with_text_out) (node_at That Calls_reset (run with_text_out)) }
+    ensures sender { SenderOpens 2 outward (run meets) (node_at This Hears (run meets)) }
+    ensures receiver { ReceiverOpens 2 inward (run meets_there) (node_at That Hears (run meets_there)) }
     ensures by_one_command { (run meets).that.control.subnet ≡ Accepted (Command.Rts 2 3 2 ∷ []) }
     ensures by_one_there { (run meets_there).this.control.subnet ≡ Accepted (Command.Str 3 2 8 ∷ []) }
 {}

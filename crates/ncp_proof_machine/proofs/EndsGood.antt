@@ -14,11 +14,10 @@ use Rattle.ncp_model.specs.End.{End}
 use Rattle.ncp_model.specs.Act.{Act, end_after}
 use Rattle.ncp_model.specs.Ends.{Ends, count, any, has_asked, is_by_peer, hears_link, uses_link, free_link, map_after, no_ends, put}
 use Rattle.ncp_model.specs.Happenings.{Happening, Happened, happens}
-use Rattle.ncp_model.specs.Happenings as all
 use Rattle.ncp_model.specs.Leading.{suits, passes, comes}
 use Rattle.ncp_proof_watch.specs.Limits.{InLimitsAt}
 use Rattle.ncp_proof_watch.specs.Sound.{SoundAt}
-use Rattle.ncp_proof_machine.specs.Hosts.{Call, Ask_to_receive, called}
+use Rattle.ncp_proof_machine.specs.Hosts.{PairCall, Ask_to_receive, called}
 use Rattle.ncp_model.proofs.PairOrder.{pairs_exact, pairs_total}
 use Rattle.ncp_model.proofs.EndsAfter.{after-at, after-elsewhere}
 use Rattle.ncp_model.proofs.FreeLinks.{free-free, free-room}
@@ -142,13 +141,13 @@ act-changes m pair what act e = record { there = after-at m pair act ∙ sym e; 
 
 -- What happens suits its pair, and brings no link that another end has.
 
-pub called-suits : (pair : Pair) (call : Call) (full : Bool) (m : Ends) → suits pair (called call full m) ≡ true
+pub called-suits : (pair : Pair) (call : PairCall) (full : Bool) (m : Ends) → suits pair (called call full m) ≡ true
 called-suits pair call full m = grind arith
 
 pub none-fresh : (m : Ends) (what : Happening) → ((l : ℕ) → brings_link l what ≡ false) → ((l : ℕ) → takes_link l what ≡ false) → Fresh m what
 none-fresh m what b t = record { heard = λ l h. absurd (cc (h, b l)); asked = λ l h. absurd (cc (h, t l)) }
 
-pub called-fresh : (call : Call) (full : Bool) (m : Ends) → Fresh m (called call full m)
+pub called-fresh : (call : PairCall) (full : Bool) (m : Ends) → Fresh m (called call full m)
 called-fresh (Ask_to_receive with_room) full m = record { heard = λ l h. absurd (cc h); asked = λ l h. free l h }
   where
     free : (l : ℕ) → (free_link m == l && not (nat_le MAX_OWN (count has_asked m))) ≡ true → any (uses_link l) m ≡ false
@@ -166,8 +165,8 @@ comes-fresh c m what e = record { heard = λ l h. brought l c e h; asked = λ l 
 
     brought : (l : ℕ) (c : Command) → comes c m ≡ Some what → brings_link l what ≡ true → any (hears_link l) m ≡ false
     brought l (Command.Rts receive send on) e h =
-        let same : all.Rts_comes on (any (hears_link on) m) (count is_by_peer m) ≡ what = cc e in
-        let k : brings_link l (all.Rts_comes on (any (hears_link on) m) (count is_by_peer m)) ≡ true = ap (brings_link l) same ∙ h in
+        let same : Happening.Rts_comes on (any (hears_link on) m) (count is_by_peer m) ≡ what = cc e in
+        let k : brings_link l (Happening.Rts_comes on (any (hears_link on) m) (count is_by_peer m)) ≡ true = ap (brings_link l) same ∙ h in
         let p = not_taken on l (any (hears_link on) m) k in
         subst (λ (i : ℕ). any (hears_link i) m ≡ false) p.0 p.1
     brought l c e h = absurd (cc (e, h))

@@ -12,20 +12,17 @@ use Rattle.ncp_model.specs.End.{End}
 use Rattle.ncp_model.specs.Act.{answer, made_if_any, made_by_call}
 use Rattle.ncp_model.specs.Texts.{made_by_text, Rfnm}
 use Rattle.ncp_model.specs.Ends.{Ends, sender_on, receiver_on, pair_of, leads_to, hear, text_in, cut_in, answered_in, map_after_at, no_ends, put}
-use Rattle.ncp_model.specs.Happenings.{Happening, Outcome, Happened, happens, of_hearing, of_text, is_violation}
-use Rattle.ncp_model.specs.Happenings as all
+use Rattle.ncp_model.specs.Happenings.{Happening, Outcome, Happened, happens, of_hearing, outcome_of_text, is_violation}
 use Rattle.ncp_model.specs.Leading.{comes}
 use Rattle.ncp_proof_watch.specs.Histories.{Past, no_past, adds, opens}
 use Rattle.ncp_model.specs.Echo.{Echoes, no_echoes, echo_answer, echo_asked, purge_echo}
 use Rattle.ncp_model.specs.Phase.{new_phase, is_resetting, Reaction}
 use Rattle.ncp_model.specs.Sending.{is_full}
-use Rattle.ncp_model.specs.Peers.{Peer}
-pub use Rattle.ncp_model.specs.Peers.{Call, Ask_to_send, Ask_to_receive, Close, Give, Take, Allocate, Call_back, Interrupt, called, is_full_up, echo_replies, echoes_after}
-use Rattle.ncp_model.specs.Peers as peers
+use Rattle.ncp_model.specs.Peers.{Peer, kept, kept_echoes, reaction}
+pub use Rattle.ncp_model.specs.Peers.{PairCall, Ask_to_send, Ask_to_receive, Close, Give, Take, Allocate, Call_back, Interrupt, called, is_full_up, echo_replies, echoes_after}
 pub use Rattle.ncp_slot.specs.Slot.{is_empty}
-use Rattle.ncp_proof_resets.specs.Delivery.{Slot, Empty, Ready, Travelling, Held, Subnet, Accepted, Delivered, Lost, Dead, Link, idle, out, undelivered, answered, woken}
-use Rattle.ncp_proof_resets.specs.Resets.{Host, is_up, anew, host_resets, host_settles, host_falls, host_makes, host_makes_all, host_hears}
-use Rattle.ncp_proof_resets.specs.Resets as resets
+use Rattle.ncp_proof_resets.specs.Delivery.{Slot, Empty, Ready, Travelling, Held, MessageTransit, Accepted, Delivered, Lost, Dead, Link, idle, out, undelivered, link_answered, woken}
+use Rattle.ncp_proof_resets.specs.Resets.{ResetHost, is_up, anew, host_resets, host_settles, host_falls, host_makes, host_makes_all, host_hears, Party, ResetStep, ResetWorld, reset_steps}
 
 -- the text of a message on a data link
 pub record TextOut : Type 0 where
@@ -44,7 +41,7 @@ abbrev pub past_of : Pasts → Pair → Past
 past_of pasts pair = or_no_past (get pasts pair)
 
 pub record Node : Type 0 where
-  pub host : Host  -- its phase, what waits, and what was made and came
+  pub host : ResetHost  -- its phase, what waits, and what was made and came
   pub ends : Ends
   pub echoes : Echoes
   pub control : Link (List Command)  -- its control message that is out
@@ -70,15 +67,15 @@ set_link on link texts k = if k == on then link else texts k
 
 -- A clearing leaves no end, and ends the echo. What is out on the data links stays out.
 
-abbrev pub cleared : Host → Node → Node
-cleared h n = record n { host = h; ends = no_ends; echoes = purge_echo n.echoes }
+abbrev pub node_cleared : ResetHost → Node → Node
+node_cleared h n = record n { host = h; ends = no_ends; echoes = purge_echo n.echoes }
 
 -- a host that made commands has gone down in the midst of it, or keeps these ends
-abbrev pub kept : Host → Ends → Ends
-kept h m = peers.kept h.phase m
+abbrev pub node_kept : ResetHost → Ends → Ends
+node_kept h m = kept h.phase m
 
-abbrev pub kept_echoes : Host → Echoes → Echoes
-kept_echoes h s = peers.kept_echoes h.phase s
+abbrev pub node_kept_echoes : ResetHost → Echoes → Echoes
+node_kept_echoes h s = kept_echoes h.phase s
 
 -- the histories after something happened to a pair
 abbrev pub past_after : Option End → Happening → Happened → Past → Past
@@ -98,28 +95,28 @@ pasts_after_at pair what m pasts = pasts
 abbrev pub happens_at : Pair → Happening → Node → Node
 happens_at pair what n =
     let did : Happened = happens pair what (get n.ends pair) in
-    let host : Host = host_makes_all did.made n.host in
+    let host : ResetHost = host_makes_all did.made n.host in
     record n {
       host = host;
-      ends = kept host (put n.ends pair did.after);
-      echoes = kept_echoes host n.echoes;
+      ends = node_kept host (put n.ends pair did.after);
+      echoes = node_kept_echoes host n.echoes;
       pasts = pasts_after pair what n.ends n.pasts;
       violated = n.violated || is_violation did.outcome;
     }
 
-abbrev pub calls : Pair → Call → Node → Node
-calls pair call n = if is_up n.host then happens_at pair (called call (is_full n.host.phase) n.ends) n else n
+abbrev pub node_calls : Pair → PairCall → Node → Node
+node_calls pair call n = if is_up n.host then happens_at pair (called call (is_full n.host.phase) n.ends) n else n
 
-abbrev pub echo_called : ℕ → Node → Node
-echo_called byte n =
-    let host : Host = host_makes_all (made_by_call (echo_answer byte (is_full n.host.phase) n.echoes)) n.host in
-    record n { host = host; ends = kept host n.ends; echoes = kept_echoes host (echo_asked (is_full n.host.phase) n.echoes) }
+abbrev pub node_echo_called : ℕ → Node → Node
+node_echo_called byte n =
+    let host : ResetHost = host_makes_all (made_by_call (echo_answer byte (is_full n.host.phase) n.echoes)) n.host in
+    record n { host = host; ends = node_kept host n.ends; echoes = node_kept_echoes host (echo_asked (is_full n.host.phase) n.echoes) }
 
-abbrev pub calls_echo : ℕ → Node → Node
-calls_echo byte n = if is_up n.host then echo_called byte n else n
+abbrev pub node_calls_echo : ℕ → Node → Node
+node_calls_echo byte n = if is_up n.host then node_echo_called byte n else n
 
-abbrev pub calls_reset : Node → Node
-calls_reset n = if is_resetting n.host.phase then n else cleared (host_resets (quiet n) n.host) n
+abbrev pub node_calls_reset : Node → Node
+node_calls_reset n = if is_resetting n.host.phase then n else node_cleared (host_resets (quiet n) n.host) n
 
 -- A command comes. What names a link acts on the end to which a look-up by link leads.
 
@@ -127,177 +124,177 @@ calls_reset n = if is_resetting n.host.phase then n else cleared (host_resets (q
 abbrev pub peer_of : Node → Peer
 peer_of n = record { phase = n.host.phase; ends = n.ends; echoes = n.echoes }
 
-abbrev pub reaction : Command → Node → Reaction
-reaction c n = peers.reaction (quiet n) c (peer_of n)
+abbrev pub node_reaction : Command → Node → Reaction
+node_reaction c n = reaction (quiet n) c (peer_of n)
 
-abbrev pub hears_other : Command → Node → Node
-hears_other c n =
-    let host : Host = host_hears c (reaction c n) n.host in
+abbrev pub node_hears_other : Command → Node → Node
+node_hears_other c n =
+    let host : ResetHost = host_hears c (node_reaction c n) n.host in
     record n {
       host = host;
-      ends = kept host (map_after_at n.ends (leads_to c n.ends) (hear c n.ends));
-      echoes = kept_echoes host (echoes_after c n.echoes);
+      ends = node_kept host (map_after_at n.ends (leads_to c n.ends) (hear c n.ends));
+      echoes = node_kept_echoes host (echoes_after c n.echoes);
       pasts = pasts_after_at (leads_to c n.ends) (comes c n.ends) n.ends n.pasts;
       violated = n.violated || is_violation (of_hearing (answer (hear c n.ends)));
     }
 
-abbrev pub hears : Command → Node → Node
-hears Rst n = cleared (host_hears Rst (reaction Rst n) n.host) n
-hears Rrp n = record n { host = host_hears Rrp (reaction Rrp n) n.host }
-hears c n = if is_up n.host then hears_other c n else n
+abbrev pub node_hears : Command → Node → Node
+node_hears Rst n = node_cleared (host_hears Rst (node_reaction Rst n) n.host) n
+node_hears Rrp n = record n { host = host_hears Rrp (node_reaction Rrp n) n.host }
+node_hears c n = if is_up n.host then node_hears_other c n else n
 
-abbrev pub hears_all : List Command → Node → Node
-hears_all [] n = n
-hears_all (c ∷ cs) n = hears_all cs (hears c n)
+abbrev pub node_hears_all : List Command → Node → Node
+node_hears_all [] n = n
+node_hears_all (c ∷ cs) n = node_hears_all cs (node_hears c n)
 
 -- A text comes on a link, with its leader and prefix. While the host is not up it is dropped.
 
-abbrev pub takes_text : ℕ → List Bool → TextOut → Node → Node
-takes_text on head t n =
+abbrev pub node_takes_text : ℕ → List Bool → TextOut → Node → Node
+node_takes_text on head t n =
     let took = text_in on t.of_size t.bits n.ends in
-    let host : Host = host_makes_all (made_by_text head t.bits (answer took)) n.host in
+    let host : ResetHost = host_makes_all (made_by_text head t.bits (answer took)) n.host in
     record n {
       host = host;
-      ends = kept host (map_after_at n.ends (pair_of (receiver_on on n.ends)) took);
-      echoes = kept_echoes host n.echoes;
-      pasts = pasts_after_at (pair_of (receiver_on on n.ends)) (Some (all.Text_comes head t.of_size t.bits)) n.ends n.pasts;
-      violated = n.violated || is_violation (of_text (answer took));
+      ends = node_kept host (map_after_at n.ends (pair_of (receiver_on on n.ends)) took);
+      echoes = node_kept_echoes host n.echoes;
+      pasts = pasts_after_at (pair_of (receiver_on on n.ends)) (Some (Happening.Text_comes head t.of_size t.bits)) n.ends n.pasts;
+      violated = n.violated || is_violation (outcome_of_text (answer took));
     }
 
-abbrev pub hears_text : ℕ → List Bool → TextOut → Node → Node
-hears_text on head t n = if is_up n.host then takes_text on head t n else n
+abbrev pub node_hears_text : ℕ → List Bool → TextOut → Node → Node
+node_hears_text on head t n = if is_up n.host then node_takes_text on head t n else n
 
 -- A text goes out: one that is ready, or what an open sender on the link may send.
 
-abbrev pub goes_out : ℕ → TextOut → Node → Node
-goes_out on t n = record n { texts = set_link on (out t) n.texts }
+abbrev pub node_goes_out : ℕ → TextOut → Node → Node
+node_goes_out on t n = record n { texts = set_link on (out t) n.texts }
 
-abbrev pub cuts : ℕ → Option (ℕ × List Bool) → Node → Node
-cuts on None n = n
-cuts on (Some text) n =
-    goes_out on (record { of_size = text.0; bits = text.1 }) (record n { ends = map_after_at n.ends (pair_of (sender_on on n.ends)) (cut_in on n.ends) })
+abbrev pub node_cuts : ℕ → Option (ℕ × List Bool) → Node → Node
+node_cuts on None n = n
+node_cuts on (Some text) n =
+    node_goes_out on (record { of_size = text.0; bits = text.1 }) (record n { ends = map_after_at n.ends (pair_of (sender_on on n.ends)) (cut_in on n.ends) })
 
-abbrev pub sends_text : ℕ → Slot TextOut → Node → Node
-sends_text on Empty n = cuts on (answer (cut_in on n.ends)) n
-sends_text on (Ready t) n = goes_out on t n
-sends_text on (Travelling t) n = n
-sends_text on (Held t) n = n
+abbrev pub node_sends_text : ℕ → Slot TextOut → Node → Node
+node_sends_text on Empty n = node_cuts on (answer (cut_in on n.ends)) n
+node_sends_text on (Ready t) n = node_goes_out on t n
+node_sends_text on (Travelling t) n = n
+node_sends_text on (Held t) n = n
 
 -- The answer to a text. One that was taken frees its sender, while the host is up; a leaving sender
 -- makes its CLS; then the host settles.
 
-abbrev pub settles : Node → Node
-settles n = record n { host = host_settles (quiet n) n.host }
+abbrev pub node_settles : Node → Node
+node_settles n = record n { host = host_settles (quiet n) n.host }
 
-abbrev pub frees : ℕ → Node → Node
-frees on n =
+abbrev pub node_frees : ℕ → Node → Node
+node_frees on n =
     let act = answered_in on Rfnm n.ends in
-    let host : Host = host_makes_all (made_if_any (answer act)) n.host in
+    let host : ResetHost = host_makes_all (made_if_any (answer act)) n.host in
     record n {
       host = host;
-      ends = if is_up n.host then kept host (map_after_at n.ends (pair_of (sender_on on n.ends)) act) else n.ends;
-      echoes = if is_up n.host then kept_echoes host n.echoes else n.echoes;
+      ends = if is_up n.host then node_kept host (map_after_at n.ends (pair_of (sender_on on n.ends)) act) else n.ends;
+      echoes = if is_up n.host then node_kept_echoes host n.echoes else n.echoes;
       texts = set_link on idle n.texts;
     }
 
-abbrev pub text_answered : ℕ → Slot TextOut → Subnet TextOut → Node → Node
-text_answered on (Travelling t) Delivered n = settles (frees on n)
-text_answered on slot s n = record n { texts = set_link on (answered slot s) n.texts }
+abbrev pub text_answered : ℕ → Slot TextOut → MessageTransit TextOut → Node → Node
+text_answered on (Travelling t) Delivered n = node_settles (node_frees on n)
+text_answered on slot s n = record n { texts = set_link on (link_answered slot s) n.texts }
 
 -- the answer to a control message: where it was taken the host settles
-abbrev pub control_answered : Slot (List Command) → Subnet (List Command) → Node → Node
-control_answered (Travelling m) Delivered n = settles (record n { control = idle })
-control_answered slot s n = record n { control = answered slot s }
+abbrev pub control_answered : Slot (List Command) → MessageTransit (List Command) → Node → Node
+control_answered (Travelling m) Delivered n = node_settles (record n { control = idle })
+control_answered slot s n = record n { control = link_answered slot s }
 
-pub record World : Type 0 where
+pub record TwoNodes : Type 0 where
   pub this : Node
   pub that : Node
 
-abbrev pub swap : World → World
-swap w = record { this = w.that; that = w.this }
+abbrev pub nodes_swapped : TwoNodes → TwoNodes
+nodes_swapped w = record { this = w.that; that = w.this }
 
 -- the hosts, their queues and control links alone
-abbrev pub base : World → resets.World
+abbrev pub base : TwoNodes → ResetWorld
 base w = record { this = w.this.host; that = w.that.host; going = w.this.control; coming = w.that.control }
 
 -- a step of the control link from this host
-abbrev pub moved : resets.World → Node → Node
-moved b n = record n { host = b.this; control = b.going }
+abbrev pub node_moved : ResetWorld → Node → Node
+node_moved b n = record n { host = b.this; control = b.going }
 
-abbrev pub undelivered_text : Subnet TextOut → ℕ → Node → Node
+abbrev pub undelivered_text : MessageTransit TextOut → ℕ → Node → Node
 undelivered_text as_what on n = record n { texts = set_link on (record (n.texts on) { subnet = undelivered as_what (n.texts on).subnet }) n.texts }
 
 -- a text is delivered, and heard
-abbrev pub text_comes : ℕ → List Bool → Subnet TextOut → World → World
-text_comes on head (Accepted t) w = record {
-  this = hears_text on head t w.this;
+abbrev pub node_text_comes : ℕ → List Bool → MessageTransit TextOut → TwoNodes → TwoNodes
+node_text_comes on head (Accepted t) w = record {
+  this = node_hears_text on head t w.this;
   that = record w.that { texts = set_link on (record (w.that.texts on) { subnet = Delivered }) w.that.texts };
 }
-text_comes on head subnet w = w
+node_text_comes on head subnet w = w
 
 -- a control message is delivered, and heard
-abbrev pub message_comes : Subnet (List Command) → World → World
+abbrev pub message_comes : MessageTransit (List Command) → TwoNodes → TwoNodes
 message_comes (Accepted m) w = record {
-  this = hears_all m w.this;
+  this = node_hears_all m w.this;
   that = record w.that { control = record w.that.control { subnet = Delivered } };
 }
 message_comes subnet w = w
 
 -- what may happen at this host
-pub data Step : Type 0 where
-  Calls_reset : Step
-  Calls : (pair : Pair) → (call : Call) → Step
-  Calls_echo : (byte : ℕ) → Step
-  Falls : Step
-  Sends : (n : ℕ) → Step  -- the control message that is ready, or the first n + 1 commands that wait
-  Sends_text : (on : ℕ) → Step
-  Hears : Step  -- the control message that is coming
-  Hears_text : (on : ℕ) → (head : List Bool) → Step  -- the text that is coming, with this leader and prefix
-  Loses : Step  -- the subnet loses the control message that is going
-  Loses_text : (on : ℕ) → Step
-  Dies : Step  -- its destination is dead
-  Text_dies : (on : ℕ) → Step
-  Is_answered : Step
-  Text_is_answered : (on : ℕ) → Step
-  Wakes : Step  -- the user asks for all that is held
+pub data NodeStep : Type 0 where
+  Calls_reset : NodeStep
+  Calls : (pair : Pair) → (call : PairCall) → NodeStep
+  Calls_echo : (byte : ℕ) → NodeStep
+  Falls : NodeStep
+  Sends : (n : ℕ) → NodeStep  -- the control message that is ready, or the first n + 1 commands that wait
+  Sends_text : (on : ℕ) → NodeStep
+  Hears : NodeStep  -- the control message that is coming
+  Hears_text : (on : ℕ) → (head : List Bool) → NodeStep  -- the text that is coming, with this leader and prefix
+  Loses : NodeStep  -- the subnet loses the control message that is going
+  Loses_text : (on : ℕ) → NodeStep
+  Dies : NodeStep  -- its destination is dead
+  Text_dies : (on : ℕ) → NodeStep
+  Is_answered : NodeStep
+  Text_is_answered : (on : ℕ) → NodeStep
+  Wakes : NodeStep  -- the user asks for all that is held
 
-abbrev pub steps : Step → World → World
-steps Calls_reset w = record w { this = calls_reset w.this }
-steps (Calls pair call) w = record w { this = calls pair call w.this }
-steps (Calls_echo byte) w = record w { this = calls_echo byte w.this }
-steps Falls w = record w { this = cleared (host_falls w.this.host) w.this }
-steps (Sends n) w = record w { this = moved (resets.steps (resets.Sends n) (base w)) w.this }
-steps (Sends_text on) w = record w { this = sends_text on (w.this.texts on).slot w.this }
-steps Hears w = message_comes w.that.control.subnet w
-steps (Hears_text on head) w = text_comes on head (w.that.texts on).subnet w
-steps Loses w = record w { this = moved (resets.steps resets.Loses (base w)) w.this }
-steps (Loses_text on) w = record w { this = undelivered_text Lost on w.this }
-steps Dies w = record w { this = moved (resets.steps resets.Dies (base w)) w.this }
-steps (Text_dies on) w = record w { this = undelivered_text Dead on w.this }
-steps Is_answered w = record w { this = control_answered w.this.control.slot w.this.control.subnet w.this }
-steps (Text_is_answered on) w = record w { this = text_answered on (w.this.texts on).slot (w.this.texts on).subnet w.this }
-steps Wakes w = record w {
+abbrev pub node_steps : NodeStep → TwoNodes → TwoNodes
+node_steps Calls_reset w = record w { this = node_calls_reset w.this }
+node_steps (Calls pair call) w = record w { this = node_calls pair call w.this }
+node_steps (Calls_echo byte) w = record w { this = node_calls_echo byte w.this }
+node_steps Falls w = record w { this = node_cleared (host_falls w.this.host) w.this }
+node_steps (Sends n) w = record w { this = node_moved (reset_steps (ResetStep.Sends n) (base w)) w.this }
+node_steps (Sends_text on) w = record w { this = node_sends_text on (w.this.texts on).slot w.this }
+node_steps Hears w = message_comes w.that.control.subnet w
+node_steps (Hears_text on head) w = node_text_comes on head (w.that.texts on).subnet w
+node_steps Loses w = record w { this = node_moved (reset_steps ResetStep.Loses (base w)) w.this }
+node_steps (Loses_text on) w = record w { this = undelivered_text Lost on w.this }
+node_steps Dies w = record w { this = node_moved (reset_steps ResetStep.Dies (base w)) w.this }
+node_steps (Text_dies on) w = record w { this = undelivered_text Dead on w.this }
+node_steps Is_answered w = record w { this = control_answered w.this.control.slot w.this.control.subnet w.this }
+node_steps (Text_is_answered on) w = record w { this = text_answered on (w.this.texts on).slot (w.this.texts on).subnet w.this }
+node_steps Wakes w = record w {
   this = record w.this {
     control = record w.this.control { slot = woken w.this.control.slot };
     texts = λ on. record { slot = woken (w.this.texts on).slot; subnet = (w.this.texts on).subnet };
   };
 }
 
-pub record Event : Type 0 where
-  pub side : resets.Side
-  pub step : Step
+pub record NodeEvent : Type 0 where
+  pub side : Party
+  pub step : NodeStep
 
-abbrev pub at : resets.Side → Step → World → World
-at resets.This step w = steps step w
-at resets.That step w = swap (steps step (swap w))
+abbrev pub node_at : Party → NodeStep → TwoNodes → TwoNodes
+node_at Party.This step w = node_steps step w
+node_at Party.That step w = nodes_swapped (node_steps step (nodes_swapped w))
 
-abbrev pub run_from : List Event → World → World
+abbrev pub run_from : List NodeEvent → TwoNodes → TwoNodes
 run_from [] w = w
-run_from (e ∷ es) w = run_from es (at e.side e.step w)
+run_from (e ∷ es) w = run_from es (node_at e.side e.step w)
 
-abbrev pub start : World
+abbrev pub start : TwoNodes
 start = record { this = new_node; that = new_node }
 
 -- a whole schedule
-abbrev pub run : List Event → World
+abbrev pub run : List NodeEvent → TwoNodes
 run es = run_from es start

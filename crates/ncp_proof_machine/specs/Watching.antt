@@ -10,16 +10,14 @@ use Rattle.ncp_model.specs.declared.pair.Pair.{Pair}
 use Rattle.ncp_model.specs.Act.{answer, made_if_any, made_by_call}
 use Rattle.ncp_model.specs.Texts.{made_by_text, Rfnm}
 use Rattle.ncp_model.specs.Ends.{pair_of, receiver_on, leads_to, hear, text_in, answered_in}
-use Rattle.ncp_model.specs.Happenings.{of_hearing, of_text, is_violation}
-use Rattle.ncp_model.specs.Happenings as all
+use Rattle.ncp_model.specs.Happenings.{of_hearing, outcome_of_text, is_violation, Happening}
 use Rattle.ncp_model.specs.Leading.{comes}
 use Rattle.ncp_model.specs.Echo.{echo_answer}
 use Rattle.ncp_model.specs.Phase.{up, is_other, is_resetting}
 use Rattle.ncp_model.specs.Sending.{is_full}
-use Rattle.ncp_model.specs.Peers.{Peer, Call, called, happened_at, reaction}
-use Rattle.ncp_model.specs.Peers as peers
-use Rattle.ncp_proof_resets.specs.Delivery.{Slot, Travelling, Subnet, Accepted, Delivered}
-use Rattle.ncp_proof_machine.specs.Hosts.{Node, TextOut, Pasts, pasts_after, pasts_after_at, World, Step, Calls_reset, Calls, Calls_echo, Falls, Hears, Hears_text, Text_is_answered, steps}
+use Rattle.ncp_model.specs.Peers.{Peer, PairCall, called, happened_at, reaction, calls_up, echo_called, frees_up, hears, hears_other, takes_text}
+use Rattle.ncp_proof_resets.specs.Delivery.{Slot, Travelling, MessageTransit, Accepted, Delivered}
+use Rattle.ncp_proof_machine.specs.Hosts.{Node, TextOut, Pasts, pasts_after, pasts_after_at, TwoNodes, NodeStep, Calls_reset, Calls, Calls_echo, Falls, Hears, Hears_text, Text_is_answered, node_steps}
 use Rattle.ncp_proof_machine.specs.Seen.{Links, links_of, are_quiet}
 use Rattle.ncp_proof_machine.specs.Hosts.{peer_of}
 
@@ -47,17 +45,17 @@ notes still_up came made w = record w {
 abbrev pub notes_of_pair : Pasts → Bool → Watch → Watch
 notes_of_pair pasts is_against w = record w { pasts = pasts; violated = w.violated || is_against }
 
-abbrev pub sees_call : Pair → Call → Peer → Watch → Watch
+abbrev pub sees_call : Pair → PairCall → Peer → Watch → Watch
 sees_call pair call p w =
     if up p.phase
-    then notes (up (peers.calls_up pair call p).phase) [] (happened_at pair call p).made
+    then notes (up (calls_up pair call p).phase) [] (happened_at pair call p).made
     (notes_of_pair (pasts_after pair (called call (is_full p.phase) p.ends) p.ends w.pasts) (is_violation (happened_at pair call p).outcome) w)
     else w
 
 abbrev pub sees_echo : ℕ → Peer → Watch → Watch
 sees_echo byte p w =
     if up p.phase
-    then notes (up (peers.echo_called byte p).phase) [] (made_by_call (echo_answer byte (is_full p.phase) p.echoes)) w
+    then notes (up (echo_called byte p).phase) [] (made_by_call (echo_answer byte (is_full p.phase) p.echoes)) w
     else w
 
 abbrev pub sees_command : Bool → Command → Peer → Watch → Watch
@@ -65,44 +63,44 @@ sees_command quiet Rst p w = begins_anew w
 sees_command quiet Rrp p w = w
 sees_command quiet c p w =
     if up p.phase
-    then notes (up (peers.hears_other quiet c p).phase) (c ∷ []) (reaction quiet c p).replies
+    then notes (up (hears_other quiet c p).phase) (c ∷ []) (reaction quiet c p).replies
     (notes_of_pair (pasts_after_at (leads_to c p.ends) (comes c p.ends) p.ends w.pasts) (is_violation (of_hearing (answer (hear c p.ends)))) w)
     else w
 
 abbrev pub sees_each : Bool → List Command → Peer → Watch → Watch
 sees_each quiet [] p w = w
-sees_each quiet (c ∷ cs) p w = sees_each quiet cs (peers.hears quiet c p) (sees_command quiet c p w)
+sees_each quiet (c ∷ cs) p w = sees_each quiet cs (hears quiet c p) (sees_command quiet c p w)
 
 abbrev pub sees_text : ℕ → List Bool → TextOut → Peer → Watch → Watch
 sees_text on head t p w =
     let took = text_in on t.of_size t.bits p.ends in
     if up p.phase
-    then notes (up (peers.takes_text on head t.of_size t.bits p).phase) [] (made_by_text head t.bits (answer took))
-    (notes_of_pair (pasts_after_at (pair_of (receiver_on on p.ends)) (Some (all.Text_comes head t.of_size t.bits)) p.ends w.pasts) (is_violation (of_text (answer took))) w)
+    then notes (up (takes_text on head t.of_size t.bits p).phase) [] (made_by_text head t.bits (answer took))
+    (notes_of_pair (pasts_after_at (pair_of (receiver_on on p.ends)) (Some (Happening.Text_comes head t.of_size t.bits)) p.ends w.pasts) (is_violation (outcome_of_text (answer took))) w)
     else w
 
 -- a text of the host's own was taken
 abbrev pub sees_taken : ℕ → Peer → Watch → Watch
 sees_taken on p w =
     if up p.phase
-    then notes (up (peers.frees_up on p).phase) [] (made_if_any (answer (answered_in on Rfnm p.ends))) w
+    then notes (up (frees_up on p).phase) [] (made_if_any (answer (answered_in on Rfnm p.ends))) w
     else w
 
 -- What each step adds, by the links of the host and of the other.
 
-abbrev pub sees_message : Subnet (List Command) → Bool → Peer → Watch → Watch
+abbrev pub sees_message : MessageTransit (List Command) → Bool → Peer → Watch → Watch
 sees_message (Accepted m) quiet p w = sees_each quiet m p w
 sees_message subnet quiet p w = w
 
-abbrev pub sees_coming : ℕ → List Bool → Subnet TextOut → Peer → Watch → Watch
+abbrev pub sees_coming : ℕ → List Bool → MessageTransit TextOut → Peer → Watch → Watch
 sees_coming on head (Accepted t) p w = sees_text on head t p w
 sees_coming on head subnet p w = w
 
-abbrev pub sees_answer : ℕ → Slot TextOut → Subnet TextOut → Peer → Watch → Watch
+abbrev pub sees_answer : ℕ → Slot TextOut → MessageTransit TextOut → Peer → Watch → Watch
 sees_answer on (Travelling t) Delivered p w = sees_taken on p w
 sees_answer on slot subnet p w = w
 
-abbrev pub watch_after : Step → Links → Links → Peer → Watch → Watch
+abbrev pub watch_after : NodeStep → Links → Links → Peer → Watch → Watch
 watch_after Calls_reset own others p w = if is_resetting p.phase then w else begins_anew w
 watch_after (Calls pair call) own others p w = sees_call pair call p w
 watch_after (Calls_echo byte) own others p w = sees_echo byte p w
@@ -113,7 +111,7 @@ watch_after (Text_is_answered on) own others p w = sees_answer on (own.texts on)
 watch_after step own others p w = w
 
 abbrev pub WatchesAgree : Type 0
-WatchesAgree = (step : Step) (w : World) → watch_of (steps step w).this ≡ watch_after step (links_of w.this) (links_of w.that) (peer_of w.this) (watch_of w.this)
+WatchesAgree = (step : NodeStep) (w : TwoNodes) → watch_of (node_steps step w).this ≡ watch_after step (links_of w.this) (links_of w.that) (peer_of w.this) (watch_of w.this)
 
 abbrev pub OtherWatchesStay : Type 0
-OtherWatchesStay = (step : Step) (w : World) → watch_of (steps step w).that ≡ watch_of w.that
+OtherWatchesStay = (step : NodeStep) (w : TwoNodes) → watch_of (node_steps step w).that ≡ watch_of w.that

@@ -4,15 +4,14 @@ ghost use Rattle.std.specs.FinMap.{get};
 ghost use Rattle.ncp_model.specs.Ends.{no_ends, hears_link, uses_link};
 ghost use Rattle.ncp_model.specs.Leading.{passes};
 ghost use Rattle.ncp_proof_watch.specs.Sound.{SoundAt};
-ghost use Rattle.ncp_proof_resets.specs.Resets.{is_up, Agrees, Silent};
-ghost use Rattle.ncp_proof_resets.specs.Resets as resets;
-ghost use Rattle.ncp_proof_machine.specs.Hosts.{Node, hears, Event, run, base, past_of};
+ghost use Rattle.ncp_proof_resets.specs.Resets.{is_up, Agrees, Silent, ResetEvent, reset_run};
+ghost use Rattle.ncp_proof_machine.specs.Hosts.{Node, node_hears, NodeEvent, run, base, past_of};
 ghost use Rattle.ncp_proof_resets.specs.Delivery.{Ready, Travelling, Held, Free, Accepted, idle};
 ghost use Rattle.ncp_terms.specs.declared.command.Command.{Command};
 ghost use Rattle.ncp_model.specs.Echo.{no_echoes, hear_err};
 ghost use Rattle.ncp_model.specs.Rows.{outward, inward, ones, noughts, size_heard, asked_receive, opened_end, counting, sent_one, due, gone, shut};
 ghost use Rattle.ncp_proof_machine.specs.HostRuns.{with_text_out, got_and_taken, lost_twice, held_back, woken_again, both_reset, reset_under_text, reset_over, asks_again, closed_by_receiver, over_by_receiver, opened_again, closed_by_sender, over_by_sender, other_outward, other_inward, opens_another, reset_under_other_text, request_lost, request_again, request_held, request_woken, echo_asks, echo_comes_back, open_with_echo, fallen, both_interrupt};
-ghost use Rattle.ncp_proof_machine.specs.Seen.{CallsAgree, EchoesAgree, ResetsAgree, FallsAgree, HearsAgree, TextsAgree, FreesAgree, SettlesAgree, MessagesAgree, CutsAgree, SendsAgree, StepsAgree, OthersStay};
+ghost use Rattle.ncp_proof_machine.specs.Seen.{CallsAgree, EchoesAgree, ResetsAgree, FallsAgree, HearsAgree, TextsAgree, FreesAgree, SettlesAgree, HearingAgrees, CutsAgree, SendsAgree, StepsAgree, OtherNodeStays};
 ghost use Rattle.ncp_proof_machine.specs.Watching.{WatchesAgree, OtherWatchesStay};
 ghost use Rattle.ncp_proof_machine.specs.Moving.{ControlMoves, TextsMove, ControlIsHeard, TextsAreHeard};
 ghost use Rattle.ncp_model.specs.Phase.{up_phase};
@@ -23,22 +22,22 @@ use ncp_model::Pair;
 /// no RST or RRP is underway, and the commands that came and those underway are those that were
 /// made, in order. A host that is not up has made nothing and heard nothing since it was cleared.
 pub fn hosts_act_once_in_order()
-    ensures projected { (events : List Event) → (es : List resets.Event) × (base (run events) ≡ resets.run es) }
-    ensures there { (events : List Event) → is_up (run events).this.host ≡ true → is_up (run events).that.host ≡ true → Agrees (run events).this.host (run events).this.control (run events).that.host }
-    ensures back { (events : List Event) → is_up (run events).this.host ≡ true → is_up (run events).that.host ≡ true → Agrees (run events).that.host (run events).that.control (run events).this.host }
-    ensures silent { (events : List Event) → is_up (run events).this.host ≡ false → Silent (run events).this.host }
-    ensures silent_too { (events : List Event) → is_up (run events).that.host ≡ false → Silent (run events).that.host }
+    ensures projected { (events : List NodeEvent) → (es : List ResetEvent) × (base (run events) ≡ reset_run es) }
+    ensures there { (events : List NodeEvent) → is_up (run events).this.host ≡ true → is_up (run events).that.host ≡ true → Agrees (run events).this.host (run events).this.control (run events).that.host }
+    ensures back { (events : List NodeEvent) → is_up (run events).this.host ≡ true → is_up (run events).that.host ≡ true → Agrees (run events).that.host (run events).that.control (run events).this.host }
+    ensures silent { (events : List NodeEvent) → is_up (run events).this.host ≡ false → Silent (run events).this.host }
+    ensures silent_too { (events : List NodeEvent) → is_up (run events).that.host ≡ false → Silent (run events).that.host }
 {}
 
 /// Ends stand only at a host that is up, each of them is sound, and no two that send, nor two that
 /// receive, are on one link, after every schedule.
 pub fn ends_stand_only_while_up()
-    ensures none { (events : List Event) → is_up (run events).this.host ≡ false → (run events).this.ends ≡ no_ends }
-    ensures none_too { (events : List Event) → is_up (run events).that.host ≡ false → (run events).that.ends ≡ no_ends }
-    ensures sound { (events : List Event) (pair : Pair) → SoundAt pair (get (run events).this.ends pair) }
-    ensures sound_too { (events : List Event) (pair : Pair) → SoundAt pair (get (run events).that.ends pair) }
-    ensures apart { (events : List Event) (on : ℕ) (p q : Pair) → passes (hears_link on) p (get (run events).this.ends p) ≡ true → passes (hears_link on) q (get (run events).this.ends q) ≡ true → p ≡ q }
-    ensures apart_too { (events : List Event) (on : ℕ) (p q : Pair) → passes (uses_link on) p (get (run events).this.ends p) ≡ true → passes (uses_link on) q (get (run events).this.ends q) ≡ true → p ≡ q }
+    ensures none { (events : List NodeEvent) → is_up (run events).this.host ≡ false → (run events).this.ends ≡ no_ends }
+    ensures none_too { (events : List NodeEvent) → is_up (run events).that.host ≡ false → (run events).that.ends ≡ no_ends }
+    ensures sound { (events : List NodeEvent) (pair : Pair) → SoundAt pair (get (run events).this.ends pair) }
+    ensures sound_too { (events : List NodeEvent) (pair : Pair) → SoundAt pair (get (run events).that.ends pair) }
+    ensures apart { (events : List NodeEvent) (on : ℕ) (p q : Pair) → passes (hears_link on) p (get (run events).this.ends p) ≡ true → passes (hears_link on) q (get (run events).this.ends q) ≡ true → p ≡ q }
+    ensures apart_too { (events : List NodeEvent) (on : ℕ) (p q : Pair) → passes (uses_link on) p (get (run events).this.ends p) ≡ true → passes (uses_link on) q (get (run events).this.ends q) ≡ true → p ≡ q }
 {}
 
 /// That these laws speak of something: both hosts come up, a connection opens, two of three bytes
@@ -95,7 +94,7 @@ pub fn control_messages_come_once()
 pub fn echoes_and_errors_are_kept()
     ensures awaited { (run echo_asks).this.echoes ≡ record no_echoes { awaited = true } }
     ensures echoed { let w = run echo_comes_back in (w.this.echoes ≡ record no_echoes { echoed = Some 65 }) × (w.that.echoes ≡ no_echoes) × (w.that.host.came ≡ Command.Eco 65 ∷ []) × (w.this.host.came ≡ Command.Erp 65 ∷ []) }
-    ensures error { (code : ℕ) (data_bytes : List ℕ) (n : Node) → is_up n.host ≡ true → hears (Command.Err code data_bytes) n ≡ record n { host = record n.host { came = n.host.came ++ Command.Err code data_bytes ∷ [] }; echoes = hear_err (record { code = code; bytes = data_bytes }) n.echoes; violated = n.violated || false } }
+    ensures error { (code : ℕ) (data_bytes : List ℕ) (n : Node) → is_up n.host ≡ true → node_hears (Command.Err code data_bytes) n ≡ record n { host = record n.host { came = n.host.came ++ Command.Err code data_bytes ∷ [] }; echoes = hear_err (record { code = code; bytes = data_bytes }) n.echoes; violated = n.violated || false } }
 {}
 
 /// A host that goes down with a connection open and an echo awaited keeps neither; its peer notices
@@ -118,14 +117,14 @@ pub fn hosts_are_watched_peers()
     ensures resets { ResetsAgree }
     ensures falls { FallsAgree }
     ensures hears { HearsAgree }
-    ensures messages { MessagesAgree }
+    ensures messages { HearingAgrees }
     ensures texts { TextsAgree }
     ensures cuts { CutsAgree }
     ensures sends { SendsAgree }
     ensures frees { FreesAgree }
     ensures settles { SettlesAgree }
     ensures steps { StepsAgree }
-    ensures others { OthersStay }
+    ensures others { OtherNodeStays }
 {}
 
 /// The histories of a host only watch: what a step adds to them is told by the step, by what the host

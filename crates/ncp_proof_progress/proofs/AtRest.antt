@@ -14,14 +14,14 @@ use Rattle.ncp_model.proofs.ResetLists.{bit, rsts, rrps}
 use Rattle.ncp_proof_watch.specs.Histories.{Watched}
 use Rattle.ncp_proof_watch.specs.Sound.{SoundAt}
 use Rattle.ncp_proof_connection.specs.Connections.{Text, No_text, Away, Here, Connection}
-use Rattle.ncp_proof_connection.specs.Ledger.{is_out}
+use Rattle.ncp_proof_connection.specs.Ledger.{is_text_out}
 use Rattle.ncp_proof_connection.proofs.Outliving.{Fit}
-use Rattle.ncp_proof_sharing.specs.Sharing.{Shared, at}
+use Rattle.ncp_proof_sharing.specs.Sharing.{Shared, connection_at}
 use Rattle.ncp_proof_sharing.specs.Finding.{link_out}
 use Rattle.ncp_proof_resets.specs.Delivery.{Link, idle}
-use Rattle.ncp_proof_resets.specs.Resets.{Host, is_up, on_line}
+use Rattle.ncp_proof_resets.specs.Resets.{ResetHost, is_up, on_line}
 use Rattle.ncp_proof_resets.proofs.ResetKept.{Kept}
-use Rattle.ncp_proof_machine.specs.Hosts.{TextOut, World, peer_of}
+use Rattle.ncp_proof_machine.specs.Hosts.{TextOut, TwoNodes, peer_of}
 use Rattle.ncp_proof_headline.proofs.Ties.{Owners, Carried, Owned, Texts}
 use Rattle.ncp_proof_headline.proofs.TiesBase.{all-fit}
 use Rattle.ncp_proof_headline.proofs.HostsJoined.{up_alive}
@@ -34,7 +34,7 @@ pub false_or : (b : Bool) → (b ≡ true → ⊥) → b ≡ false
 false_or true f = absurd (f refl)
 false_or false f = refl
 
-pub by_up : {A : Type 0} (h : Host) → (is_up h ≡ true → A) → (is_up h ≡ false → A) → A
+pub by_up : {A : Type 0} (h : ResetHost) → (is_up h ≡ true → A) → (is_up h ≡ false → A) → A
 by_up {A} h f g = go (is_up h) refl
   where
     go : (b : Bool) → is_up h ≡ b → A
@@ -47,7 +47,7 @@ clear-bit : (b : Bool) → bit b ≡ 0 → b ≡ false
 clear-bit true e = absurd (omega (arith, e))
 clear-bit false e = refl
 
-no-wait : (h k : Host) (u v : List Command) → Kept h k u v → u ++ h.phase.waiting ≡ [] → v ++ k.phase.waiting ≡ [] → k.phase.owe ≡ false → h.phase.wait ≡ false
+no-wait : (h k : ResetHost) (u v : List Command) → Kept h k u v → u ++ h.phase.waiting ≡ [] → v ++ k.phase.waiting ≡ [] → k.phase.owe ≡ false → h.phase.wait ≡ false
 no-wait h k u v p e f o =
     let a : rsts (u ++ h.phase.waiting) ≡ 0 = ap rsts e in
     let b : rrps (v ++ k.phase.waiting) ≡ 0 = ap rrps f in
@@ -55,7 +55,7 @@ no-wait h k u v p e f o =
     let d = p.there.count in
     clear-bit h.phase.wait (omega (arith, a, b, c, d))
 
-down-not-up : (h : Host) → h.phase.down ≡ true → is_up h ≡ false
+down-not-up : (h : ResetHost) → h.phase.down ≡ true → is_up h ≡ false
 down-not-up h e = grind arith
 
 -- where no data link has a text, no pair has one out
@@ -76,7 +76,7 @@ none-out own links f e x p = go (f p) (x.out p)
     go (Here on) k = absurd (cc (none on, k on refl))
 
 -- a sender whose host is alive is busy where its text is out
-sender-out : (pair : Pair) (b : Bool) (c : Connection) → Fit pair true b c → (or_new c.sender.end).busy ≡ is_out c.text
+sender-out : (pair : Pair) (b : Bool) (c : Connection) → Fit pair true b c → (or_new c.sender.end).busy ≡ is_text_out c.text
 sender-out pair true c k = k.core.out
 sender-out pair false c k = k.inv.core.out
 
@@ -109,7 +109,7 @@ none-there : (m : Ends) (pair : Pair) → m ≡ no_ends → get m pair ≡ None
 none-there m pair e = ap (λ (d : Ends). get d pair) e ∙ get-empty pair_cmp pair
 
 -- a host
-module _ (w : World) (t : Ever w) (i : IsIdle w.this) (j : IsIdle w.that) where
+module _ (w : TwoNodes) (t : Ever w) (i : IsIdle w.this) (j : IsIdle w.that) where
   pub none-going : x w ++ w.this.host.phase.waiting ≡ []
   none-going = ap (λ (k : Link (List Command)). on_line k.slot k.subnet ++ w.this.host.phase.waiting) i.control ∙ i.waiting
 
@@ -126,8 +126,8 @@ module _ (w : World) (t : Ever w) (i : IsIdle w.this) (j : IsIdle w.that) where
   not-busy pair s = by_up w.this.host
       (λ e.
       let g : Shared = t.holds.joined.ties.g in
-      let k : Fit pair true g.receives (at pair g) = subst (λ (b : Bool). Fit pair b g.receives (at pair g)) (sends-live e) (all-fit g t.holds.joined.ties.reached pair s) in
-      sym (ap (λ (o : Watched). (or_new o.end).busy) (t.holds.joined.ties.there.sender pair s)) ∙ (sender-out pair g.receives (at pair g) k ∙ ap is_out (no-text pair)))
+      let k : Fit pair true g.receives (connection_at pair g) = subst (λ (b : Bool). Fit pair b g.receives (connection_at pair g)) (sends-live e) (all-fit g t.holds.joined.ties.reached pair s) in
+      sym (ap (λ (o : Watched). (or_new o.end).busy) (t.holds.joined.ties.there.sender pair s)) ∙ (sender-out pair g.receives (connection_at pair g) k ∙ ap is_text_out (no-text pair)))
       (λ e. ap (λ (o : Option End). (or_new o).busy) (none-there w.this.ends pair (t.holds.joined.this.none e)))
 
   pub at-rest : Shut (peer_of w.this) → ((pair : Pair) → LeavingAt pair (get w.this.ends pair)) → IsAtRest w.this

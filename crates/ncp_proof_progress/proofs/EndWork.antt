@@ -6,12 +6,11 @@ use Rattle.ncp_model.specs.declared.pair.Pair.{Pair}
 use Rattle.ncp_model.specs.End.{End}
 use Rattle.ncp_model.specs.Texts.{Rfnm, Incomplete, Dead}
 use Rattle.ncp_model.specs.Happenings.{Happening, happens}
-use Rattle.ncp_model.specs.Happenings as all
-use Rattle.ncp_proof_progress.specs.Work.{queue_work, end_work_at, happened_work, adds, takes_away}
+use Rattle.ncp_proof_progress.specs.Work.{queue_work, end_work_at, happened_work, work_added, takes_away}
 
 -- what is claimed of a happening
 abbrev pub Paid : Pair → Happening → Option End → Type 0
-Paid pair what before = happened_work pair (happens pair what before) + takes_away (happens pair what before).outcome ≤ end_work_at pair before + adds pair what before
+Paid pair what before = happened_work pair (happens pair what before) + takes_away (happens pair what before).outcome ≤ end_work_at pair before + work_added pair what before
 
 -- a text that goes out takes a byte at least
 cut-takes : (s : List Bool) (size n : ℕ) → 1 ≤ n → n ≤ length s / size → 2 * (length (drop (n * size) s) / size) + 2 ≤ 2 * (length s / size)
@@ -47,15 +46,15 @@ bytes-add a b (suc size) whole =
     let same : (a + b) / suc size ≡ a / suc size + b / suc size = ap (λ (i : ℕ). (a + i) / suc size) (sym times) ∙ sum in
     omega (arith, same)
 
-asks-to-send : (pair : Pair) (of_size : ℕ) (with_room : ℕ) (own : ℕ) (full : Bool) (e : End) → Paid pair (all.Asks_to_send of_size with_room own full) (Some e)
+asks-to-send : (pair : Pair) (of_size : ℕ) (with_room : ℕ) (own : ℕ) (full : Bool) (e : End) → Paid pair (Happening.Asks_to_send of_size with_room own full) (Some e)
 unfolding queue_work
 asks-to-send pair of_size with_room own full e = grind (arith, zero-div)
 
-asks-to-receive : (pair : Pair) (with_room : ℕ) (on : ℕ) (own : ℕ) (full : Bool) (e : End) → Paid pair (all.Asks_to_receive with_room on own full) (Some e)
+asks-to-receive : (pair : Pair) (with_room : ℕ) (on : ℕ) (own : ℕ) (full : Bool) (e : End) → Paid pair (Happening.Asks_to_receive with_room on own full) (Some e)
 unfolding queue_work
 asks-to-receive pair with_room on own full e = go e.asked e.left e.leaving refl refl refl
   where
-    go : (a l g : Bool) → e.asked ≡ a → e.left ≡ l → e.leaving ≡ g → Paid pair (all.Asks_to_receive with_room on own full) (Some e)
+    go : (a l g : Bool) → e.asked ≡ a → e.left ≡ l → e.leaving ≡ g → Paid pair (Happening.Asks_to_receive with_room on own full) (Some e)
     go true true true p q r = grind (arith, zero-div)
     go true true false p q r = grind (arith, zero-div)
     go true false true p q r = grind (arith, zero-div)
@@ -65,136 +64,136 @@ asks-to-receive pair with_room on own full e = go e.asked e.left e.leaving refl 
     go false false true p q r = grind (arith, zero-div)
     go false false false p q r = grind (arith, zero-div)
 
-closes : (pair : Pair) (full : Bool) (e : End) → Paid pair (all.Closes full) (Some e)
+closes : (pair : Pair) (full : Bool) (e : End) → Paid pair (Happening.Closes full) (Some e)
 unfolding queue_work
 closes pair full e = grind (arith, zero-div)
 
-gives : (pair : Pair) (text : List Bool) (e : End) → Paid pair (all.Gives text) (Some e)
+gives : (pair : Pair) (text : List Bool) (e : End) → Paid pair (Happening.Gives text) (Some e)
 unfolding queue_work
 gives pair text e = go (length text % e.size == 0) refl
   where
-    go : (b : Bool) → (length text % e.size == 0) ≡ b → Paid pair (all.Gives text) (Some e)
+    go : (b : Bool) → (length text % e.size == 0) ≡ b → Paid pair (Happening.Gives text) (Some e)
     go false q = grind (arith, zero-div)
     go true q =
         let w : length text % e.size ≡ 0 = eqb-true (length text % e.size) 0 q in
         let h : (length e.stored + length text) / e.size ≤ length e.stored / e.size + length text / e.size = bytes-add (length e.stored) (length text) e.size w in
         grind (arith, length-append, h)
 
-takes : (pair : Pair) (bytes : ℕ) (e : End) → Paid pair (all.Takes bytes) (Some e)
+takes : (pair : Pair) (bytes : ℕ) (e : End) → Paid pair (Happening.Takes bytes) (Some e)
 unfolding queue_work
 takes pair bytes e = grind (arith, zero-div, length-drop)
 
-allocates : (pair : Pair) (m : ℕ) (b : ℕ) (full : Bool) (e : End) → Paid pair (all.Allocates m b full) (Some e)
+allocates : (pair : Pair) (m : ℕ) (b : ℕ) (full : Bool) (e : End) → Paid pair (Happening.Allocates m b full) (Some e)
 unfolding queue_work
 allocates pair m b full e = grind (arith, zero-div)
 
-calls-back : (pair : Pair) (m : ℕ) (b : ℕ) (full : Bool) (e : End) → Paid pair (all.Calls_back m b full) (Some e)
+calls-back : (pair : Pair) (m : ℕ) (b : ℕ) (full : Bool) (e : End) → Paid pair (Happening.Calls_back m b full) (Some e)
 unfolding queue_work
 calls-back pair m b full e = grind (arith, zero-div)
 
-interrupts : (pair : Pair) (full : Bool) (e : End) → Paid pair (all.Interrupts full) (Some e)
+interrupts : (pair : Pair) (full : Bool) (e : End) → Paid pair (Happening.Interrupts full) (Some e)
 unfolding queue_work
 interrupts pair full e = grind (arith, zero-div)
 
-rts-comes : (pair : Pair) (on : ℕ) (taken : Bool) (by_peer : ℕ) (e : End) → Paid pair (all.Rts_comes on taken by_peer) (Some e)
+rts-comes : (pair : Pair) (on : ℕ) (taken : Bool) (by_peer : ℕ) (e : End) → Paid pair (Happening.Rts_comes on taken by_peer) (Some e)
 unfolding queue_work
 rts-comes pair on taken by_peer e = grind (arith, zero-div)
 
-str-comes : (pair : Pair) (of_size : ℕ) (by_peer : ℕ) (e : End) → Paid pair (all.Str_comes of_size by_peer) (Some e)
+str-comes : (pair : Pair) (of_size : ℕ) (by_peer : ℕ) (e : End) → Paid pair (Happening.Str_comes of_size by_peer) (Some e)
 unfolding queue_work
 str-comes pair of_size by_peer e = grind (arith, zero-div)
 
-cls-comes : (pair : Pair) (e : End) → Paid pair all.Cls_comes (Some e)
+cls-comes : (pair : Pair) (e : End) → Paid pair Happening.Cls_comes (Some e)
 unfolding queue_work
 cls-comes pair e = grind (arith, zero-div)
 
-all-comes : (pair : Pair) (on : ℕ) (m : ℕ) (b : ℕ) (e : End) → Paid pair (all.All_comes on m b) (Some e)
+all-comes : (pair : Pair) (on : ℕ) (m : ℕ) (b : ℕ) (e : End) → Paid pair (Happening.All_comes on m b) (Some e)
 unfolding queue_work
 all-comes pair on m b e = grind (arith, zero-div)
 
-gvb-comes : (pair : Pair) (on : ℕ) (m : ℕ) (b : ℕ) (e : End) → Paid pair (all.Gvb_comes on m b) (Some e)
+gvb-comes : (pair : Pair) (on : ℕ) (m : ℕ) (b : ℕ) (e : End) → Paid pair (Happening.Gvb_comes on m b) (Some e)
 unfolding queue_work
 gvb-comes pair on m b e = grind (arith, zero-div)
 
-ret-comes : (pair : Pair) (on : ℕ) (m : ℕ) (b : ℕ) (e : End) → Paid pair (all.Ret_comes on m b) (Some e)
+ret-comes : (pair : Pair) (on : ℕ) (m : ℕ) (b : ℕ) (e : End) → Paid pair (Happening.Ret_comes on m b) (Some e)
 unfolding queue_work
 ret-comes pair on m b e = grind (arith, zero-div)
 
-inr-comes : (pair : Pair) (on : ℕ) (e : End) → Paid pair (all.Inr_comes on) (Some e)
+inr-comes : (pair : Pair) (on : ℕ) (e : End) → Paid pair (Happening.Inr_comes on) (Some e)
 unfolding queue_work
 inr-comes pair on e = grind (arith, zero-div)
 
-ins-comes : (pair : Pair) (on : ℕ) (e : End) → Paid pair (all.Ins_comes on) (Some e)
+ins-comes : (pair : Pair) (on : ℕ) (e : End) → Paid pair (Happening.Ins_comes on) (Some e)
 unfolding queue_work
 ins-comes pair on e = grind (arith, zero-div)
 
-text-comes : (pair : Pair) (head : List Bool) (of_size : ℕ) (text : List Bool) (e : End) → Paid pair (all.Text_comes head of_size text) (Some e)
+text-comes : (pair : Pair) (head : List Bool) (of_size : ℕ) (text : List Bool) (e : End) → Paid pair (Happening.Text_comes head of_size text) (Some e)
 unfolding queue_work
 text-comes pair head of_size text e = grind (arith, zero-div, length-append, bits-add)
 
-text-goes-out : (pair : Pair) (e : End) → Paid pair all.Text_goes_out (Some e)
+text-goes-out : (pair : Pair) (e : End) → Paid pair Happening.Text_goes_out (Some e)
 unfolding queue_work
 text-goes-out pair e = grind (arith, zero-div, cut-takes)
 
-is-answered-rfnm : (pair : Pair) (e : End) → Paid pair (all.Is_answered Rfnm) (Some e)
+is-answered-rfnm : (pair : Pair) (e : End) → Paid pair (Happening.Is_answered Rfnm) (Some e)
 unfolding queue_work
 is-answered-rfnm pair e = grind (arith, zero-div)
 
-is-answered-incomplete : (pair : Pair) (e : End) → Paid pair (all.Is_answered Incomplete) (Some e)
+is-answered-incomplete : (pair : Pair) (e : End) → Paid pair (Happening.Is_answered Incomplete) (Some e)
 unfolding queue_work
 is-answered-incomplete pair e = grind (arith, zero-div)
 
-is-answered-dead : (pair : Pair) (e : End) → Paid pair (all.Is_answered Dead) (Some e)
+is-answered-dead : (pair : Pair) (e : End) → Paid pair (Happening.Is_answered Dead) (Some e)
 unfolding queue_work
 is-answered-dead pair e = grind (arith, zero-div)
 
-is-cleared : (pair : Pair) (e : End) → Paid pair all.Is_cleared (Some e)
+is-cleared : (pair : Pair) (e : End) → Paid pair Happening.Is_cleared (Some e)
 unfolding queue_work
 is-cleared pair e = grind (arith, zero-div)
 
 pub paid : (pair : Pair) (what : Happening) (before : Option End) → Paid pair what before
 unfolding queue_work
-paid pair (all.Asks_to_send of_size with_room own full) None = grind (arith, zero-div)
-paid pair (all.Asks_to_send of_size with_room own full) (Some e) = asks-to-send pair of_size with_room own full e
-paid pair (all.Asks_to_receive with_room on own full) None = grind (arith, zero-div)
-paid pair (all.Asks_to_receive with_room on own full) (Some e) = asks-to-receive pair with_room on own full e
-paid pair (all.Closes full) None = grind (arith, zero-div)
-paid pair (all.Closes full) (Some e) = closes pair full e
-paid pair (all.Gives text) None = grind (arith, zero-div)
-paid pair (all.Gives text) (Some e) = gives pair text e
-paid pair (all.Takes bytes) None = grind (arith, zero-div)
-paid pair (all.Takes bytes) (Some e) = takes pair bytes e
-paid pair (all.Allocates m b full) None = grind (arith, zero-div)
-paid pair (all.Allocates m b full) (Some e) = allocates pair m b full e
-paid pair (all.Calls_back m b full) None = grind (arith, zero-div)
-paid pair (all.Calls_back m b full) (Some e) = calls-back pair m b full e
-paid pair (all.Interrupts full) None = grind (arith, zero-div)
-paid pair (all.Interrupts full) (Some e) = interrupts pair full e
-paid pair (all.Rts_comes on taken by_peer) None = grind (arith, zero-div)
-paid pair (all.Rts_comes on taken by_peer) (Some e) = rts-comes pair on taken by_peer e
-paid pair (all.Str_comes of_size by_peer) None = grind (arith, zero-div)
-paid pair (all.Str_comes of_size by_peer) (Some e) = str-comes pair of_size by_peer e
-paid pair all.Cls_comes None = grind (arith, zero-div)
-paid pair all.Cls_comes (Some e) = cls-comes pair e
-paid pair (all.All_comes on m b) None = grind (arith, zero-div)
-paid pair (all.All_comes on m b) (Some e) = all-comes pair on m b e
-paid pair (all.Gvb_comes on m b) None = grind (arith, zero-div)
-paid pair (all.Gvb_comes on m b) (Some e) = gvb-comes pair on m b e
-paid pair (all.Ret_comes on m b) None = grind (arith, zero-div)
-paid pair (all.Ret_comes on m b) (Some e) = ret-comes pair on m b e
-paid pair (all.Inr_comes on) None = grind (arith, zero-div)
-paid pair (all.Inr_comes on) (Some e) = inr-comes pair on e
-paid pair (all.Ins_comes on) None = grind (arith, zero-div)
-paid pair (all.Ins_comes on) (Some e) = ins-comes pair on e
-paid pair (all.Text_comes head of_size text) None = grind (arith, zero-div)
-paid pair (all.Text_comes head of_size text) (Some e) = text-comes pair head of_size text e
-paid pair all.Text_goes_out None = grind (arith, zero-div)
-paid pair all.Text_goes_out (Some e) = text-goes-out pair e
-paid pair (all.Is_answered Rfnm) None = grind (arith, zero-div)
-paid pair (all.Is_answered Rfnm) (Some e) = is-answered-rfnm pair e
-paid pair (all.Is_answered Incomplete) None = grind (arith, zero-div)
-paid pair (all.Is_answered Incomplete) (Some e) = is-answered-incomplete pair e
-paid pair (all.Is_answered Dead) None = grind (arith, zero-div)
-paid pair (all.Is_answered Dead) (Some e) = is-answered-dead pair e
-paid pair all.Is_cleared None = grind (arith, zero-div)
-paid pair all.Is_cleared (Some e) = is-cleared pair e
+paid pair (Happening.Asks_to_send of_size with_room own full) None = grind (arith, zero-div)
+paid pair (Happening.Asks_to_send of_size with_room own full) (Some e) = asks-to-send pair of_size with_room own full e
+paid pair (Happening.Asks_to_receive with_room on own full) None = grind (arith, zero-div)
+paid pair (Happening.Asks_to_receive with_room on own full) (Some e) = asks-to-receive pair with_room on own full e
+paid pair (Happening.Closes full) None = grind (arith, zero-div)
+paid pair (Happening.Closes full) (Some e) = closes pair full e
+paid pair (Happening.Gives text) None = grind (arith, zero-div)
+paid pair (Happening.Gives text) (Some e) = gives pair text e
+paid pair (Happening.Takes bytes) None = grind (arith, zero-div)
+paid pair (Happening.Takes bytes) (Some e) = takes pair bytes e
+paid pair (Happening.Allocates m b full) None = grind (arith, zero-div)
+paid pair (Happening.Allocates m b full) (Some e) = allocates pair m b full e
+paid pair (Happening.Calls_back m b full) None = grind (arith, zero-div)
+paid pair (Happening.Calls_back m b full) (Some e) = calls-back pair m b full e
+paid pair (Happening.Interrupts full) None = grind (arith, zero-div)
+paid pair (Happening.Interrupts full) (Some e) = interrupts pair full e
+paid pair (Happening.Rts_comes on taken by_peer) None = grind (arith, zero-div)
+paid pair (Happening.Rts_comes on taken by_peer) (Some e) = rts-comes pair on taken by_peer e
+paid pair (Happening.Str_comes of_size by_peer) None = grind (arith, zero-div)
+paid pair (Happening.Str_comes of_size by_peer) (Some e) = str-comes pair of_size by_peer e
+paid pair Happening.Cls_comes None = grind (arith, zero-div)
+paid pair Happening.Cls_comes (Some e) = cls-comes pair e
+paid pair (Happening.All_comes on m b) None = grind (arith, zero-div)
+paid pair (Happening.All_comes on m b) (Some e) = all-comes pair on m b e
+paid pair (Happening.Gvb_comes on m b) None = grind (arith, zero-div)
+paid pair (Happening.Gvb_comes on m b) (Some e) = gvb-comes pair on m b e
+paid pair (Happening.Ret_comes on m b) None = grind (arith, zero-div)
+paid pair (Happening.Ret_comes on m b) (Some e) = ret-comes pair on m b e
+paid pair (Happening.Inr_comes on) None = grind (arith, zero-div)
+paid pair (Happening.Inr_comes on) (Some e) = inr-comes pair on e
+paid pair (Happening.Ins_comes on) None = grind (arith, zero-div)
+paid pair (Happening.Ins_comes on) (Some e) = ins-comes pair on e
+paid pair (Happening.Text_comes head of_size text) None = grind (arith, zero-div)
+paid pair (Happening.Text_comes head of_size text) (Some e) = text-comes pair head of_size text e
+paid pair Happening.Text_goes_out None = grind (arith, zero-div)
+paid pair Happening.Text_goes_out (Some e) = text-goes-out pair e
+paid pair (Happening.Is_answered Rfnm) None = grind (arith, zero-div)
+paid pair (Happening.Is_answered Rfnm) (Some e) = is-answered-rfnm pair e
+paid pair (Happening.Is_answered Incomplete) None = grind (arith, zero-div)
+paid pair (Happening.Is_answered Incomplete) (Some e) = is-answered-incomplete pair e
+paid pair (Happening.Is_answered Dead) None = grind (arith, zero-div)
+paid pair (Happening.Is_answered Dead) (Some e) = is-answered-dead pair e
+paid pair Happening.Is_cleared None = grind (arith, zero-div)
+paid pair Happening.Is_cleared (Some e) = is-cleared pair e

@@ -8,7 +8,7 @@ use Rattle.std.specs.List.{sum_by}
 use Rattle.std.specs.Ordering.{is_eq, eq_by_cmp}
 use Rattle.std.specs.FinMap.{entries, entries_sorted, get, get-entries, get-remove, insert, entries-insert, remove, empty, len-empty, len-entries}
 use Rattle.std.specs.FinMap.Entries.{by_order, find, where_key, is_sorted, find-where_key, is_sorted-where_key, same_entries, length-put, length_without}
-use Rattle.std.specs.FinMap.Entries as listed
+use Rattle.std.specs.FinMap.Entries
 use Rattle.std.proofs.lemmas.Cmp.{eq_by_cmp_equiv}
 use Rattle.std.proofs.lemmas.List.Sums.{sum_by-cons}
 use Rattle.std.proofs.lemmas.Map.Views.{tells_apart}
@@ -34,19 +34,19 @@ nothing-there n pair (Some e) h = absurd (omega (arith, h))
 
 -- in a list in order
 
-sum-put : (es : Listed) (k : Pair) (e : End) → T (is_sorted pair_cmp es) → sum_by entry_work (listed.put pair_cmp k e es) + end_work_at k (find pair_cmp k es) ≡ sum_by entry_work es + end_work k e
+sum-put : (es : Listed) (k : Pair) (e : End) → T (is_sorted pair_cmp es) → sum_by entry_work (Entries.put pair_cmp k e es) + end_work_at k (find pair_cmp k es) ≡ sum_by entry_work es + end_work k e
 sum-put [] k e h = let c : sum_by entry_work ((k, e) ∷ []) ≡ end_work k e + sum_by entry_work [] = sum_by-cons entry_work (k, e) [] in omega (arith, c)
 sum-put (x ∷ es) k e h = go (pair_cmp k x.0) refl (length-put pair_cmp pairs_total k e (x ∷ es) h) (sum-put es k e (second _ _ h))
   where
     go : (r : Ordering) → pair_cmp k x.0 ≡ r
-        → length (by_order r ((k, e) ∷ x ∷ es) ((x.0, e) ∷ es) (x ∷ listed.put pair_cmp k e es)) ≡ cond (is_some (cond (is_eq r) (Some x.1) (find pair_cmp k es))) (suc (length es)) (suc (length es) + 1)
-        → sum_by entry_work (listed.put pair_cmp k e es) + end_work_at k (find pair_cmp k es) ≡ sum_by entry_work es + end_work k e
-        → sum_by entry_work (by_order r ((k, e) ∷ x ∷ es) ((x.0, e) ∷ es) (x ∷ listed.put pair_cmp k e es)) + end_work_at k (cond (is_eq r) (Some x.1) (find pair_cmp k es)) ≡ sum_by entry_work (x ∷ es) + end_work k e
+        → length (by_order r ((k, e) ∷ x ∷ es) ((x.0, e) ∷ es) (x ∷ Entries.put pair_cmp k e es)) ≡ cond (is_some (cond (is_eq r) (Some x.1) (find pair_cmp k es))) (suc (length es)) (suc (length es) + 1)
+        → sum_by entry_work (Entries.put pair_cmp k e es) + end_work_at k (find pair_cmp k es) ≡ sum_by entry_work es + end_work k e
+        → sum_by entry_work (by_order r ((k, e) ∷ x ∷ es) ((x.0, e) ∷ es) (x ∷ Entries.put pair_cmp k e es)) + end_work_at k (cond (is_eq r) (Some x.1) (find pair_cmp k es)) ≡ sum_by entry_work (x ∷ es) + end_work k e
     go Less p l rest = let z : end_work_at k (find pair_cmp k es) ≡ 0 = nothing-there (length es) k (find pair_cmp k es) l in rw (sum_by-cons entry_work (k, e) (x ∷ es), z) (omega arith)
     go Equal p l rest =
         let same : k ≡ x.0 = pairs_exact k x.0 p in
         rw (sum_by-cons entry_work (x.0, e) es, sum_by-cons entry_work x es, same) (omega arith)
-    go Greater p l rest = rw (sum_by-cons entry_work x (listed.put pair_cmp k e es), sum_by-cons entry_work x es) (omega (arith, rest))
+    go Greater p l rest = rw (sum_by-cons entry_work x (Entries.put pair_cmp k e es), sum_by-cons entry_work x es) (omega (arith, rest))
 
 abbrev without : Pair → Listed → Listed
 without pair es = where_key pair_cmp (λ x. not (eq_by_cmp pair_cmp pair x)) es

@@ -1,10 +1,10 @@
 -- One message on its link: how its work changes with what happens on the link.
 use Rattle.std.proofs.Common.{◌≡◌, ℕ, zero, suc, ◌+◌, ◌*◌, ◌==◌, ◌≤◌, ◌<◌, Bool, true, false, cond, Option, Some, None, refl, ap, ◌∙◌, arith}
-use Rattle.ncp_slot.specs.Slot as slots
-use Rattle.ncp_proof_resets.specs.Delivery.{Slot, Empty, Ready, Travelling, Held, Subnet, Free, Accepted, Delivered, Lost, Dead, Link, undelivered}
+use Rattle.ncp_slot.specs.Slot.{ready_message, woken}
+use Rattle.ncp_proof_resets.specs.Delivery.{Slot, Empty, Ready, Travelling, Held, MessageTransit, Free, Accepted, Delivered, Lost, Dead, Link, undelivered}
 use Rattle.ncp_proof_machine.specs.Hosts.{TextOut}
-use Rattle.ncp_proof_machine.specs.Moving.{sent, put_if_any, answered_by, delivered}
-use Rattle.ncp_proof_progress.specs.HostsWork.{message_work, text_work, texts_work, Fits, held_texts, one_if_held, one_if_any, one_if_accepted, one_if_told}
+use Rattle.ncp_proof_machine.specs.Moving.{link_sent, put_if_any, answered_by, transit_delivered}
+use Rattle.ncp_proof_progress.specs.HostsWork.{message_work, text_work, texts_work, SlotFits, held_texts, one_if_held, one_if_any, one_if_accepted, one_if_told}
 
 -- what is put in
 abbrev pub put_work : {M : Type 0} → (M → ℕ) → Option M → Slot M → ℕ
@@ -12,14 +12,14 @@ put_work r (Some m) Empty = 3 + 3 * r m
 put_work r m slot = 0
 
 -- what is delivered
-abbrev pub come_work : {M : Type 0} → (M → ℕ) → Subnet M → ℕ
+abbrev pub come_work : {M : Type 0} → (M → ℕ) → MessageTransit M → ℕ
 come_work r (Accepted m) = 3 * r m
 come_work r s = 0
 
 abbrev pub link_work : {M : Type 0} → (M → ℕ) → Link M → ℕ
 link_work r k = message_work r k.slot k.subnet
 
-pub sent-link : {M : Type 0} (r : M → ℕ) (m : Option M) (slot : Slot M) (s : Subnet M) → link_work r (sent m slot s) + one_if_any (slots.ready_message (put_if_any m slot)) ≤ message_work r slot s + put_work r m slot
+pub sent-link : {M : Type 0} (r : M → ℕ) (m : Option M) (slot : Slot M) (s : MessageTransit M) → link_work r (link_sent m slot s) + one_if_any (ready_message (put_if_any m slot)) ≤ message_work r slot s + put_work r m slot
 sent-link r None Empty s = omega arith
 sent-link r (Some m) Empty s = omega arith
 sent-link r None (Ready k) s = omega arith
@@ -29,7 +29,7 @@ sent-link r (Some m) (Travelling k) s = omega arith
 sent-link r None (Held k) s = omega arith
 sent-link r (Some m) (Held k) s = omega arith
 
-pub come-link : {M : Type 0} (r : M → ℕ) (slot : Slot M) (s : Subnet M) → Fits slot s → message_work r slot (delivered s) + one_if_accepted s + come_work r s ≤ message_work r slot s
+pub come-link : {M : Type 0} (r : M → ℕ) (slot : Slot M) (s : MessageTransit M) → SlotFits slot s → message_work r slot (transit_delivered s) + one_if_accepted s + come_work r s ≤ message_work r slot s
 come-link r Empty Free f = omega arith
 come-link r (Ready k) Free f = omega arith
 come-link r (Held k) Free f = omega arith
@@ -40,7 +40,7 @@ come-link r (Travelling k) Lost f = omega arith
 come-link r (Travelling k) Dead f = omega arith
 come-link r slot s f = absurd f
 
-pub lost-link : {M : Type 0} (r : M → ℕ) (slot : Slot M) (s : Subnet M) → Fits slot s → message_work r slot (undelivered Lost s) + one_if_accepted s ≤ message_work r slot s + 3 * one_if_accepted s
+pub lost-link : {M : Type 0} (r : M → ℕ) (slot : Slot M) (s : MessageTransit M) → SlotFits slot s → message_work r slot (undelivered Lost s) + one_if_accepted s ≤ message_work r slot s + 3 * one_if_accepted s
 lost-link r Empty Free f = omega arith
 lost-link r (Ready k) Free f = omega arith
 lost-link r (Held k) Free f = omega arith
@@ -51,7 +51,7 @@ lost-link r (Travelling k) Lost f = omega arith
 lost-link r (Travelling k) Dead f = omega arith
 lost-link r slot s f = absurd f
 
-pub dead-link : {M : Type 0} (r : M → ℕ) (slot : Slot M) (s : Subnet M) → Fits slot s → message_work r slot (undelivered Dead s) + one_if_accepted s ≤ message_work r slot s + 4 * one_if_accepted s
+pub dead-link : {M : Type 0} (r : M → ℕ) (slot : Slot M) (s : MessageTransit M) → SlotFits slot s → message_work r slot (undelivered Dead s) + one_if_accepted s ≤ message_work r slot s + 4 * one_if_accepted s
 dead-link r Empty Free f = omega arith
 dead-link r (Ready k) Free f = omega arith
 dead-link r (Held k) Free f = omega arith
@@ -62,7 +62,7 @@ dead-link r (Travelling k) Lost f = omega arith
 dead-link r (Travelling k) Dead f = omega arith
 dead-link r slot s f = absurd f
 
-pub told-link : {M : Type 0} (r : M → ℕ) (slot : Slot M) (s : Subnet M) → Fits slot s → link_work r (answered_by slot s) + one_if_told slot s ≤ message_work r slot s
+pub told-link : {M : Type 0} (r : M → ℕ) (slot : Slot M) (s : MessageTransit M) → SlotFits slot s → link_work r (answered_by slot s) + one_if_told slot s ≤ message_work r slot s
 told-link r Empty Free f = omega arith
 told-link r (Ready k) Free f = omega arith
 told-link r (Held k) Free f = omega arith
@@ -73,7 +73,7 @@ told-link r (Travelling k) Lost f = omega arith
 told-link r (Travelling k) Dead f = omega arith
 told-link r slot s f = absurd f
 
-pub woken-link : {M : Type 0} (r : M → ℕ) (slot : Slot M) (s : Subnet M) → message_work r (slots.woken slot) s + one_if_held slot ≤ message_work r slot s
+pub woken-link : {M : Type 0} (r : M → ℕ) (slot : Slot M) (s : MessageTransit M) → message_work r (woken slot) s + one_if_held slot ≤ message_work r slot s
 woken-link r Empty s = omega arith
 woken-link r (Ready k) s = omega arith
 woken-link r (Held k) s = omega arith
@@ -117,7 +117,7 @@ texts-none-gains f g h zero from = omega arith
 texts-none-gains f g h (suc many) from = let i = texts-none-gains f g h many (suc from) in let e = h from in omega (arith, i, e)
 
 -- all are woken
-pub texts-woken : (f g : ℕ → Link TextOut) → ((k : ℕ) → g k ≡ record { slot = slots.woken (f k).slot; subnet = (f k).subnet }) → (many from : ℕ) → texts_work g many from + held_texts f many from ≤ texts_work f many from
+pub texts-woken : (f g : ℕ → Link TextOut) → ((k : ℕ) → g k ≡ record { slot = woken (f k).slot; subnet = (f k).subnet }) → (many from : ℕ) → texts_work g many from + held_texts f many from ≤ texts_work f many from
 unfolding texts_work held_texts
 texts-woken f g h zero from = omega arith
 texts-woken f g h (suc many) from =
@@ -127,7 +127,7 @@ texts-woken f g h (suc many) from =
 
 -- slot and subnet go on to fit
 
-pub sent-fits : {M : Type 0} (m : Option M) (slot : Slot M) (s : Subnet M) → Fits slot s → Fits (sent m slot s).slot (sent m slot s).subnet
+pub sent-fits : {M : Type 0} (m : Option M) (slot : Slot M) (s : MessageTransit M) → SlotFits slot s → SlotFits (link_sent m slot s).slot (link_sent m slot s).subnet
 sent-fits None Empty s f = f
 sent-fits (Some m) Empty s f = refl
 sent-fits None (Ready k) s f = refl
@@ -137,7 +137,7 @@ sent-fits (Some m) (Travelling k) s f = f
 sent-fits None (Held k) s f = f
 sent-fits (Some m) (Held k) s f = f
 
-pub come-fits : {M : Type 0} (slot : Slot M) (s : Subnet M) → Fits slot s → Fits slot (delivered s)
+pub come-fits : {M : Type 0} (slot : Slot M) (s : MessageTransit M) → SlotFits slot s → SlotFits slot (transit_delivered s)
 come-fits (Travelling k) (Accepted m) f = tt
 come-fits (Travelling k) Delivered f = f
 come-fits (Travelling k) Lost f = f
@@ -145,7 +145,7 @@ come-fits (Travelling k) Dead f = f
 come-fits slot Free f = f
 come-fits slot s f = absurd f
 
-pub lost-fits : {M : Type 0} (slot : Slot M) (s : Subnet M) → Fits slot s → Fits slot (undelivered Lost s)
+pub lost-fits : {M : Type 0} (slot : Slot M) (s : MessageTransit M) → SlotFits slot s → SlotFits slot (undelivered Lost s)
 lost-fits (Travelling k) (Accepted m) f = tt
 lost-fits (Travelling k) Delivered f = f
 lost-fits (Travelling k) Lost f = f
@@ -153,7 +153,7 @@ lost-fits (Travelling k) Dead f = f
 lost-fits slot Free f = f
 lost-fits slot s f = absurd f
 
-pub dead-fits : {M : Type 0} (slot : Slot M) (s : Subnet M) → Fits slot s → Fits slot (undelivered Dead s)
+pub dead-fits : {M : Type 0} (slot : Slot M) (s : MessageTransit M) → SlotFits slot s → SlotFits slot (undelivered Dead s)
 dead-fits (Travelling k) (Accepted m) f = tt
 dead-fits (Travelling k) Delivered f = f
 dead-fits (Travelling k) Lost f = f
@@ -161,7 +161,7 @@ dead-fits (Travelling k) Dead f = f
 dead-fits slot Free f = f
 dead-fits slot s f = absurd f
 
-pub told-fits : {M : Type 0} (slot : Slot M) (s : Subnet M) → Fits slot s → Fits (answered_by slot s).slot (answered_by slot s).subnet
+pub told-fits : {M : Type 0} (slot : Slot M) (s : MessageTransit M) → SlotFits slot s → SlotFits (answered_by slot s).slot (answered_by slot s).subnet
 told-fits (Travelling k) (Accepted m) f = f
 told-fits (Travelling k) Delivered f = tt
 told-fits (Travelling k) Lost f = tt
@@ -169,7 +169,7 @@ told-fits (Travelling k) Dead f = tt
 told-fits slot Free f = f
 told-fits slot s f = absurd f
 
-pub woken-fits : {M : Type 0} (slot : Slot M) (s : Subnet M) → Fits slot s → Fits (slots.woken slot) s
+pub woken-fits : {M : Type 0} (slot : Slot M) (s : MessageTransit M) → SlotFits slot s → SlotFits (woken slot) s
 woken-fits Empty s f = f
 woken-fits (Ready k) s f = f
 woken-fits (Travelling k) s f = f

@@ -12,8 +12,7 @@ use Rattle.ncp_model.specs.Ends.{Ends, hears_link, sender_on, pair_of, cut_in}
 use Rattle.ncp_model.specs.Act.{answer, is_data_link}
 use Rattle.ncp_model.specs.Texts.{may_send}
 use Rattle.ncp_model.specs.Leading.{passes}
-use Rattle.ncp_model.specs.Happenings.{Happened, Outcome, happens, of_cut}
-use Rattle.ncp_model.specs.Happenings as all
+use Rattle.ncp_model.specs.Happenings.{Happened, Outcome, happens, of_cut, Happening}
 use Rattle.ncp_model.proofs.ResetLists.{rrps}
 use Rattle.ncp_model.proofs.LinksLead.{cut-led}
 use Rattle.ncp_model.proofs.Lookups.{leads-there}
@@ -23,20 +22,20 @@ use Rattle.ncp_proof_connection.specs.Connections.{Text, No_text, Connection}
 use Rattle.ncp_proof_connection.proofs.Joint.{Place, Together, Sender_ahead, Receiver_ahead, Joint, Firm, live_got, unasked, unheard}
 use Rattle.ncp_proof_connection.proofs.Whole.{Inv, s_firm, r_firm}
 use Rattle.ncp_proof_connection.proofs.Outliving.{Fit}
-use Rattle.ncp_proof_sharing.specs.Sharing.{Shared, Tagged, only, at}
+use Rattle.ncp_proof_sharing.specs.Sharing.{Shared, Tagged, only, connection_at}
 use Rattle.ncp_proof_resets.specs.Resets.{is_up}
-use Rattle.ncp_proof_machine.specs.Hosts.{World, swap, Event, run, past_of}
+use Rattle.ncp_proof_machine.specs.Hosts.{TwoNodes, nodes_swapped, NodeEvent, run, past_of}
 use Rattle.ncp_proof_machine.proofs.EndsGood.{Good}
-use Rattle.ncp_proof_headline.specs.Tied.{watched}
+use Rattle.ncp_proof_headline.specs.Tied.{watched_at}
 use Rattle.ncp_proof_headline.proofs.Lives.{live, fronts}
 use Rattle.ncp_proof_headline.proofs.Ties.{commands_of, turn_all}
 use Rattle.ncp_proof_headline.proofs.TiesBase.{all-fit}
 use Rattle.ncp_proof_headline.proofs.HostsJoined.{lives, up_alive, up_waits}
 use Rattle.ncp_proof_headline.proofs.HostsHeld.{Ever, ever, ever-swapped, x, y}
-use Rattle.ncp_proof_progress.specs.Idle.{LeavingAt, IsSettled, IsIdle}
+use Rattle.ncp_proof_progress.specs.Idle.{LeavingAt, IsSettledInModel, IsIdle}
 use Rattle.ncp_proof_progress.proofs.LeavingEnds.{leaving-ever}
 use Rattle.ncp_proof_progress.proofs.Settled.{ever-idle}
-use Rattle.ncp_proof_progress.specs.Finished.{EndRestsAt, PairFinished, Nobody, Sender_asked, Receiver_asked, Both_open, Receiver_holds, PairIsFinished, IsFinished}
+use Rattle.ncp_proof_progress.specs.Finished.{EndRestsAt, PairFinished, Nobody, Sender_asked, Receiver_asked, Both_open, Receiver_holds, PairIsFinishedInModel, IsFinished}
 use Rattle.ncp_proof_progress.proofs.Echoes.{ever-shut}
 use Rattle.ncp_proof_progress.proofs.AtRest.{false_or, none-going, none-coming, no-text, sends-live, at-rest}
 
@@ -48,7 +47,7 @@ open-hears p e s o = grind arith
 heard-open : (e : End) → is_open e ≡ true → e.heard ≡ true
 heard-open e o = grind arith
 
-cut-accepted : (p : Pair) (e : End) → (happens p all.Text_goes_out (Some e)).outcome ≡ all.Accepted → may_send p e ≡ false
+cut-accepted : (p : Pair) (e : End) → (happens p Happening.Text_goes_out (Some e)).outcome ≡ Outcome.Accepted → may_send p e ≡ false
 cut-accepted p e h = go (may_send p e) refl
   where
     go : (b : Bool) → may_send p e ≡ b → may_send p e ≡ false
@@ -61,7 +60,7 @@ stays-waiting m p e g s f o n =
     let one : pair_of (sender_on e.link m) ≡ Some p = leads-there (hears_link e.link) m p there (λ q h. g.heard e.link q p h there) in
     let d : is_data_link e.link ≡ true = limit f in
     let l = cut-led m e.link p one in
-    cut-accepted p e (ap (λ (q : Option End). (happens p all.Text_goes_out q).outcome) (sym f) ∙ (ap (λ (h : Happened). h.outcome) l.1 ∙ ap of_cut (n e.link d)))
+    cut-accepted p e (ap (λ (q : Option End). (happens p Happening.Text_goes_out q).outcome) (sym f) ∙ (ap (λ (h : Happened). h.outcome) l.1 ∙ ap of_cut (n e.link d)))
   where
     limit : get m p ≡ Some e → is_data_link e.link ≡ true
     limit z = (subst (λ (q : Option End). InLimitsAt p q) z (g.limits p)).link s (heard-open e o)
@@ -183,7 +182,7 @@ none-tagged (c ∷ cs) e = absurd (cc e)
 turned-receives : (p : Pair) → sends p ≡ true → receives (turned p) ≡ true
 turned-receives p s = grind arith
 
-module _ (w : World) (t : Ever w) (i : IsIdle w.this) (j : IsIdle w.that) (u : is_up w.this.host ≡ true) (v : is_up w.that.host ≡ true) where
+module _ (w : TwoNodes) (t : Ever w) (i : IsIdle w.this) (j : IsIdle w.that) (u : is_up w.this.host ≡ true) (v : is_up w.that.host ≡ true) where
   abbrev g : Shared
   g = t.holds.joined.ties.g
 
@@ -207,34 +206,34 @@ module _ (w : World) (t : Ever w) (i : IsIdle w.this) (j : IsIdle w.that) (u : i
       let f = t.holds.joined.ties.coming (up_alive w.this.host (rrps (y w ++ w.that.host.phase.waiting)) u) in
       f.same ∙ ap turn_all (none-tagged t.holds.joined.ties.back.to_receivers (f.commands ∙ none-back))
 
-  pub pair-finished : ((pair : Pair) → EndRestsAt pair (get w.this.ends pair)) → ((pair : Pair) → LeavingAt pair (get w.that.ends pair)) → (p : Pair) → sends p ≡ true → PairIsFinished p w
+  pub pair-finished : ((pair : Pair) → EndRestsAt pair (get w.this.ends pair)) → ((pair : Pair) → LeavingAt pair (get w.that.ends pair)) → (p : Pair) → sends p ≡ true → PairIsFinishedInModel p w
   pair-finished l n p sp = finish p sp (turned-receives p sp) (get w.this.ends p) (get w.that.ends (turned p)) (past_of w.this.pasts p) (past_of w.that.pasts (turned p)) (g.violated p) inv (l p) (n (turned p))
       (λ e f o. stays-waiting w.this.ends p e t.stand.0.good sp f o i.sendable)
     where
-      fit : Fit p true true (at p g)
-      fit = subst (λ (b : Bool). Fit p true b (at p g)) receives-live (subst (λ (b : Bool). Fit p b g.receives (at p g)) (sends-live w t i j u) (all-fit g t.holds.joined.ties.reached p sp))
+      fit : Fit p true true (connection_at p g)
+      fit = subst (λ (b : Bool). Fit p true b (connection_at p g)) receives-live (subst (λ (b : Bool). Fit p b g.receives (connection_at p g)) (sends-live w t i j u) (all-fit g t.holds.joined.ties.reached p sp))
 
       inv : Inv p (between (get w.this.ends p) (past_of w.this.pasts p) (get w.that.ends (turned p)) (past_of w.that.pasts (turned p)) (g.violated p))
       inv =
-          subst (λ (s : Watched). Inv p (made p s (watched w.that (turned p)) [] [] No_text)) (t.holds.joined.ties.there.sender p sp)
+          subst (λ (s : Watched). Inv p (made p s (watched_at w.that (turned p)) [] [] No_text)) (t.holds.joined.ties.there.sender p sp)
           (subst (λ (r : Watched). Inv p (made p (g.sender p) r [] [] No_text)) (t.holds.joined.ties.there.receiver p sp)
           (subst (λ (m : Text). Inv p (made p (g.sender p) (g.receiver p) [] [] m)) (no-text w t i j p)
           (subst (λ (q : List Tagged). Inv p (made p (g.sender p) (g.receiver p) [] (only p q) (g.text p))) no-senders
           (subst (λ (k : List Tagged). Inv p (made p (g.sender p) (g.receiver p) (only p k) (only p g.to_senders) (g.text p))) no-receivers fit))))
 
-pub ever-finished : (es : List Event) → IsSettled (run es) → IsFinished (run es)
+pub ever-finished : (es : List NodeEvent) → IsSettledInModel (run es) → IsFinished (run es)
 ever-finished es s =
-    let w : World = run es in
+    let w : TwoNodes = run es in
     let t : Ever w = ever es in
-    let r : Ever (swap w) = ever-swapped w t in
+    let r : Ever (nodes_swapped w) = ever-swapped w t in
     let i = ever-idle es s in
     let this = at-rest w t i.0 i.1 (ever-shut es).0 (λ pair. (leaving-ever es pair).0) in
-    let that = at-rest (swap w) r i.1 i.0 (ever-shut es).1 (λ pair. (leaving-ever es pair).1) in
+    let that = at-rest (nodes_swapped w) r i.1 i.0 (ever-shut es).1 (λ pair. (leaving-ever es pair).1) in
     record {
       this = this;
       that = that;
       pairs = λ u v p sp. (
         pair-finished w t i.0 i.1 u v this.ends (λ pair. (leaving-ever es pair).1) p sp,
-        pair-finished (swap w) r i.1 i.0 v u that.ends (λ pair. (leaving-ever es pair).0) p sp,
+        pair-finished (nodes_swapped w) r i.1 i.0 v u that.ends (λ pair. (leaving-ever es pair).0) p sp,
       );
     }

@@ -4,7 +4,7 @@ use Rattle.std.specs.List.{filter, list_any}
 use Rattle.ncp_terms.specs.declared.command.Command.{Command}
 use Rattle.ncp_terms.specs.declared.command.Command.TheVariants.{Rst, Rrp}
 use Rattle.ncp_terms.specs.Spelling.{spelling}
-use Rattle.ncp_model.specs.Phase.{Phase, up, purge, answers, asks, settles, resets, wants_reset, owes_answer, hears_rst, goes_down, has_place, queued, makes, makes_all, is_reset, is_other, is_rrp, is_rst, is_resetting}
+use Rattle.ncp_model.specs.Phase.{Phase, up, purge, phase_answers, phase_asks, phase_settles, resets, wants_reset, owes_answer, hears_rst, goes_down, has_place, queued, phase_makes, makes_all, is_reset, is_other, is_rrp, is_rst, is_resetting}
 use Rattle.ncp_model.specs.Sending.{fitting}
 use Rattle.ncp_proof_progress.specs.Work.{causes, queue_work, phase_work}
 
@@ -45,7 +45,7 @@ queued-work : (c : Command) (q : Phase) → phase_work (queued c q) ≤ phase_wo
 unfolding queue_work
 queued-work c q = let h : queue_work (q.waiting ++ c ∷ []) ≡ queue_work q.waiting + (1 + causes c + 0) = queue-append q.waiting (c ∷ []) in omega (arith, h)
 
-makes-work : (c : Command) (q : Phase) → phase_work (makes c q) ≤ phase_work q + 1 + causes c
+makes-work : (c : Command) (q : Phase) → phase_work (phase_makes c q) ≤ phase_work q + 1 + causes c
 makes-work c q = go (up q && is_other c) (has_place q)
   where
     go : (a b : Bool) → phase_work (cond a (cond b (queued c q) (goes_down q)) q) ≤ phase_work q + 1 + causes c
@@ -56,9 +56,9 @@ makes-work c q = go (up q && is_other c) (has_place q)
 pub makes_all-work : (cs : List Command) (q : Phase) → phase_work (makes_all cs q) ≤ phase_work q + queue_work cs
 unfolding queue_work
 makes_all-work [] q = omega arith
-makes_all-work (c ∷ cs) q = let h = makes_all-work cs (makes c q) in let k = makes-work c q in omega (arith, h, k)
+makes_all-work (c ∷ cs) q = let h = makes_all-work cs (phase_makes c q) in let k = makes-work c q in omega (arith, h, k)
 
-answers-work : (q : Phase) → phase_work (answers q) ≤ phase_work q
+answers-work : (q : Phase) → phase_work (phase_answers q) ≤ phase_work q
 unfolding queue_work
 answers-work q = go q.owe (list_any is_rrp q.waiting) refl
   where
@@ -67,7 +67,7 @@ answers-work q = go q.owe (list_any is_rrp q.waiting) refl
     go true false h = rw (h, queue-append q.waiting (Rrp ∷ [])) (omega arith)
     go false b h = omega arith
 
-asks-work : (q : Phase) → phase_work (asks q) ≤ phase_work q
+asks-work : (q : Phase) → phase_work (phase_asks q) ≤ phase_work q
 unfolding queue_work
 asks-work q = go q.want (list_any is_rst q.waiting) refl
   where
@@ -76,14 +76,14 @@ asks-work q = go q.want (list_any is_rst q.waiting) refl
     go true false h = rw (h, queue-append q.waiting (Rst ∷ [])) (omega arith)
     go false b h = omega arith
 
-pub settles-work : (quiet : Bool) (q : Phase) → phase_work (settles quiet q) ≤ phase_work q
-settles-work true q = le_trans (asks-work (answers q)) (answers-work q)
+pub settles-work : (quiet : Bool) (q : Phase) → phase_work (phase_settles quiet q) ≤ phase_work q
+settles-work true q = le_trans (asks-work (phase_answers q)) (answers-work q)
 settles-work false q = omega arith
 
 pub resets-work : (quiet : Bool) (q : Phase) → phase_work (resets quiet q) ≤ phase_work q + 2
 resets-work quiet q = go (is_resetting q)
   where
-    go : (b : Bool) → phase_work (cond b q (settles quiet (wants_reset q))) ≤ phase_work q + 2
+    go : (b : Bool) → phase_work (cond b q (phase_settles quiet (wants_reset q))) ≤ phase_work q + 2
     go true = omega arith
     go false = let h = settles-work quiet (wants_reset q) in let k = queue-filter is_reset q.waiting in grind (arith, h, k)
 

@@ -8,19 +8,19 @@ use Rattle.ncp_slot.specs.Slot.{is_empty, ready_message}
 use Rattle.ncp_model.specs.declared.limits.TheConstants.{DATA_LINKS, FIRST_LINK}
 use Rattle.ncp_model.specs.Act.{answer, is_data_link}
 use Rattle.ncp_model.specs.Ends.{cut_in}
-use Rattle.ncp_proof_resets.specs.Resets.{Side, This, That}
-use Rattle.ncp_proof_resets.specs.Delivery.{Slot, Empty, Ready, Travelling, Held, Subnet, Free, Accepted, Delivered, Lost, Dead, Link, idle}
-use Rattle.ncp_proof_machine.specs.Hosts.{TextOut, World, swap, quiet, all_empty, Step, Calls_reset, Sends, Sends_text, Loses, Loses_text, Is_answered, Text_is_answered, Wakes, Event, at, run_from, run, start}
+use Rattle.ncp_proof_resets.specs.Resets.{Party, This, That}
+use Rattle.ncp_proof_resets.specs.Delivery.{Slot, Empty, Ready, Travelling, Held, MessageTransit, Free, Accepted, Delivered, Lost, Dead, Link, idle}
+use Rattle.ncp_proof_machine.specs.Hosts.{TextOut, TwoNodes, nodes_swapped, quiet, all_empty, NodeStep, Calls_reset, Sends, Sends_text, Loses, Loses_text, Is_answered, Text_is_answered, Wakes, NodeEvent, node_at, run_from, run, start}
 use Rattle.ncp_proof_machine.specs.HostRuns.{by, comes_up}
-use Rattle.ncp_proof_machine.specs.Moving.{put_if_any, first_of, as_text}
+use Rattle.ncp_proof_machine.specs.Moving.{put_if_any, first_waiting, as_text}
 use Rattle.ncp_proof_machine.proofs.Standing.{nothing_out}
-use Rattle.ncp_proof_progress.specs.HostsWork.{Fits, NodeFits, BothFit, OnLink, moved, moved_at, held_texts, one_if_any, one_if_accepted, one_if_told, one_if_held}
+use Rattle.ncp_proof_progress.specs.HostsWork.{SlotFits, NodeFits, BothFit, IsOnDataLink, moved, moved_at, held_texts, one_if_any, one_if_accepted, one_if_told, one_if_held}
 use Rattle.ncp_proof_progress.proofs.HostsWork.{at-fit, start-fits}
-use Rattle.ncp_proof_progress.specs.Idle.{ResetsWait, IsSettled, IsIdle}
+use Rattle.ncp_proof_progress.specs.Idle.{ResetsWait, IsSettledInModel, IsIdle}
 use Rattle.ncp_proof_progress.proofs.ResetsWait.{ever-wait}
 
 -- a link on which nothing can move has nothing, and nothing could be put in
-link-idle : {M : Type 0} (o : Option M) (slot : Slot M) (s : Subnet M) → Fits slot s → one_if_any (ready_message (put_if_any o slot)) ≡ 0 → one_if_accepted s ≡ 0 → one_if_told slot s ≡ 0 → one_if_held slot ≡ 0 → (slot ≡ Empty) × (s ≡ Free) × (o ≡ None)
+link-idle : {M : Type 0} (o : Option M) (slot : Slot M) (s : MessageTransit M) → SlotFits slot s → one_if_any (ready_message (put_if_any o slot)) ≡ 0 → one_if_accepted s ≡ 0 → one_if_told slot s ≡ 0 → one_if_held slot ≡ 0 → (slot ≡ Empty) × (s ≡ Free) × (o ≡ None)
 link-idle None Empty Free f a b c d = (refl, refl, refl)
 link-idle (Some m) Empty Free f a b c d = absurd (omega (arith, a))
 link-idle None (Ready k) Free f a b c d = absurd (omega (arith, a))
@@ -34,9 +34,9 @@ link-idle o (Travelling k) Dead f a b c d = absurd (omega (arith, c))
 link-idle o slot s f a b c d = absurd f
 
 the-link : {M : Type 0} (k : Link M) → k.slot ≡ Empty → k.subnet ≡ Free → k ≡ idle
-the-link k a b = ap (λ (s : Slot _). (let l : Link _ = record { slot = s; subnet = k.subnet } in l)) a ∙ ap (λ (u : Subnet _). (let l : Link _ = record { slot = Empty; subnet = u } in l)) b
+the-link k a b = ap (λ (s : Slot _). (let l : Link _ = record { slot = s; subnet = k.subnet } in l)) a ∙ ap (λ (u : MessageTransit _). (let l : Link _ = record { slot = Empty; subnet = u } in l)) b
 
-none-waits : (q : List Command) → first_of 0 q ≡ None → q ≡ []
+none-waits : (q : List Command) → first_waiting 0 q ≡ None → q ≡ []
 none-waits [] e = refl
 none-waits (c ∷ cs) e = absurd (cc e)
 
@@ -79,7 +79,7 @@ at-most : (on : ℕ) → is_data_link on ≡ true → on < FIRST_LINK + DATA_LIN
 at-most on h = grind arith
 
 -- one host, where no step of it moves anything
-one-idle : (w : World) → NodeFits w.this → ResetsWait w.this → ((step : Step) → OnLink step → moved step w ≡ 0) → IsIdle w.this
+one-idle : (w : TwoNodes) → NodeFits w.this → ResetsWait w.this → ((step : NodeStep) → IsOnDataLink step → moved step w ≡ 0) → IsIdle w.this
 one-idle w f r h = record {
   control = the-link w.this.control link.0 link.1;
   texts = λ on d. the-link (w.this.texts on) (text on d).0 (text on d).1;
@@ -98,8 +98,8 @@ one-idle w f r h = record {
     control-none : one_if_held w.this.control.slot ≡ 0
     control-none = let e = held in omega (arith, e)
 
-    link : (w.this.control.slot ≡ Empty) × (w.this.control.subnet ≡ Free) × (first_of 0 w.this.host.phase.waiting ≡ None)
-    link = link-idle (first_of 0 w.this.host.phase.waiting) w.this.control.slot w.this.control.subnet f.control (h (Sends 0) tt) (h Loses tt) (h Is_answered tt) control-none
+    link : (w.this.control.slot ≡ Empty) × (w.this.control.subnet ≡ Free) × (first_waiting 0 w.this.host.phase.waiting ≡ None)
+    link = link-idle (first_waiting 0 w.this.host.phase.waiting) w.this.control.slot w.this.control.subnet f.control (h (Sends 0) tt) (h Loses tt) (h Is_answered tt) control-none
 
     text : (on : ℕ) → is_data_link on ≡ true → ((w.this.texts on).slot ≡ Empty) × ((w.this.texts on).subnet ≡ Free) × (as_text (answer (cut_in on w.this.ends)) ≡ None)
     text on d = link-idle (as_text (answer (cut_in on w.this.ends))) (w.this.texts on).slot (w.this.texts on).subnet (f.texts on) (h (Sends_text on) d) (h (Loses_text on) d) (h (Text_is_answered on) d)
@@ -108,31 +108,31 @@ one-idle w f r h = record {
     still : quiet w.this ≡ true
     still = all-are w.this.texts DATA_LINKS FIRST_LINK (λ on l m. ap (λ (s : Slot TextOut). is_empty s) (text on (in-range on l m)).0)
 
-run-fits : (es : List Event) (w : World) → BothFit w → BothFit (run_from es w)
+run-fits : (es : List NodeEvent) (w : TwoNodes) → BothFit w → BothFit (run_from es w)
 run-fits [] w b = b
-run-fits (e ∷ es) w b = run-fits es (at e.side e.step w) (at-fit e.side e.step w b)
+run-fits (e ∷ es) w b = run-fits es (node_at e.side e.step w) (at-fit e.side e.step w b)
 
-pub ever-idle : (es : List Event) → IsSettled (run es) → IsIdle (run es).this × IsIdle (run es).that
+pub ever-idle : (es : List NodeEvent) → IsSettledInModel (run es) → IsIdle (run es).this × IsIdle (run es).that
 ever-idle es s =
     let b = run-fits es start start-fits in
     let r = ever-wait es in
-    (one-idle (run es) b.this r.0 (s This), one-idle (swap (run es)) b.that r.1 (s That))
+    (one-idle (run es) b.this r.0 (s This), one-idle (nodes_swapped (run es)) b.that r.1 (s That))
 
 -- there is such a world: where two hosts begin
 
-start-still : (step : Step) → moved step start ≡ 0
+start-still : (step : NodeStep) → moved step start ≡ 0
 unfolding held_texts
 start-still (Sends n) = refl
 start-still (Sends_text on) = ap (λ (o : Option (ℕ × List Bool)). one_if_any (ready_message (put_if_any (as_text o) Empty))) (nothing_out on)
 start-still Wakes = refl
 start-still step = refl
 
-pub start-settled : IsSettled start
+pub start-settled : IsSettledInModel start
 start-settled This step l = start-still step
 start-settled That step l = start-still step
 
 -- where they have come up
-up-still : (side : Side) (step : Step) → moved_at side step (run (comes_up This)) ≡ 0
+up-still : (side : Party) (step : NodeStep) → moved_at side step (run (comes_up This)) ≡ 0
 unfolding held_texts all_empty
 up-still This (Sends n) = refl
 up-still That (Sends n) = refl
@@ -143,10 +143,10 @@ up-still That Wakes = refl
 up-still This step = refl
 up-still That step = refl
 
-pub up-settled : IsSettled (run (comes_up This))
+pub up-settled : IsSettledInModel (run (comes_up This))
 up-settled side step l = up-still side step
 
 -- and not where an RST waits
-pub asked-unsettled : IsSettled (run (by This Calls_reset ∷ [])) → ⊥
+pub asked-unsettled : IsSettledInModel (run (by This Calls_reset ∷ [])) → ⊥
 unfolding all_empty
 asked-unsettled s = let h = s This (Sends 0) tt in absurd (omega (arith, h))

@@ -4,25 +4,24 @@ use Rattle.std.proofs.lemmas.Bool.{eqb-true}
 use Rattle.ncp_terms.specs.declared.command.Command.{Command}
 use Rattle.ncp_model.specs.declared.pair.Pair.{Pair}
 use Rattle.ncp_model.specs.End.{End}
-use Rattle.ncp_model.specs.Act.{answer}
+use Rattle.ncp_model.specs.Act.{answer, Act}
 use Rattle.ncp_model.specs.Ends.{Ends, sender_on, pair_of, cut_at, cut_in, map_after_at}
 use Rattle.ncp_model.specs.Texts.{may_send, cut_bits, bytes_to_send}
-use Rattle.ncp_model.specs.Act as acts
-use Rattle.ncp_model.specs.Peers.{Peer}
-use Rattle.ncp_model.specs.Peers as peers
+use Rattle.ncp_model.specs.Act
+use Rattle.ncp_model.specs.Peers.{Peer, cuts}
 use Rattle.ncp_slot.specs.Slot.{ready_message}
-use Rattle.ncp_proof_resets.specs.Delivery.{Slot, Empty, Ready, Travelling, Held, Subnet, Free, Accepted, Delivered, Lost, Dead, Link, undelivered}
-use Rattle.ncp_proof_machine.specs.Hosts.{TextOut, World, peer_of, Step, Sends, Sends_text, Hears, Hears_text, Loses, Loses_text, Dies, Text_dies, Is_answered, Text_is_answered, steps}
+use Rattle.ncp_proof_resets.specs.Delivery.{Slot, Empty, Ready, Travelling, Held, MessageTransit, Free, Accepted, Delivered, Lost, Dead, Link, undelivered}
+use Rattle.ncp_proof_machine.specs.Hosts.{TextOut, TwoNodes, peer_of, NodeStep, Sends, Sends_text, Hears, Hears_text, Loses, Loses_text, Dies, Text_dies, Is_answered, Text_is_answered, node_steps}
 use Rattle.ncp_proof_machine.specs.Seen.{takes_commands, cuts_where, hears_message, hears_coming, control_taken, text_taken, peer_after, links_of}
-use Rattle.ncp_proof_machine.specs.Moving.{put_if_any, first_of, as_text, sent, control_after, text_after, control_heard, text_heard, answered_by, delivered}
+use Rattle.ncp_proof_machine.specs.Moving.{put_if_any, first_waiting, as_text, link_sent, control_link_after, text_link_after, control_heard, text_heard, answered_by, transit_delivered}
 use Rattle.ncp_proof_machine.proofs.Seeing.{steps_agree}
 use Rattle.ncp_proof_machine.proofs.Moves.{control_moves, texts_move, control_is_heard, texts_are_heard}
 use Rattle.ncp_proof_progress.specs.HostsWork.{moved, one_if_any, one_if_accepted, one_if_told, is_of_messages, Stays}
 
-abbrev same : {M : Type 0} → Slot M → Subnet M → Link M
+abbrev same : {M : Type 0} → Slot M → MessageTransit M → Link M
 same slot s = record { slot = slot; subnet = s }
 
-sent-still : {M : Type 0} (m : Option M) (slot : Slot M) (s : Subnet M) → one_if_any (ready_message (put_if_any m slot)) ≡ 0 → sent m slot s ≡ record { slot = slot; subnet = s }
+sent-still : {M : Type 0} (m : Option M) (slot : Slot M) (s : MessageTransit M) → one_if_any (ready_message (put_if_any m slot)) ≡ 0 → link_sent m slot s ≡ record { slot = slot; subnet = s }
 sent-still None Empty s e = refl
 sent-still (Some m) Empty s e = absurd (omega (arith, e))
 sent-still None (Ready k) s e = absurd (omega (arith, e))
@@ -32,7 +31,7 @@ sent-still (Some m) (Travelling k) s e = refl
 sent-still None (Held k) s e = refl
 sent-still (Some m) (Held k) s e = refl
 
-told-still : {M : Type 0} (slot : Slot M) (s : Subnet M) → one_if_told slot s ≡ 0 → answered_by slot s ≡ record { slot = slot; subnet = s }
+told-still : {M : Type 0} (slot : Slot M) (s : MessageTransit M) → one_if_told slot s ≡ 0 → answered_by slot s ≡ record { slot = slot; subnet = s }
 told-still (Travelling k) Free e = refl
 told-still (Travelling k) (Accepted m) e = refl
 told-still (Travelling k) Delivered e = absurd (omega (arith, e))
@@ -54,14 +53,14 @@ told-still (Held k) Delivered e = refl
 told-still (Held k) Lost e = refl
 told-still (Held k) Dead e = refl
 
-failed-still : {M : Type 0} (as_what s : Subnet M) → one_if_accepted s ≡ 0 → undelivered as_what s ≡ s
+failed-still : {M : Type 0} (as_what s : MessageTransit M) → one_if_accepted s ≡ 0 → undelivered as_what s ≡ s
 failed-still as_what (Accepted m) e = absurd (omega (arith, e))
 failed-still as_what Free e = refl
 failed-still as_what Delivered e = refl
 failed-still as_what Lost e = refl
 failed-still as_what Dead e = refl
 
-come-still : {M : Type 0} (s : Subnet M) → one_if_accepted s ≡ 0 → delivered s ≡ s
+come-still : {M : Type 0} (s : MessageTransit M) → one_if_accepted s ≡ 0 → transit_delivered s ≡ s
 come-still (Accepted m) e = absurd (omega (arith, e))
 come-still Free e = refl
 come-still Delivered e = refl
@@ -71,7 +70,7 @@ come-still Dead e = refl
 no-cut : (on : ℕ) (m : Ends) → answer (cut_in on m) ≡ None → map_after_at m (pair_of (sender_on on m)) (cut_in on m) ≡ m
 no-cut on m e = go (sender_on on m) e
   where
-    at : (p : Pair × End) (b : Bool) → answer (cond b (cut_bits (bytes_to_send p.1 * p.1.size) p.1) (acts.Stays None)) ≡ None → map_after_at m (Some p.0) (cond b (cut_bits (bytes_to_send p.1 * p.1.size) p.1) (acts.Stays None)) ≡ m
+    at : (p : Pair × End) (b : Bool) → answer (cond b (cut_bits (bytes_to_send p.1 * p.1.size) p.1) (Act.Stays None)) ≡ None → map_after_at m (Some p.0) (cond b (cut_bits (bytes_to_send p.1 * p.1.size) p.1) (Act.Stays None)) ≡ m
     at p true e = absurd (cc e)
     at p false e = refl
 
@@ -81,7 +80,7 @@ no-cut on m e = go (sender_on on m) e
 
 -- what this host keeps
 
-taken-still : (slot : Slot (List Command)) (n : ℕ) (q : List Command) (p : Peer) → p.phase.waiting ≡ q → one_if_any (ready_message (put_if_any (first_of n q) slot)) ≡ 0 → takes_commands slot n p ≡ p
+taken-still : (slot : Slot (List Command)) (n : ℕ) (q : List Command) (p : Peer) → p.phase.waiting ≡ q → one_if_any (ready_message (put_if_any (first_waiting n q) slot)) ≡ 0 → takes_commands slot n p ≡ p
 taken-still Empty n [] p w e =
     let f : drop (n + 1) p.phase.waiting ≡ p.phase.waiting = ap (drop (n + 1)) w ∙ ap (λ (i : ℕ). drop {A = Command} i []) (add-one n) ∙ sym w in
     ap (λ (cs : List Command). (let r : Peer = record p { phase = record p.phase { waiting = cs } } in r)) f
@@ -93,28 +92,28 @@ taken-still (Held m) n q p w e = refl
 cut-still : (slot : Slot TextOut) (on : ℕ) (p : Peer) → one_if_any (ready_message (put_if_any (as_text (answer (cut_in on p.ends))) slot)) ≡ 0 → cuts_where slot on p ≡ p
 cut-still Empty on p e = go (answer (cut_in on p.ends)) refl e
   where
-    go : (o : Option (ℕ × List Bool)) → answer (cut_in on p.ends) ≡ o → one_if_any (ready_message (put_if_any (as_text o) Empty)) ≡ 0 → peers.cuts on p ≡ p
+    go : (o : Option (ℕ × List Bool)) → answer (cut_in on p.ends) ≡ o → one_if_any (ready_message (put_if_any (as_text o) Empty)) ≡ 0 → cuts on p ≡ p
     go None d e = ap (λ (m : Ends). (let r : Peer = record p { ends = m } in r)) (no-cut on p.ends d)
     go (Some t) d e = absurd (omega (arith, e))
 cut-still (Ready t) on p e = refl
 cut-still (Travelling t) on p e = refl
 cut-still (Held t) on p e = refl
 
-heard-still : (s : Subnet (List Command)) (quiet : Bool) (p : Peer) → one_if_accepted s ≡ 0 → hears_message s quiet p ≡ p
+heard-still : (s : MessageTransit (List Command)) (quiet : Bool) (p : Peer) → one_if_accepted s ≡ 0 → hears_message s quiet p ≡ p
 heard-still (Accepted m) quiet p e = absurd (omega (arith, e))
 heard-still Free quiet p e = refl
 heard-still Delivered quiet p e = refl
 heard-still Lost quiet p e = refl
 heard-still Dead quiet p e = refl
 
-text-still : (on : ℕ) (head : List Bool) (s : Subnet TextOut) (p : Peer) → one_if_accepted s ≡ 0 → hears_coming on head s p ≡ p
+text-still : (on : ℕ) (head : List Bool) (s : MessageTransit TextOut) (p : Peer) → one_if_accepted s ≡ 0 → hears_coming on head s p ≡ p
 text-still on head (Accepted m) p e = absurd (omega (arith, e))
 text-still on head Free p e = refl
 text-still on head Delivered p e = refl
 text-still on head Lost p e = refl
 text-still on head Dead p e = refl
 
-control-taken-still : (slot : Slot (List Command)) (s : Subnet (List Command)) (quiet : Bool) (p : Peer) → one_if_told slot s ≡ 0 → control_taken slot s quiet p ≡ p
+control-taken-still : (slot : Slot (List Command)) (s : MessageTransit (List Command)) (quiet : Bool) (p : Peer) → one_if_told slot s ≡ 0 → control_taken slot s quiet p ≡ p
 control-taken-still (Travelling m) Delivered quiet p e = absurd (omega (arith, e))
 control-taken-still (Travelling m) Free quiet p e = refl
 control-taken-still (Travelling m) (Accepted c) quiet p e = refl
@@ -124,7 +123,7 @@ control-taken-still Empty s quiet p e = refl
 control-taken-still (Ready m) s quiet p e = refl
 control-taken-still (Held m) s quiet p e = refl
 
-text-taken-still : (on : ℕ) (slot : Slot TextOut) (s : Subnet TextOut) (quiet : Bool) (p : Peer) → one_if_told slot s ≡ 0 → text_taken on slot s quiet p ≡ p
+text-taken-still : (on : ℕ) (slot : Slot TextOut) (s : MessageTransit TextOut) (quiet : Bool) (p : Peer) → one_if_told slot s ≡ 0 → text_taken on slot s quiet p ≡ p
 text-taken-still on (Travelling m) Delivered quiet p e = absurd (omega (arith, e))
 text-taken-still on (Travelling m) Free quiet p e = refl
 text-taken-still on (Travelling m) (Accepted c) quiet p e = refl
@@ -142,13 +141,13 @@ one-link link on x k h = go (on == link) refl
     go true t = h (eqb-true on link t)
     go false t = refl
 
-abbrev Still : Step → World → Type 0
-Still step w = Stays (steps step w) w
+abbrev Still : NodeStep → TwoNodes → Type 0
+Still step w = Stays (node_steps step w) w
 
-still : (step : Step) (w : World)
+still : (step : NodeStep) (w : TwoNodes)
     → peer_after step (links_of w.this) (links_of w.that) (peer_of w.this) ≡ peer_of w.this
-    → control_after step w.this.host.phase.waiting w.this.control ≡ w.this.control
-    → ((on : ℕ) → text_after step on w.this.ends (w.this.texts on) ≡ w.this.texts on)
+    → control_link_after step w.this.host.phase.waiting w.this.control ≡ w.this.control
+    → ((on : ℕ) → text_link_after step on w.this.ends (w.this.texts on) ≡ w.this.texts on)
     → control_heard step w.that.control ≡ w.that.control
     → ((on : ℕ) → text_heard step on (w.that.texts on) ≡ w.that.texts on)
     → Still step w
@@ -160,19 +159,19 @@ still step w p c t d u = record {
   coming_texts = λ on. texts_are_heard step w on ∙ u on;
 }
 
-pub step-still : (step : Step) (w : World) → is_of_messages step ≡ true → moved step w ≡ 0 → Still step w
-step-still (Sends n) w m e = still (Sends n) w (taken-still w.this.control.slot n w.this.host.phase.waiting (peer_of w.this) refl e) (sent-still (first_of n w.this.host.phase.waiting) w.this.control.slot w.this.control.subnet e) (λ on. refl) refl (λ on. refl)
+pub step-still : (step : NodeStep) (w : TwoNodes) → is_of_messages step ≡ true → moved step w ≡ 0 → Still step w
+step-still (Sends n) w m e = still (Sends n) w (taken-still w.this.control.slot n w.this.host.phase.waiting (peer_of w.this) refl e) (sent-still (first_waiting n w.this.host.phase.waiting) w.this.control.slot w.this.control.subnet e) (λ on. refl) refl (λ on. refl)
 step-still (Sends_text link) w m e = still (Sends_text link) w (cut-still (w.this.texts link).slot link (peer_of w.this) e) refl
-    (λ on. one-link link on (sent (as_text (answer (cut_in link w.this.ends))) (w.this.texts on).slot (w.this.texts on).subnet) (w.this.texts on) (λ s. sent-still (as_text (answer (cut_in link w.this.ends))) (w.this.texts on).slot (w.this.texts on).subnet (subst (λ (i : ℕ). one_if_any (ready_message (put_if_any (as_text (answer (cut_in link w.this.ends))) (w.this.texts i).slot)) ≡ 0) (sym s) e))) refl (λ on. refl)
-step-still Hears w m e = still Hears w (heard-still w.that.control.subnet _ (peer_of w.this) e) refl (λ on. refl) (ap (λ (s : Subnet (List Command)). same w.that.control.slot s) (come-still w.that.control.subnet e)) (λ on. refl)
+    (λ on. one-link link on (link_sent (as_text (answer (cut_in link w.this.ends))) (w.this.texts on).slot (w.this.texts on).subnet) (w.this.texts on) (λ s. sent-still (as_text (answer (cut_in link w.this.ends))) (w.this.texts on).slot (w.this.texts on).subnet (subst (λ (i : ℕ). one_if_any (ready_message (put_if_any (as_text (answer (cut_in link w.this.ends))) (w.this.texts i).slot)) ≡ 0) (sym s) e))) refl (λ on. refl)
+step-still Hears w m e = still Hears w (heard-still w.that.control.subnet _ (peer_of w.this) e) refl (λ on. refl) (ap (λ (s : MessageTransit (List Command)). same w.that.control.slot s) (come-still w.that.control.subnet e)) (λ on. refl)
 step-still (Hears_text link head) w m e = still (Hears_text link head) w (text-still link head (w.that.texts link).subnet (peer_of w.this) e) refl (λ on. refl) refl
-    (λ on. one-link link on (record (w.that.texts on) { subnet = delivered (w.that.texts on).subnet }) (w.that.texts on) (λ s. ap (λ (t : Subnet TextOut). same (w.that.texts on).slot t) (come-still (w.that.texts on).subnet (subst (λ (i : ℕ). one_if_accepted (w.that.texts i).subnet ≡ 0) (sym s) e))))
-step-still Loses w m e = still Loses w refl (ap (λ (s : Subnet (List Command)). same w.this.control.slot s) (failed-still Lost w.this.control.subnet e)) (λ on. refl) refl (λ on. refl)
+    (λ on. one-link link on (record (w.that.texts on) { subnet = transit_delivered (w.that.texts on).subnet }) (w.that.texts on) (λ s. ap (λ (t : MessageTransit TextOut). same (w.that.texts on).slot t) (come-still (w.that.texts on).subnet (subst (λ (i : ℕ). one_if_accepted (w.that.texts i).subnet ≡ 0) (sym s) e))))
+step-still Loses w m e = still Loses w refl (ap (λ (s : MessageTransit (List Command)). same w.this.control.slot s) (failed-still Lost w.this.control.subnet e)) (λ on. refl) refl (λ on. refl)
 step-still (Loses_text link) w m e = still (Loses_text link) w refl refl
-    (λ on. one-link link on (record (w.this.texts on) { subnet = undelivered Lost (w.this.texts on).subnet }) (w.this.texts on) (λ s. ap (λ (t : Subnet TextOut). same (w.this.texts on).slot t) (failed-still Lost (w.this.texts on).subnet (subst (λ (i : ℕ). one_if_accepted (w.this.texts i).subnet ≡ 0) (sym s) e)))) refl (λ on. refl)
-step-still Dies w m e = still Dies w refl (ap (λ (s : Subnet (List Command)). same w.this.control.slot s) (failed-still Dead w.this.control.subnet e)) (λ on. refl) refl (λ on. refl)
+    (λ on. one-link link on (record (w.this.texts on) { subnet = undelivered Lost (w.this.texts on).subnet }) (w.this.texts on) (λ s. ap (λ (t : MessageTransit TextOut). same (w.this.texts on).slot t) (failed-still Lost (w.this.texts on).subnet (subst (λ (i : ℕ). one_if_accepted (w.this.texts i).subnet ≡ 0) (sym s) e)))) refl (λ on. refl)
+step-still Dies w m e = still Dies w refl (ap (λ (s : MessageTransit (List Command)). same w.this.control.slot s) (failed-still Dead w.this.control.subnet e)) (λ on. refl) refl (λ on. refl)
 step-still (Text_dies link) w m e = still (Text_dies link) w refl refl
-    (λ on. one-link link on (record (w.this.texts on) { subnet = undelivered Dead (w.this.texts on).subnet }) (w.this.texts on) (λ s. ap (λ (t : Subnet TextOut). same (w.this.texts on).slot t) (failed-still Dead (w.this.texts on).subnet (subst (λ (i : ℕ). one_if_accepted (w.this.texts i).subnet ≡ 0) (sym s) e)))) refl (λ on. refl)
+    (λ on. one-link link on (record (w.this.texts on) { subnet = undelivered Dead (w.this.texts on).subnet }) (w.this.texts on) (λ s. ap (λ (t : MessageTransit TextOut). same (w.this.texts on).slot t) (failed-still Dead (w.this.texts on).subnet (subst (λ (i : ℕ). one_if_accepted (w.this.texts i).subnet ≡ 0) (sym s) e)))) refl (λ on. refl)
 step-still Is_answered w m e = still Is_answered w (control-taken-still w.this.control.slot w.this.control.subnet _ (peer_of w.this) e) (told-still w.this.control.slot w.this.control.subnet e) (λ on. refl) refl (λ on. refl)
 step-still (Text_is_answered link) w m e = still (Text_is_answered link) w (text-taken-still link (w.this.texts link).slot (w.this.texts link).subnet _ (peer_of w.this) e) refl
     (λ on. one-link link on (answered_by (w.this.texts on).slot (w.this.texts on).subnet) (w.this.texts on) (λ s. told-still (w.this.texts on).slot (w.this.texts on).subnet (subst (λ (i : ℕ). one_if_told (w.this.texts i).slot (w.this.texts i).subnet ≡ 0) (sym s) e))) refl (λ on. refl)

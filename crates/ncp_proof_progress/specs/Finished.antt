@@ -7,7 +7,7 @@ use Rattle.ncp_model.specs.End.{End, is_open}
 use Rattle.ncp_model.specs.Ends.{no_ends}
 use Rattle.ncp_model.specs.Texts.{may_send}
 use Rattle.ncp_proof_resets.specs.Resets.{is_up}
-use Rattle.ncp_proof_machine.specs.Hosts.{Node, World, swap, past_of}
+use Rattle.ncp_proof_machine.specs.Hosts.{Node, TwoNodes, nodes_swapped, past_of}
 use Rattle.ncp_proof_progress.specs.Idle.{IsIdle}
 
 -- an end that rests: no text of it is out, no CLS of a sender is due, and that of a receiver waits for its
@@ -81,14 +81,14 @@ pub data PairFinished (pair : Pair) (s r : Option End) (given got : List Bool) :
   Receiver_holds : (e f : End) → s ≡ Some e → r ≡ Some f → (e.left ≡ true) × (e.cls ≡ false) × (e.leaving ≡ false) → (f.leaving ≡ true) × (f.cls ≡ true) × (0 < length f.stored) → PairFinished pair s r given got
 
 -- from this host to that one
-abbrev pub PairIsFinished : Pair → World → Type 0
-PairIsFinished pair w = PairFinished pair (get w.this.ends pair) (get w.that.ends (turned pair)) (past_of w.this.pasts pair).given (past_of w.that.pasts (turned pair)).got
+abbrev pub PairIsFinishedInModel : Pair → TwoNodes → Type 0
+PairIsFinishedInModel pair w = PairFinished pair (get w.this.ends pair) (get w.that.ends (turned pair)) (past_of w.this.pasts pair).given (past_of w.that.pasts (turned pair)).got
 
 -- Both hosts are at rest; and where both are up, each pair is finished, either way. A host that went down has
 -- nothing, and what its peer still has of the connections waits for a reset.
-abbrev pub IsFinished : World → Type 0
+abbrev pub IsFinished : TwoNodes → Type 0
 IsFinished w = record {
   this : IsAtRest w.this;
   that : IsAtRest w.that;
-  pairs : is_up w.this.host ≡ true → is_up w.that.host ≡ true → (pair : Pair) → sends pair ≡ true → PairIsFinished pair w × PairIsFinished pair (swap w);
+  pairs : is_up w.this.host ≡ true → is_up w.that.host ≡ true → (pair : Pair) → sends pair ≡ true → PairIsFinishedInModel pair w × PairIsFinishedInModel pair (nodes_swapped w);
 }

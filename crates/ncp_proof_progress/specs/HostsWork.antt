@@ -7,10 +7,10 @@ use Rattle.ncp_model.specs.declared.limits.TheConstants.{DATA_LINKS, FIRST_LINK}
 use Rattle.ncp_model.specs.Act.{answer, is_data_link}
 use Rattle.ncp_model.specs.Ends.{cut_in}
 use Rattle.ncp_slot.specs.Slot.{ready_message}
-use Rattle.ncp_proof_resets.specs.Delivery.{Slot, Empty, Ready, Travelling, Held, Subnet, Free, Accepted, Delivered, Lost, Dead, Link, answer_of}
-use Rattle.ncp_proof_resets.specs.Resets.{Side, This, That}
-use Rattle.ncp_proof_machine.specs.Hosts.{TextOut, Node, World, swap, Event, at, steps, peer_of, Step, Calls_reset, Calls, Calls_echo, Sends, Sends_text, Hears, Hears_text, Loses, Loses_text, Dies, Text_dies, Is_answered, Text_is_answered, Wakes}
-use Rattle.ncp_proof_machine.specs.Moving.{put_if_any, first_of, as_text}
+use Rattle.ncp_proof_resets.specs.Delivery.{Slot, Empty, Ready, Travelling, Held, MessageTransit, Free, Accepted, Delivered, Lost, Dead, Link, answer_of_transit}
+use Rattle.ncp_proof_resets.specs.Resets.{Party, This, That}
+use Rattle.ncp_proof_machine.specs.Hosts.{TextOut, Node, TwoNodes, nodes_swapped, NodeEvent, node_at, node_steps, peer_of, NodeStep, Calls_reset, Calls, Calls_echo, Sends, Sends_text, Hears, Hears_text, Loses, Loses_text, Dies, Text_dies, Is_answered, Text_is_answered, Wakes}
+use Rattle.ncp_proof_machine.specs.Moving.{put_if_any, first_waiting, as_text}
 use Rattle.ncp_proof_progress.specs.Work.{causes_all, peer_work, credit}
 
 -- what the coming of a text causes: it may be answered by an ERR
@@ -19,7 +19,7 @@ text_causes t = 1
 
 -- A message on its link: it goes out, comes, and is answered. What is held is woken first; what is lost or
 -- finds its destination dead is answered so, and begins again.
-abbrev pub message_work : {M : Type 0} → (M → ℕ) → Slot M → Subnet M → ℕ
+abbrev pub message_work : {M : Type 0} → (M → ℕ) → Slot M → MessageTransit M → ℕ
 message_work r Empty s = 0
 message_work r (Ready m) s = 3 + 3 * r m
 message_work r (Held m) s = 4 + 3 * r m
@@ -43,30 +43,30 @@ texts_work texts (suc many) from = text_work (texts from) + texts_work texts man
 abbrev pub node_work : Node → ℕ
 node_work n = 3 * peer_work (peer_of n) + control_work n.control + texts_work n.texts DATA_LINKS FIRST_LINK
 
-abbrev pub work : World → ℕ
+abbrev pub work : TwoNodes → ℕ
 work w = node_work w.this + node_work w.that
 
 -- slot and subnet fit: what travels is in the subnet, and nothing else is
-abbrev pub Fits : {M : Type 0} → Slot M → Subnet M → Type 0
-Fits (Travelling m) (Accepted c) = c ≡ m
-Fits (Travelling m) Delivered = Unit {0}
-Fits (Travelling m) Lost = Unit {0}
-Fits (Travelling m) Dead = Unit {0}
-Fits (Travelling m) Free = ⊥
-Fits slot Free = Unit {0}
-Fits slot s = ⊥
+abbrev pub SlotFits : {M : Type 0} → Slot M → MessageTransit M → Type 0
+SlotFits (Travelling m) (Accepted c) = c ≡ m
+SlotFits (Travelling m) Delivered = Unit {0}
+SlotFits (Travelling m) Lost = Unit {0}
+SlotFits (Travelling m) Dead = Unit {0}
+SlotFits (Travelling m) Free = ⊥
+SlotFits slot Free = Unit {0}
+SlotFits slot s = ⊥
 
 abbrev pub NodeFits : Node → Type 0
-NodeFits n = record { control : Fits n.control.slot n.control.subnet; texts : (on : ℕ) → Fits (n.texts on).slot (n.texts on).subnet }
+NodeFits n = record { control : SlotFits n.control.slot n.control.subnet; texts : (on : ℕ) → SlotFits (n.texts on).slot (n.texts on).subnet }
 
 -- texts go on links from 2 to 71
-abbrev pub OnLink : Step → Type 0
-OnLink (Sends_text on) = is_data_link on ≡ true
-OnLink (Hears_text on head) = is_data_link on ≡ true
-OnLink (Loses_text on) = is_data_link on ≡ true
-OnLink (Text_dies on) = is_data_link on ≡ true
-OnLink (Text_is_answered on) = is_data_link on ≡ true
-OnLink step = Unit {0}
+abbrev pub IsOnDataLink : NodeStep → Type 0
+IsOnDataLink (Sends_text on) = is_data_link on ≡ true
+IsOnDataLink (Hears_text on head) = is_data_link on ≡ true
+IsOnDataLink (Loses_text on) = is_data_link on ≡ true
+IsOnDataLink (Text_dies on) = is_data_link on ≡ true
+IsOnDataLink (Text_is_answered on) = is_data_link on ≡ true
+IsOnDataLink step = Unit {0}
 
 -- how many messages a step moves: one or none, and a wake as many as are held
 
@@ -74,12 +74,12 @@ abbrev pub one_if_any : {A : Type 0} → Option A → ℕ
 one_if_any None = 0
 one_if_any (Some a) = 1
 
-abbrev pub one_if_accepted : {M : Type 0} → Subnet M → ℕ
+abbrev pub one_if_accepted : {M : Type 0} → MessageTransit M → ℕ
 one_if_accepted (Accepted m) = 1
 one_if_accepted s = 0
 
-abbrev pub one_if_told : {M : Type 0} → Slot M → Subnet M → ℕ
-one_if_told (Travelling m) s = one_if_any (answer_of s)
+abbrev pub one_if_told : {M : Type 0} → Slot M → MessageTransit M → ℕ
+one_if_told (Travelling m) s = one_if_any (answer_of_transit s)
 one_if_told slot s = 0
 
 abbrev pub one_if_held : {M : Type 0} → Slot M → ℕ
@@ -91,8 +91,8 @@ unfoldable pub held_texts : (ℕ → Link TextOut) → ℕ → ℕ → ℕ
 held_texts texts zero from = 0
 held_texts texts (suc many) from = one_if_held (texts from).slot + held_texts texts many (suc from)
 
-abbrev pub moved : Step → World → ℕ
-moved (Sends n) w = one_if_any (ready_message (put_if_any (first_of n w.this.host.phase.waiting) w.this.control.slot))
+abbrev pub moved : NodeStep → TwoNodes → ℕ
+moved (Sends n) w = one_if_any (ready_message (put_if_any (first_waiting n w.this.host.phase.waiting) w.this.control.slot))
 moved (Sends_text on) w = one_if_any (ready_message (put_if_any (as_text (answer (cut_in on w.this.ends))) (w.this.texts on).slot))
 moved Hears w = one_if_accepted w.that.control.subnet
 moved (Hears_text on head) w = one_if_accepted (w.that.texts on).subnet
@@ -106,7 +106,7 @@ moved Wakes w = one_if_held w.this.control.slot + held_texts w.this.texts DATA_L
 moved step w = 0
 
 -- and what it may add
-abbrev pub allows : Step → World → ℕ
+abbrev pub allows : NodeStep → TwoNodes → ℕ
 allows Calls_reset w = 6
 allows (Calls pair call) w = 3 * credit call (get w.this.ends pair)
 allows (Calls_echo byte) w = 6
@@ -116,37 +116,37 @@ allows Dies w = 4 * one_if_accepted w.this.control.subnet
 allows (Text_dies on) w = 4 * one_if_accepted (w.this.texts on).subnet
 allows step w = 0
 
-abbrev pub BothFit : World → Type 0
+abbrev pub BothFit : TwoNodes → Type 0
 BothFit w = record { this : NodeFits w.this; that : NodeFits w.that }
 
 -- the work after a step, and the move, are paid for
-abbrev pub StepPaid : Step → World → Type 0
-StepPaid step w = work (steps step w) + moved step w ≤ work w + allows step w
+abbrev pub StepPaid : NodeStep → TwoNodes → Type 0
+StepPaid step w = work (node_steps step w) + moved step w ≤ work w + allows step w
 
 -- over a whole schedule: how many messages moved, and what the calls, losses and deaths allow
 
-abbrev pub moved_at : Side → Step → World → ℕ
+abbrev pub moved_at : Party → NodeStep → TwoNodes → ℕ
 moved_at This step w = moved step w
-moved_at That step w = moved step (swap w)
+moved_at That step w = moved step (nodes_swapped w)
 
-abbrev pub allows_at : Side → Step → World → ℕ
+abbrev pub allows_at : Party → NodeStep → TwoNodes → ℕ
 allows_at This step w = allows step w
-allows_at That step w = allows step (swap w)
+allows_at That step w = allows step (nodes_swapped w)
 
-unfoldable pub moves : List Event → World → ℕ
-moves [] w = 0
-moves (e ∷ es) w = moved_at e.side e.step w + moves es (at e.side e.step w)
+unfoldable pub messages_moved : List NodeEvent → TwoNodes → ℕ
+messages_moved [] w = 0
+messages_moved (e ∷ es) w = moved_at e.side e.step w + messages_moved es (node_at e.side e.step w)
 
-unfoldable pub allowed : List Event → World → ℕ
-allowed [] w = 0
-allowed (e ∷ es) w = allows_at e.side e.step w + allowed es (at e.side e.step w)
+unfoldable pub messages_allowed : List NodeEvent → TwoNodes → ℕ
+messages_allowed [] w = 0
+messages_allowed (e ∷ es) w = allows_at e.side e.step w + messages_allowed es (node_at e.side e.step w)
 
-abbrev pub AllOnLinks : List Event → Type 0
+abbrev pub AllOnLinks : List NodeEvent → Type 0
 AllOnLinks [] = Unit {0}
-AllOnLinks (e ∷ es) = OnLink e.step × AllOnLinks es
+AllOnLinks (e ∷ es) = IsOnDataLink e.step × AllOnLinks es
 
 -- the steps of messages, but for a wake
-abbrev pub is_of_messages : Step → Bool
+abbrev pub is_of_messages : NodeStep → Bool
 is_of_messages (Sends n) = true
 is_of_messages (Sends_text on) = true
 is_of_messages Hears = true
@@ -160,7 +160,7 @@ is_of_messages (Text_is_answered on) = true
 is_of_messages step = false
 
 -- nothing that counts has changed: what this host keeps of its peer, and the links of both
-abbrev pub Stays : World → World → Type 0
+abbrev pub Stays : TwoNodes → TwoNodes → Type 0
 Stays x w = record {
   peer : peer_of x.this ≡ peer_of w.this;
   control : x.this.control ≡ w.this.control;

@@ -6,9 +6,9 @@ use Rattle.ncp_model.specs.End.{End}
 use Rattle.ncp_model.specs.Act.{answer, is_data_link}
 use Rattle.ncp_model.specs.Ends.{cut_in}
 use Rattle.ncp_proof_resets.specs.Delivery.{idle}
-use Rattle.ncp_proof_resets.specs.Resets.{Side}
-use Rattle.ncp_proof_machine.specs.Hosts.{Node, World, Step, quiet}
-use Rattle.ncp_proof_progress.specs.HostsWork.{OnLink, moved_at}
+use Rattle.ncp_proof_resets.specs.Resets.{Party}
+use Rattle.ncp_proof_machine.specs.Hosts.{Node, TwoNodes, NodeStep, quiet}
+use Rattle.ncp_proof_progress.specs.HostsWork.{IsOnDataLink, moved_at}
 
 -- A leaving sender has a text out; a leaving receiver has heard the CLS of its peer, and holds text (NIC 8246, CLS;
 -- that a CLS waits for these is this profile's rule).
@@ -32,8 +32,8 @@ ResetsWait n = record {
 }
 
 -- Nothing moves any more: no step of either host goes with a message, and none is held.
-abbrev pub IsSettled : World → Type 0
-IsSettled w = (side : Side) (step : Step) → OnLink step → moved_at side step w ≡ 0
+abbrev pub IsSettledInModel : TwoNodes → Type 0
+IsSettledInModel w = (side : Party) (step : NodeStep) → IsOnDataLink step → moved_at side step w ≡ 0
 
 -- No link has a message, no command waits, no text may go out, and no RST is wanted and no RRP owed.
 abbrev pub IsIdle : Node → Type 0

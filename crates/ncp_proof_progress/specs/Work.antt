@@ -11,9 +11,8 @@ use Rattle.ncp_model.specs.Pairs.{sends}
 use Rattle.ncp_model.specs.End.{End}
 use Rattle.ncp_model.specs.Ends.{Ends}
 use Rattle.ncp_model.specs.Phase.{Phase}
-use Rattle.ncp_model.specs.Peers.{Peer, Call, Ask_to_send, Ask_to_receive, Close, Give, Take, Allocate, Call_back, Interrupt}
+use Rattle.ncp_model.specs.Peers.{Peer, PairCall, Ask_to_send, Ask_to_receive, Close, Give, Take, Allocate, Call_back, Interrupt}
 use Rattle.ncp_model.specs.Happenings.{Happening, Happened, Outcome, Sent}
-use Rattle.ncp_model.specs.Happenings as all
 
 -- How many messages the coming of a command can still bring about. A request makes an end, whose CLS is
 -- answered (NIC 8246, RTS, STR, CLS); a GVB is answered by a RET, an ECO by an ERP, an RST by an RRP. What
@@ -61,27 +60,27 @@ bytes_at (Some e) text = length text / e.size
 
 -- How much each happening may add to the work of the end that was there before. Text that comes leads to
 -- receiving ends alone; at one that sends it would wait, and each of its bits might be a byte.
-abbrev pub adds : Pair → Happening → Option End → ℕ
-adds pair (all.Asks_to_send of_size with_room own full) before = 5
-adds pair (all.Asks_to_receive with_room on own full) before = 5
-adds pair (all.Closes full) before = 0
-adds pair (all.Gives text) before = 2 * bytes_at before text
-adds pair (all.Takes bytes) before = 0
-adds pair (all.Allocates of_messages of_bits full) before = 2
-adds pair (all.Calls_back of_messages of_bits full) before = 3
-adds pair (all.Interrupts full) before = 2
-adds pair (all.Rts_comes on taken by_peer) before = 2
-adds pair (all.Str_comes of_size by_peer) before = 2
-adds pair all.Cls_comes before = 1
-adds pair (all.All_comes on of_messages of_bits) before = 1
-adds pair (all.Gvb_comes on of_messages of_bits) before = 2
-adds pair (all.Ret_comes on of_messages of_bits) before = 1
-adds pair (all.Inr_comes on) before = 1
-adds pair (all.Ins_comes on) before = 1
-adds pair (all.Text_comes head of_size text) before = 1 + (if sends pair then 2 * length text else 0)
-adds pair all.Text_goes_out before = 0
-adds pair (all.Is_answered how) before = 0
-adds pair all.Is_cleared before = 0
+abbrev pub work_added : Pair → Happening → Option End → ℕ
+work_added pair (Happening.Asks_to_send of_size with_room own full) before = 5
+work_added pair (Happening.Asks_to_receive with_room on own full) before = 5
+work_added pair (Happening.Closes full) before = 0
+work_added pair (Happening.Gives text) before = 2 * bytes_at before text
+work_added pair (Happening.Takes bytes) before = 0
+work_added pair (Happening.Allocates of_messages of_bits full) before = 2
+work_added pair (Happening.Calls_back of_messages of_bits full) before = 3
+work_added pair (Happening.Interrupts full) before = 2
+work_added pair (Happening.Rts_comes on taken by_peer) before = 2
+work_added pair (Happening.Str_comes of_size by_peer) before = 2
+work_added pair Happening.Cls_comes before = 1
+work_added pair (Happening.All_comes on of_messages of_bits) before = 1
+work_added pair (Happening.Gvb_comes on of_messages of_bits) before = 2
+work_added pair (Happening.Ret_comes on of_messages of_bits) before = 1
+work_added pair (Happening.Inr_comes on) before = 1
+work_added pair (Happening.Ins_comes on) before = 1
+work_added pair (Happening.Text_comes head of_size text) before = 1 + (if sends pair then 2 * length text else 0)
+work_added pair Happening.Text_goes_out before = 0
+work_added pair (Happening.Is_answered how) before = 0
+work_added pair Happening.Is_cleared before = 0
 
 -- how much a text that goes out takes away
 abbrev pub takes_away : Outcome → ℕ
@@ -104,7 +103,7 @@ abbrev pub peer_work : Peer → ℕ
 peer_work p = phase_work p.phase + ends_work p.ends
 
 -- how much a call of a user may add, at the end of its pair as it was before
-abbrev pub credit : Call → Option End → ℕ
+abbrev pub credit : PairCall → Option End → ℕ
 credit (Ask_to_send of_size with_room) before = 5
 credit (Ask_to_receive with_room) before = 5
 credit Close before = 0

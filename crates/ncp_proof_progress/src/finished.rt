@@ -2,8 +2,8 @@
 ghost use Rattle.std.specs.Prelude.{◌≡◌, ◌<◌, ◌++◌, ℕ, Bool, true, false, List, length, Option, Some};
 ghost use Rattle.ncp_model.specs.End.{End, is_open};
 ghost use Rattle.ncp_model.specs.Texts.{may_send};
-ghost use Rattle.ncp_proof_machine.specs.Hosts.{Event, run};
-ghost use Rattle.ncp_proof_progress.specs.Idle.{IsSettled};
+ghost use Rattle.ncp_proof_machine.specs.Hosts.{NodeEvent, run};
+ghost use Rattle.ncp_proof_progress.specs.Idle.{IsSettledInModel};
 ghost use Rattle.ncp_proof_progress.specs.Finished.{OpenAndAgreed, PairFinished, IsFinished};
 
 use ncp_model::Pair;
@@ -12,7 +12,7 @@ use ncp_model::Pair;
 /// out, no host waits for an RRP, no sender has a text out or its CLS to make; and where both are up, each pair of
 /// ends is in one of five states, each of which waits for a user.
 pub fn where_nothing_moves_two_are_finished()
-    ensures { (events : List Event) → IsSettled (run events) → IsFinished (run events) }
+    ensures { (events : List NodeEvent) → IsSettledInModel (run events) → IsFinished (run events) }
 {}
 
 /// What that means to a user. Where a sender and a receiver have both asked and the sender has not closed, both are open

@@ -1,9 +1,9 @@
 //! Two hosts and the links between them: every schedule ends.
 ghost use Rattle.std.specs.Prelude.{◌≡◌, ℕ, ◌+◌, ◌≤◌, true, List};
-ghost use Rattle.ncp_proof_machine.specs.Hosts.{World, Step, steps, Event, run_from, run, start};
+ghost use Rattle.ncp_proof_machine.specs.Hosts.{TwoNodes, NodeStep, node_steps, NodeEvent, run_from, run, start};
 ghost use Rattle.ncp_proof_resets.specs.Resets.{This};
 ghost use Rattle.ncp_proof_machine.specs.HostRuns.{comes_up, echo_comes_back};
-ghost use Rattle.ncp_proof_progress.specs.HostsWork.{work, NodeFits, BothFit, OnLink, is_of_messages, moved, Stays, StepPaid, moves, allowed, AllOnLinks};
+ghost use Rattle.ncp_proof_progress.specs.HostsWork.{work, NodeFits, BothFit, IsOnDataLink, is_of_messages, moved, Stays, StepPaid, messages_moved, messages_allowed, AllOnLinks};
 ghost use Rattle.ncp_proof_progress.specs.WorkRuns.{reset_lost_once, reset_woken};
 
 /// Every schedule ends: each message that goes out, comes, is lost, finds its destination dead, or is
@@ -12,17 +12,17 @@ ghost use Rattle.ncp_proof_progress.specs.WorkRuns.{reset_lost_once, reset_woken
 /// and subnet fit, and of every schedule from the start. A step of messages that counts as no move changes
 /// nothing (`still`).
 pub fn every_schedule_ends()
-    ensures step { (step : Step) (w : World) → NodeFits w.this → NodeFits w.that → OnLink step → StepPaid step w }
-    ensures still { (step : Step) (w : World) → is_of_messages step ≡ true → moved step w ≡ 0 → Stays (steps step w) w }
-    ensures from { (events : List Event) (w : World) → BothFit w → AllOnLinks events → work (run_from events w) + moves events w ≤ work w + allowed events w }
-    ensures ever { (events : List Event) → AllOnLinks events → moves events start + work (run events) ≤ allowed events start }
+    ensures step { (step : NodeStep) (w : TwoNodes) → NodeFits w.this → NodeFits w.that → IsOnDataLink step → StepPaid step w }
+    ensures still { (step : NodeStep) (w : TwoNodes) → is_of_messages step ≡ true → moved step w ≡ 0 → Stays (node_steps step w) w }
+    ensures from { (events : List NodeEvent) (w : TwoNodes) → BothFit w → AllOnLinks events → work (run_from events w) + messages_moved events w ≤ work w + messages_allowed events w }
+    ensures ever { (events : List NodeEvent) → AllOnLinks events → messages_moved events start + work (run events) ≤ messages_allowed events start }
 {}
 
 /// The bound is met: a reset allows six, which are the coming and going of its RST and RRP; a loss three more, a
 /// destination that is dead four, and an echo six.
 pub fn bounds_are_met()
-    ensures reset { (moves (comes_up This) start ≡ 6) × (allowed (comes_up This) start ≡ 6) }
-    ensures lost { (moves reset_lost_once start ≡ 9) × (allowed reset_lost_once start ≡ 9) }
-    ensures dead { (moves reset_woken start ≡ 10) × (allowed reset_woken start ≡ 10) }
-    ensures echo { (moves echo_comes_back start ≡ 12) × (allowed echo_comes_back start ≡ 12) }
+    ensures reset { (messages_moved (comes_up This) start ≡ 6) × (messages_allowed (comes_up This) start ≡ 6) }
+    ensures lost { (messages_moved reset_lost_once start ≡ 9) × (messages_allowed reset_lost_once start ≡ 9) }
+    ensures dead { (messages_moved reset_woken start ≡ 10) × (messages_allowed reset_woken start ≡ 10) }
+    ensures echo { (messages_moved echo_comes_back start ≡ 12) × (messages_allowed echo_comes_back start ≡ 12) }
 {}

@@ -9,29 +9,29 @@ ghost use Rattle.ncp_model.specs.Phase.{up_phase};
 ghost use Rattle.ncp_model.specs.Rows.{outward, inward, opened_end, due, shut};
 ghost use Rattle.ncp_proof_resets.specs.Resets.{This, anew};
 ghost use Rattle.ncp_proof_machine.specs.HostRuns.{by, comes_up};
-ghost use Rattle.ncp_proof_machine.specs.Hosts.{Event, Calls_reset, new_node, run, start};
-ghost use Rattle.ncp_proof_progress.specs.Idle.{LeavingAt, ResetsWait, IsSettled, IsIdle};
+ghost use Rattle.ncp_proof_machine.specs.Hosts.{NodeEvent, Calls_reset, new_node, run, start};
+ghost use Rattle.ncp_proof_progress.specs.Idle.{LeavingAt, ResetsWait, IsSettledInModel, IsIdle};
 
 /// A leaving sender has a text out, and a leaving receiver has heard the CLS of its peer and holds text:
 /// after each happening at a sound end, and of every end after every schedule.
 pub fn what_leaves_waits_for_something()
     ensures after { (pair : Pair) (what : Happening) (before : Option End) → SoundAt pair before → LeavingAt pair before → LeavingAt pair (happens pair what before).after }
-    ensures ever { (events : List Event) (pair : Pair) → LeavingAt pair (get (run events).this.ends pair) × LeavingAt pair (get (run events).that.ends pair) }
+    ensures ever { (events : List NodeEvent) (pair : Pair) → LeavingAt pair (get (run events).this.ends pair) × LeavingAt pair (get (run events).that.ends pair) }
 {}
 
 /// After every schedule: where no text of a host is out, it wants no RST and owes no RRP.
 pub fn resets_wait_only_for_data_links()
-    ensures { (events : List Event) → ResetsWait (run events).this × ResetsWait (run events).that }
+    ensures { (events : List NodeEvent) → ResetsWait (run events).this × ResetsWait (run events).that }
 {}
 
 /// After every schedule after which nothing moves any more, both hosts are idle: no link has a message, nothing
 /// waits, and what is given and has not gone may not go. Such are two hosts at their start, and where they have
 /// come up; with an RST that waits they are not.
 pub fn where_nothing_moves_nothing_is_left()
-    ensures begins { IsSettled start }
-    ensures up { IsSettled (run (comes_up This)) }
-    ensures asked { IsSettled (run (by This Calls_reset ∷ [])) → ⊥ }
-    ensures ever { (events : List Event) → IsSettled (run events) → IsIdle (run events).this × IsIdle (run events).that }
+    ensures begins { IsSettledInModel start }
+    ensures up { IsSettledInModel (run (comes_up This)) }
+    ensures asked { IsSettledInModel (run (by This Calls_reset ∷ [])) → ⊥ }
+    ensures ever { (events : List NodeEvent) → IsSettledInModel (run events) → IsIdle (run events).this × IsIdle (run events).that }
 {}
 
 /// What would wait for nothing: a sender that is to close and has no text out; a receiver that is to close, though its

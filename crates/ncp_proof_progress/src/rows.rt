@@ -6,7 +6,7 @@ ghost use Rattle.ncp_model.specs.Peers.{Ask_to_send, Ask_to_receive, Close, Give
 ghost use Rattle.ncp_model.specs.Phase.{up_phase};
 ghost use Rattle.ncp_model.specs.Rows.{outward, inward, ones, opened_end, counting, storing, due, gone};
 ghost use Rattle.ncp_proof_progress.specs.WorkRows.{work_by, loaded_end};
-ghost use Rattle.ncp_proof_progress.specs.Work.{causes_all, queue_work, end_work, end_work_at, phase_work, adds, takes_away, credit};
+ghost use Rattle.ncp_proof_progress.specs.Work.{causes_all, queue_work, end_work, end_work_at, phase_work, work_added, takes_away, credit};
 
 use ncp_terms::Command;
 
@@ -55,15 +55,15 @@ pub fn credits_are_met()
 /// Each command that comes may add what it causes, and one that makes an end, or is answered, does; so does
 /// a text that no end admits. A text that goes out takes two away where it has one byte.
 pub fn causes_are_met()
-    ensures rts { work_by outward (Rts_comes 2 false 0) None ≡ adds outward (Rts_comes 2 false 0) None }
-    ensures str { work_by inward (Str_comes 8 0) None ≡ adds inward (Str_comes 8 0) None }
-    ensures cls { work_by outward Cls_comes None ≡ adds outward Cls_comes None }
-    ensures all { work_by outward (All_comes 2 1 8) None ≡ adds outward (All_comes 2 1 8) None }
-    ensures gvb { work_by outward (Gvb_comes 2 128 128) (Some (counting 2 16)) ≡ end_work outward (counting 2 16) + adds outward (Gvb_comes 2 128 128) (Some (counting 2 16)) }
-    ensures ret { work_by inward (Ret_comes 2 1 8) None ≡ adds inward (Ret_comes 2 1 8) None }
-    ensures inr { work_by outward (Inr_comes 2) None ≡ adds outward (Inr_comes 2) None }
-    ensures ins { work_by inward (Ins_comes 2) None ≡ adds inward (Ins_comes 2) None }
-    ensures text { work_by inward (Text_comes [] 8 (ones 8)) None ≡ adds inward (Text_comes [] 8 (ones 8)) None }
+    ensures rts { work_by outward (Rts_comes 2 false 0) None ≡ work_added outward (Rts_comes 2 false 0) None }
+    ensures str { work_by inward (Str_comes 8 0) None ≡ work_added inward (Str_comes 8 0) None }
+    ensures cls { work_by outward Cls_comes None ≡ work_added outward Cls_comes None }
+    ensures all { work_by outward (All_comes 2 1 8) None ≡ work_added outward (All_comes 2 1 8) None }
+    ensures gvb { work_by outward (Gvb_comes 2 128 128) (Some (counting 2 16)) ≡ end_work outward (counting 2 16) + work_added outward (Gvb_comes 2 128 128) (Some (counting 2 16)) }
+    ensures ret { work_by inward (Ret_comes 2 1 8) None ≡ work_added inward (Ret_comes 2 1 8) None }
+    ensures inr { work_by outward (Inr_comes 2) None ≡ work_added outward (Inr_comes 2) None }
+    ensures ins { work_by inward (Ins_comes 2) None ≡ work_added inward (Ins_comes 2) None }
+    ensures text { work_by inward (Text_comes [] 8 (ones 8)) None ≡ work_added inward (Text_comes [] 8 (ones 8)) None }
     ensures text_out { work_by outward Text_goes_out (Some loaded_end) ≡ 2 }
     ensures text_out_takes_away { takes_away (happens outward Text_goes_out (Some loaded_end)).outcome ≡ 2 }
     ensures text_out_before { end_work outward loaded_end ≡ 4 }

@@ -4,14 +4,13 @@ ghost use Rattle.std.specs.FinMap.{get};
 ghost use Rattle.ncp_model.specs.End.{End};
 ghost use Rattle.ncp_model.specs.Ends.{Ends, cut_in, no_ends, put};
 ghost use Rattle.ncp_model.specs.Happenings.{Happening, happens};
-ghost use Rattle.ncp_model.specs.Phase.{Phase, makes_all, settles, goes_down, resets, hears_rst};
+ghost use Rattle.ncp_model.specs.Phase.{Phase, makes_all, phase_settles, goes_down, resets, hears_rst};
 ghost use Rattle.ncp_model.specs.Sending.{next_commands};
 ghost use Rattle.ncp_terms.specs.declared.fault.CommandFault.{CommandFault};
 ghost use Rattle.ncp_model.specs.Act.{answer};
 ghost use Rattle.ncp_model.specs.Happenings.{of_cut};
-ghost use Rattle.ncp_model.specs.Peers.{Peer, Call, calls, calls_echo, calls_reset, hears, hears_fault, hears_text, cuts, sends, frees, falls};
-ghost use Rattle.ncp_model.specs.Peers as peers;
-ghost use Rattle.ncp_proof_progress.specs.Work.{causes, peer_work, credit, queue_work, phase_work, end_work_at, happened_work, adds, takes_away, ends_work};
+ghost use Rattle.ncp_model.specs.Peers.{Peer, PairCall, calls, calls_echo, calls_reset, hears, hears_fault, hears_text, cuts, peer_sends, frees, falls, settles};
+ghost use Rattle.ncp_proof_progress.specs.Work.{causes, peer_work, credit, queue_work, phase_work, end_work_at, happened_work, work_added, takes_away, ends_work};
 
 use ncp_model::Pair;
 use ncp_terms::Command;
@@ -19,7 +18,7 @@ use ncp_terms::Command;
 /// Whatever happens to an end, sound or not: the commands made and the end afterwards have no more
 /// work than the end had, and what the happening adds; a text that goes out takes two away.
 pub fn what_happens_is_paid_for()
-    ensures { (pair : Pair) (what : Happening) (before : Option End) → happened_work pair (happens pair what before) + takes_away (happens pair what before).outcome ≤ end_work_at pair before + adds pair what before }
+    ensures { (pair : Pair) (what : Happening) (before : Option End) → happened_work pair (happens pair what before) + takes_away (happens pair what before).outcome ≤ end_work_at pair before + work_added pair what before }
 {}
 
 /// The work of all ends is a sum: where one end changes, by as much as its own; a clearing leaves none.
@@ -33,7 +32,7 @@ pub fn ends_add_up()
 pub fn phases_are_paid_for()
     ensures makes { (cs : List Command) (q : Phase) → phase_work (makes_all cs q) ≤ phase_work q + queue_work cs }
     ensures sends { (waiting : List Command) → queue_work (next_commands waiting) + queue_work (drop (length (next_commands waiting)) waiting) ≡ queue_work waiting }
-    ensures settles { (quiet : Bool) (q : Phase) → phase_work (settles quiet q) ≤ phase_work q }
+    ensures settles { (quiet : Bool) (q : Phase) → phase_work (phase_settles quiet q) ≤ phase_work q }
     ensures falls { (q : Phase) → phase_work (goes_down q) ≤ phase_work q }
     ensures resets { (quiet : Bool) (q : Phase) → phase_work (resets quiet q) ≤ phase_work q + 2 }
     ensures hears_rst { (quiet : Bool) (q : Phase) → phase_work (hears_rst quiet q) ≤ phase_work q + 1 }
@@ -45,7 +44,7 @@ pub fn what_comes_is_paid_for()
     ensures command { (quiet : Bool) (c : Command) (p : Peer) → peer_work (hears quiet c p) ≤ peer_work p + causes c }
     ensures fault { (fault : CommandFault) (p : Peer) → peer_work (hears_fault fault p) ≤ peer_work p + 1 }
     ensures text { (on : ℕ) (head : List Bool) (of_size : ℕ) (text : List Bool) (p : Peer) → peer_work (hears_text on head of_size text p) ≤ peer_work p + 1 }
-    ensures call { (pair : Pair) (call : Call) (p : Peer) → peer_work (calls pair call p) ≤ peer_work p + credit call (get p.ends pair) }
+    ensures call { (pair : Pair) (call : PairCall) (p : Peer) → peer_work (calls pair call p) ≤ peer_work p + credit call (get p.ends pair) }
     ensures echo { (byte : ℕ) (p : Peer) → peer_work (calls_echo byte p) ≤ peer_work p + 2 }
     ensures reset { (quiet : Bool) (p : Peer) → peer_work (calls_reset quiet p) ≤ peer_work p + 2 }
 {}
@@ -54,8 +53,8 @@ pub fn what_comes_is_paid_for()
 /// The answer to a text, settling and going down add nothing.
 pub fn what_goes_out_pays()
     ensures text { (on : ℕ) (p : Peer) → peer_work (cuts on p) + takes_away (of_cut (answer (cut_in on p.ends))) ≤ peer_work p }
-    ensures commands { (p : Peer) → peer_work (sends p) + queue_work (next_commands p.phase.waiting) ≡ peer_work p }
+    ensures commands { (p : Peer) → peer_work (peer_sends p) + queue_work (next_commands p.phase.waiting) ≡ peer_work p }
     ensures answered { (on : ℕ) (p : Peer) → peer_work (frees on p) ≤ peer_work p }
-    ensures settled { (quiet : Bool) (p : Peer) → peer_work (peers.settles quiet p) ≤ peer_work p }
+    ensures settled { (quiet : Bool) (p : Peer) → peer_work (settles quiet p) ≤ peer_work p }
     ensures fallen { (p : Peer) → peer_work (falls p) ≤ peer_work p }
 {}

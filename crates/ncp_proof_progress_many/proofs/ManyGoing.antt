@@ -8,13 +8,10 @@ use Rattle.ncp_host.specs.Turns.{next_output}
 use Rattle.ncp_transcript.specs.Noting.{note_of_message}
 use Rattle.ncp_transcript_two.specs.declared.side.Side.TheVariants.{A}
 use Rattle.ncp_transcript_two.specs.declared.note.Note.{Note}
-use Rattle.ncp_transcript_two.specs.declared.note.Note.TheVariants as notes
 use Rattle.ncp_transcript_two.specs.Between.{Hosts, transit_of}
-use Rattle.ncp_transcript_two.specs.Happening.{came, answered}
+use Rattle.ncp_transcript_two.specs.Happening.{note_of_coming, note_of_answering}
 use Rattle.ncp_transcript_many.specs.declared.many_event.ManyEvent.{ManyEvent}
-use Rattle.ncp_transcript_many.specs.declared.many_event.ManyEvent.TheVariants as events
 use Rattle.ncp_transcript_many.specs.declared.many_note.ManyNote.{ManyNote}
-use Rattle.ncp_transcript_many.specs.declared.many_note.ManyNote.TheVariants as many
 use Rattle.ncp_transcript_many.specs.Crowd.{Crowd, host_at, between, after_many, after_many_notes}
 use Rattle.ncp_transcript_many.specs.ManyHappening.{are_there, by_numbers, IfThere, ManyNoted}
 use Rattle.ncp_transcript_many.specs.ManyTranscript.{IsManySaid, Noted_many}
@@ -24,36 +21,36 @@ use Rattle.ncp_proof_progress_many.specs.ManySettling.{ManyByItself, AllManyByTh
 -- A message that goes out, comes or is answered, where its note says something, does so by itself.
 
 abbrev pub OfMessage : ManyEvent → Type 0
-OfMessage (events.Out host) = Unit {0}
-OfMessage (events.Deliver from to link) = Unit {0}
-OfMessage (events.Answer from to link) = Unit {0}
+OfMessage (ManyEvent.Out host) = Unit {0}
+OfMessage (ManyEvent.Deliver from to link) = Unit {0}
+OfMessage (ManyEvent.Answer from to link) = Unit {0}
 OfMessage event = ⊥
 
 abbrev Own : Crowd → ManyNote → Type 0
 Own m note = many_says_nothing note ≡ false → ManyByItself note m
 
-out-own : (host : ℕ) (o : Option (List Bool)) (m : Crowd) → Own m (many.Out host (note_of_message o))
+out-own : (host : ℕ) (o : Option (List Bool)) (m : Crowd) → Own m (ManyNote.Out host (note_of_message o))
 out-own host None m says = absurd (cc says)
 out-own host (Some message) m says = tt
 
-came-own : (from to link : ℕ) (o : Option (List Bool)) (w : Hosts) (m : Crowd) → Own m (by_numbers from to (came A link o w))
+came-own : (from to link : ℕ) (o : Option (List Bool)) (w : Hosts) (m : Crowd) → Own m (by_numbers from to (note_of_coming A link o w))
 came-own from to link None w m says = absurd (cc says)
 came-own from to link (Some bits) w m says = tt
 
-answered-own : (from to link : ℕ) (o : Option (List Bool)) (w : Hosts) (m : Crowd) → Own m (by_numbers from to (answered A link o w))
+answered-own : (from to link : ℕ) (o : Option (List Bool)) (w : Hosts) (m : Crowd) → Own m (by_numbers from to (note_of_answering A link o w))
 answered-own from to link None w m says = absurd (cc says)
 answered-own from to link (Some bits) w m says = tt
 
 own-there : (event : ManyEvent) (note : ManyNote) (m : Crowd) (b : Bool) → OfMessage event → IfThere b event note m → Own m note
 own-there event note m false u n = subst (Own m) (sym n) (λ says. absurd (cc says))
-own-there (events.Call host call) note m true u n = absurd u
-own-there (events.Lose from to link) note m true u n = absurd u
-own-there (events.Dead from to link) note m true u n = absurd u
-own-there (events.Out host) note m true u n = subst (Own m) (sym (n.said ∙ ap (by_numbers host host) n.noted)) (out-own host (next_output (host_at host m)) m)
-own-there (events.Deliver from to link) note m true u n =
+own-there (ManyEvent.Call host call) note m true u n = absurd u
+own-there (ManyEvent.Lose from to link) note m true u n = absurd u
+own-there (ManyEvent.Dead from to link) note m true u n = absurd u
+own-there (ManyEvent.Out host) note m true u n = subst (Own m) (sym (n.said ∙ ap (by_numbers host host) n.noted)) (out-own host (next_output (host_at host m)) m)
+own-there (ManyEvent.Deliver from to link) note m true u n =
     let w : Hosts = between from to m in
     subst (Own m) (sym (n.said ∙ ap (by_numbers from to) n.noted)) (came-own from to link (arriving from (transit_of A link w)) w m)
-own-there (events.Answer from to link) note m true u n =
+own-there (ManyEvent.Answer from to link) note m true u n =
     let w : Hosts = between from to m in
     subst (Own m) (sym (n.said ∙ ap (by_numbers from to) n.noted)) (answered-own from to link (answer_about to link (transit_of A link w)) w m)
 

@@ -3,25 +3,21 @@ use Rattle.std.proofs.Common.{◌≡◌, ◌≢◌, ◌≤◌, ◌+◌, ℕ, ◌
 use Rattle.std.proofs.lemmas.Bool.{eqb-true, and_parts}
 use Rattle.std.proofs.lemmas.List.{append_assoc}
 use Rattle.ncp_slot.specs.Slots.{slot_at}
-use Rattle.ncp_proof_machine.specs.Hosts as hosts
 use Rattle.ncp_host.specs.PeerState.{PeerState}
-use Rattle.ncp_transcript.specs.declared.call.Call.TheVariants as calls
+use Rattle.ncp_transcript.specs.declared.call.Call.{Call}
 use Rattle.ncp_transcript.specs.declared.note.HostNote.{HostNote}
-use Rattle.ncp_transcript.specs.declared.note.HostNote.TheVariants as of_host
 use Rattle.ncp_transcript_two.specs.World.{World}
 use Rattle.ncp_transcript_two.specs.Tie.{Tied}
 use Rattle.ncp_transcript_two.specs.declared.side.Side.{Side}
 use Rattle.ncp_transcript_two.specs.declared.side.Side.TheVariants.{A, B}
 use Rattle.ncp_transcript_two.specs.declared.note.Note.{Note}
-use Rattle.ncp_transcript_two.specs.declared.note.Note.TheVariants as notes
-use Rattle.ncp_transcript_two.specs.Between.{Hosts, new_hosts, after_note, after_notes}
+use Rattle.ncp_transcript_two.specs.Between.{Hosts, new_hosts, hosts_after_note, hosts_after_notes}
 use Rattle.ncp_transcript_two.specs.Transcript.{IsSaid, IsRun, IsTranscript, Noted_world}
 use Rattle.ncp_transcript_two.proofs.Growing.{after_append}
 use Rattle.ncp_transcript_two.specs.Seen.{state_or_new, had_for, seen}
 use Rattle.ncp_transcript_many.specs.declared.many_note.ManyNote.{ManyNote}
-use Rattle.ncp_transcript_many.specs.declared.many_note.ManyNote.TheVariants as many
 use Rattle.ncp_transcript_many.specs.Crowd.{Crowd, numbers_in, is_there, host_at, between, after_many, after_many_notes}
-use Rattle.ncp_transcript_many.specs.ManyTranscript.{IsManyRun, began, IsManyTranscript, Noted_many}
+use Rattle.ncp_transcript_many.specs.ManyTranscript.{IsManyRun, crowd_began, IsManyTranscript, Noted_many}
 use Rattle.ncp_transcript_many.specs.Pairs.{two_of, side_of_pair, if_side, note_between, notes_between, hosts_between}
 use Rattle.ncp_transcript_many.proofs.Agreeing.{Fine, Agrees}
 use Rattle.ncp_transcript_many.proofs.Stepping.{fine-after, paired}
@@ -40,31 +36,31 @@ fine-notes : (ns : List ManyNote) (m : Crowd) → Fine m → IsManyRun ns m → 
 fine-notes [] m f r = f
 fine-notes (n ∷ ns) m f r = fine-notes ns (after_many n m) (fine-after m f r.0.0 n r.0.1) r.1
 
-agrees-notes : (a b : ℕ) (ns : List ManyNote) (m : Crowd) (w : Hosts) → w.number_a ≡ a → w.number_b ≡ b → Fine m → Agrees m w → IsManyRun ns m → Agrees (after_many_notes ns m) (after_notes (notes_between a b ns) w)
+agrees-notes : (a b : ℕ) (ns : List ManyNote) (m : Crowd) (w : Hosts) → w.number_a ≡ a → w.number_b ≡ b → Fine m → Agrees m w → IsManyRun ns m → Agrees (after_many_notes ns m) (hosts_after_notes (notes_between a b ns) w)
 agrees-notes a b [] m w ea eb f g r = g
 agrees-notes a b (n ∷ ns) m w ea eb f g r =
     let one : List Note = note_between a b n in
-    let more : Agrees (after_many_notes ns (after_many n m)) (after_notes (notes_between a b ns) (after_notes one w)) =
-    agrees-notes a b ns (after_many n m) (after_notes one w) (a-stays one w ∙ ea) (b-stays one w ∙ eb) (fine-after m f r.0.0 n r.0.1) step r.1 in
+    let more : Agrees (after_many_notes ns (after_many n m)) (hosts_after_notes (notes_between a b ns) (hosts_after_notes one w)) =
+    agrees-notes a b ns (after_many n m) (hosts_after_notes one w) (a-stays one w ∙ ea) (b-stays one w ∙ eb) (fine-after m f r.0.0 n r.0.1) step r.1 in
     subst (Agrees (after_many_notes ns (after_many n m))) (sym (after_append one (notes_between a b ns) w)) more
   where
-    step : Agrees (after_many n m) (after_notes (note_between a b n) w)
+    step : Agrees (after_many n m) (hosts_after_notes (note_between a b n) w)
     step =
-        subst (λ (i : ℕ). Agrees (after_many n m) (after_notes (note_between i b n) w)) ea
-        (subst (λ (j : ℕ). Agrees (after_many n m) (after_notes (note_between w.number_a j n) w)) eb (paired m f w g r.0.0 n r.0.1).1)
+        subst (λ (i : ℕ). Agrees (after_many n m) (hosts_after_notes (note_between i b n) w)) ea
+        (subst (λ (j : ℕ). Agrees (after_many n m) (hosts_after_notes (note_between w.number_a j n) w)) eb (paired m f w g r.0.0 n r.0.1).1)
 
 pub fine-of : (ns : List ManyNote) (m : Crowd) → IsManyTranscript ns m → Fine m
-fine-of ns m t = subst Fine (sym t.state) (fine-notes ns (began m) (new-fine (numbers_in m) t.hosts t.fits) t.run)
+fine-of ns m t = subst Fine (sym t.state) (fine-notes ns (crowd_began m) (new-fine (numbers_in m) t.hosts t.fits) t.run)
 
 agrees-of : (ns : List ManyNote) (m : Crowd) → IsManyTranscript ns m → (a b : ℕ) → is_there a m ≡ true → is_there b m ≡ true → a ≢ b → Agrees m (hosts_between a b ns)
 agrees-of ns m t a b i j differ =
     subst (λ (x : Crowd). Agrees x (hosts_between a b ns)) (sym t.state)
-    (agrees-notes a b ns (began m) (new_hosts a b) refl refl (new-fine (numbers_in m) t.hosts t.fits) (new-agrees (numbers_in m) t.hosts t.fits a b i j differ) t.run)
+    (agrees-notes a b ns (crowd_began m) (new_hosts a b) refl refl (new-fine (numbers_in m) t.hosts t.fits) (new-agrees (numbers_in m) t.hosts t.fits a b i j differ) t.run)
 
 -- some notes, and then others
-all-append : (some more : List Note) (w : Hosts) → AllByThemselves some w → AllByThemselves more (after_notes some w) → AllByThemselves (some ++ more) w
+all-append : (some more : List Note) (w : Hosts) → AllByThemselves some w → AllByThemselves more (hosts_after_notes some w) → AllByThemselves (some ++ more) w
 all-append [] more w a rest = rest
-all-append (n ∷ ns) more w a rest = (a.0, a.1, all-append ns more (after_note n w) a.2 rest)
+all-append (n ∷ ns) more w a rest = (a.0, a.1, all-append ns more (hosts_after_note n w) a.2 rest)
 
 -- what a host holds for a peer among many, it holds in a world of the two
 
@@ -100,14 +96,14 @@ one-between m w note g r own = go (side_of_pair w.number_a w.number_b (two_of no
   where
     go : (o : Option Side) (note : ManyNote) → side_of_pair w.number_a w.number_b (two_of note) ≡ o → IsRun (if_side o note) w → ManyByItself note m → AllByThemselves (if_side o note) w
     go None note e r own = tt
-    go (Some side) (many.Out host (of_host.Out message)) e r own = (r.0, tt, tt)
-    go (Some side) (many.Came from to link n) e r own = (r.0, tt, tt)
-    go (Some side) (many.Answered from to link n) e r own = (r.0, tt, tt)
-    go (Some side) (many.Called host (of_host.Done (calls.Wake peer))) e r own = (r.0, holds m w host peer side g e own, tt)
+    go (Some side) (ManyNote.Out host (HostNote.Out message)) e r own = (r.0, tt, tt)
+    go (Some side) (ManyNote.Came from to link n) e r own = (r.0, tt, tt)
+    go (Some side) (ManyNote.Answered from to link n) e r own = (r.0, tt, tt)
+    go (Some side) (ManyNote.Called host (HostNote.Done (Call.Wake peer))) e r own = (r.0, holds m w host peer side g e own, tt)
     go (Some side) note e r own = absurd own
 
 abbrev OneGoes : ManyNote → Crowd → Hosts → ℕ → ℕ → Type 0
-OneGoes note m w i j = AllByThemselves (note_between i j note) w × Agrees (after_many note m) (after_notes (note_between i j note) w)
+OneGoes note m w i j = AllByThemselves (note_between i j note) w × Agrees (after_many note m) (hosts_after_notes (note_between i j note) w)
 
 -- all of them
 all-between : (a b : ℕ) (made : List ManyNote) (m : Crowd) (w : Hosts) → w.number_a ≡ a → w.number_b ≡ b → Fine m → Agrees m w → AllManyByThemselves made m → AllByThemselves (notes_between a b made) w
@@ -115,7 +111,7 @@ all-between a b [] m w ea eb f g all = tt
 all-between a b (note ∷ rest) m w ea eb f g all =
     let one : List Note = note_between a b note in
     all-append one (notes_between a b rest) w step.0
-    (all-between a b rest (after_many note m) (after_notes one w) (a-stays one w ∙ ea) (b-stays one w ∙ eb) (fine-after m f all.0.0 note all.0.1) step.1 all.2)
+    (all-between a b rest (after_many note m) (hosts_after_notes one w) (a-stays one w ∙ ea) (b-stays one w ∙ eb) (fine-after m f all.0.0 note all.0.1) step.1 all.2)
   where
     step : OneGoes note m w a b
     step =
@@ -133,7 +129,7 @@ within-each before now t (made, all, longer, after) a b i j differ =
     let w : Hosts = hosts_between a b ns in
     let two : List Note = notes_between a b made in
     let first : Noted_world = record { hosts = w; notes = notes_between a b ns } in
-    let last : Noted_world = record { hosts = after_notes two w; notes = notes_between a b ns ++ two } in
+    let last : Noted_world = record { hosts = hosts_after_notes two w; notes = notes_between a b ns ++ two } in
     let on : AllByThemselves two w = all-between a b made m w (a-stays (notes_between a b ns) (new_hosts a b)) (b-stays (notes_between a b ns) (new_hosts a b)) (fine-of ns m t) (agrees-of ns m t a b i j differ) all in
     let r : IsWithinWork first last = within first last (pair-runs ns m t a b i j differ) (two, on, refl, refl) in
     let is : notes_between a b now.notes ≡ notes_between a b ns ++ two = ap (notes_between a b) longer ∙ between-append a b ns made in (

@@ -16,22 +16,19 @@ use Rattle.ncp_host.specs.Calls.{kept_for}
 use Rattle.ncp_host.specs.Output.{next_of}
 use Rattle.ncp_host.specs.Turns.{first_message, message_in_turn, next_output}
 use Rattle.ncp_proof_runs.proofs.States.{message_cons}
-use Rattle.ncp_transcript.specs.declared.call.Call.TheVariants as calls
+use Rattle.ncp_transcript.specs.declared.call.Call.{Call}
 use Rattle.ncp_transcript.specs.declared.note.HostNote.{HostNote}
-use Rattle.ncp_transcript.specs.declared.note.HostNote.TheVariants as of_host
 use Rattle.ncp_transcript.specs.Notes.{done_or_refused}
 use Rattle.ncp_transcript.specs.Noting.{CallNoted, note_of_message}
-use Rattle.ncp_transcript_two.specs.Subnet.{Holds, Subnet, Free, Accepted, Delivered, Lost, Dead}
+use Rattle.ncp_transcript_two.specs.Subnet.{Holds, TransitByLink, Free, Accepted, Delivered, Lost, Dead}
 use Rattle.ncp_transcript_two.specs.World.{World}
 use Rattle.ncp_transcript_two.specs.Tie.{Stands}
 use Rattle.ncp_transcript_two.specs.declared.side.Side.TheVariants.{A}
 use Rattle.ncp_transcript_two.specs.Between.{Hosts}
-use Rattle.ncp_transcript_two.specs.Happening.{came, answered}
+use Rattle.ncp_transcript_two.specs.Happening.{note_of_coming, note_of_answering}
 use Rattle.ncp_transcript_two.specs.Seen.{state_or_new, had_for, seen}
 use Rattle.ncp_transcript_many.specs.declared.many_event.ManyEvent.{ManyEvent}
-use Rattle.ncp_transcript_many.specs.declared.many_event.ManyEvent.TheVariants as events
 use Rattle.ncp_transcript_many.specs.declared.many_note.ManyNote.{ManyNote}
-use Rattle.ncp_transcript_many.specs.declared.many_note.ManyNote.TheVariants as many
 use Rattle.ncp_transcript_many.specs.Crowd.{Crowd, is_there, host_at, between}
 use Rattle.ncp_transcript_many.specs.ManyHappening.{are_there, are_two, by_numbers, IsOfTwo, IfThere, ManyNoted}
 use Rattle.ncp_transcript_many.specs.ManyTranscript.{IsManyTranscript, Noted_many}
@@ -64,14 +61,14 @@ noted-there : (event : ManyEvent) (note : ManyNote) (m : Crowd) → are_there ev
 noted-there event note m there noted = subst (λ (b : Bool). IfThere b event note m) there noted
 
 module _ (w : Noted_many) (from : ℕ) (there : is_there from w.crowd ≡ true) where
-  no-message : (o : Option (List Bool)) → many_says_nothing (many.Out from (note_of_message o)) ≡ true → o ≡ None
+  no-message : (o : Option (List Bool)) → many_says_nothing (ManyNote.Out from (note_of_message o)) ≡ true → o ≡ None
   no-message None says = refl
   no-message (Some message) says = absurd (cc says)
 
   -- no link was ready
-  pub none-out : (after : Noted_many) → IsManyTried (events.Out from) false w after → next_output (host_at from w.crowd) ≡ None
+  pub none-out : (after : Noted_many) → IsManyTried (ManyEvent.Out from) false w after → next_output (host_at from w.crowd) ≡ None
   none-out after (note, noted, says, same) =
-      let two = noted-there (events.Out from) note w.crowd there noted in
+      let two = noted-there (ManyEvent.Out from) note w.crowd there noted in
       no-message (next_output (host_at from w.crowd)) (ap many_says_nothing (sym (two.said ∙ ap (by_numbers from from) two.noted)) ∙ says)
 
 -- One host, of which nothing is ready, and a peer.
@@ -81,7 +78,7 @@ module _ (w : Noted_many) (t : IsManyTranscript w.notes w.crowd) (from to : ℕ)
   abbrev has : PeerState
   has = had_for to (host_at from w.crowd)
 
-  abbrev flow : Subnet
+  abbrev flow : TransitByLink
   flow on = transit_at w.crowd.subnet from to on
 
   stands : (n : Node) × Stands to n has flow
@@ -103,21 +100,21 @@ module _ (w : Noted_many) (t : IsManyTranscript w.notes w.crowd) (from to : ℕ)
   known-of None on e = absurd (cc e)
   known-of (Some s) on e = (s, refl)
 
-  woken : (peer : ℕ) (s : PeerState) (h : Host) (n : HostNote) → state_of h peer ≡ Some s → CallNoted (calls.Wake peer) n h → n ≡ of_host.Done (calls.Wake peer)
-  woken peer s h n e (inl is) = is ∙ ap (λ (o : Option PeerState). done_or_refused (calls.Wake peer) (if_known o (λ x. Ok tt))) e
+  woken : (peer : ℕ) (s : PeerState) (h : Host) (n : HostNote) → state_of h peer ≡ Some s → CallNoted (Call.Wake peer) n h → n ≡ HostNote.Done (Call.Wake peer)
+  woken peer s h n e (inl is) = is ∙ ap (λ (o : Option PeerState). done_or_refused (Call.Wake peer) (if_known o (λ x. Ok tt))) e
   woken peer s h n e (inr want) = absurd (cc want.takes)
 
   abbrev two_hosts : Hosts
   two_hosts = between from to w.crowd
 
-  cannot-come : (link : ℕ) (h : Holds) → many_says_nothing (by_numbers from to (came A link (arriving from h) two_hosts)) ≡ true → is_accepted h ≡ false
+  cannot-come : (link : ℕ) (h : Holds) → many_says_nothing (by_numbers from to (note_of_coming A link (arriving from h) two_hosts)) ≡ true → is_accepted h ≡ false
   cannot-come link Free says = refl
   cannot-come link (Accepted m) says = absurd (cc says)
   cannot-come link Delivered says = refl
   cannot-come link Lost says = refl
   cannot-come link Dead says = refl
 
-  cannot-answer : (link : ℕ) (h : Holds) → many_says_nothing (by_numbers from to (answered A link (answer_about to link h) two_hosts)) ≡ true → answer_kind h ≡ None
+  cannot-answer : (link : ℕ) (h : Holds) → many_says_nothing (by_numbers from to (note_of_answering A link (answer_about to link h) two_hosts)) ≡ true → answer_kind h ≡ None
   cannot-answer link Free says = refl
   cannot-answer link (Accepted m) says = refl
   cannot-answer link Delivered says = absurd (cc says)
@@ -125,29 +122,29 @@ module _ (w : Noted_many) (t : IsManyTranscript w.notes w.crowd) (from to : ℕ)
   cannot-answer link Dead says = absurd (cc says)
 
   -- one is kept, and does not come and is not answered: it is held, and so the wake of the peer is done
-  pub wakes : (link : ℕ) (n1 n2 n3 : Noted_many) → is_some (kept_for (state_of (host_at from w.crowd) to) link) ≡ true → IsManyTried (events.Deliver from to link) false w n1 → IsManyTried (events.Answer from to link) false n1 n2
-      → IsManyTried (events.Call from (calls.Wake to)) true n2 n3 → ManyGoOnce w n3
+  pub wakes : (link : ℕ) (n1 n2 n3 : Noted_many) → is_some (kept_for (state_of (host_at from w.crowd) to) link) ≡ true → IsManyTried (ManyEvent.Deliver from to link) false w n1 → IsManyTried (ManyEvent.Answer from to link) false n1 n2
+      → IsManyTried (ManyEvent.Call from (Call.Wake to)) true n2 n3 → ManyGoOnce w n3
   wakes link n1 n2 n3 kept came_not answered_not call =
       let e1 : n1 ≡ w = came_not.3 in
       let e2 : n2 ≡ w = answered_not.3 ∙ e1 in
-      let a : IsManyTried (events.Answer from to link) false w n2 = subst (λ (x : Noted_many). IsManyTried (events.Answer from to link) false x n2) e1 answered_not in
-      let c : IsManyTried (events.Call from (calls.Wake to)) true w n3 = subst (λ (x : Noted_many). IsManyTried (events.Call from (calls.Wake to)) true x n3) e2 call in
-      let gone = noted-there (events.Deliver from to link) came_not.0 w.crowd both came_not.1 in
-      let told = noted-there (events.Answer from to link) a.0 w.crowd both a.1 in
+      let a : IsManyTried (ManyEvent.Answer from to link) false w n2 = subst (λ (x : Noted_many). IsManyTried (ManyEvent.Answer from to link) false x n2) e1 answered_not in
+      let c : IsManyTried (ManyEvent.Call from (Call.Wake to)) true w n3 = subst (λ (x : Noted_many). IsManyTried (ManyEvent.Call from (Call.Wake to)) true x n3) e2 call in
+      let gone = noted-there (ManyEvent.Deliver from to link) came_not.0 w.crowd both came_not.1 in
+      let told = noted-there (ManyEvent.Answer from to link) a.0 w.crowd both a.1 in
       let here : is_accepted (flow link) ≡ false = cannot-come link (flow link) (ap many_says_nothing (sym (gone.said ∙ ap (by_numbers from to) gone.noted)) ∙ came_not.2) in
       let away : answer_kind (flow link) ≡ None = cannot-answer link (flow link) (ap many_says_nothing (sym (told.said ∙ ap (by_numbers from to) told.noted)) ∙ a.2) in
       let s = stands in
       let held : is_held (slot_at has.slots link) ≡ true = held-on to s.0 has flow s.1 nothing-next link (sym (ap is_some (kept-is (state_of (host_at from w.crowd) to) link)) ∙ kept) here away in
-      let one = noted-there (events.Call from (calls.Wake to)) c.0 w.crowd i c.1 in
+      let one = noted-there (ManyEvent.Call from (Call.Wake to)) c.0 w.crowd i c.1 in
       let known = known-of (state_of (host_at from w.crowd) to) link kept in
-      let said : c.0 ≡ many.Called from (of_host.Done (calls.Wake to)) =
-      one.said ∙ ap (by_numbers from from) one.noted.said ∙ ap (many.Called from) (woken to known.0 (host_at from w.crowd) one.noted.of_host known.1 one.noted.noted) in
-      (c.0, (events.Call from (calls.Wake to), c.1), subst (λ (x : ManyNote). ManyByItself x w.crowd) (sym said) (link, held), c.3, c.4)
+      let said : c.0 ≡ ManyNote.Called from (HostNote.Done (Call.Wake to)) =
+      one.said ∙ ap (by_numbers from from) one.noted.said ∙ ap (ManyNote.Called from) (woken to known.0 (host_at from w.crowd) one.noted.of_host known.1 one.noted.noted) in
+      (c.0, (ManyEvent.Call from (Call.Wake to), c.1), subst (λ (x : ManyNote). ManyByItself x w.crowd) (sym said) (link, held), c.3, c.4)
 
   -- a call always says something
-  pub call-says : (n2 n3 : Noted_many) → n2 ≡ w → IsManyTried (events.Call from (calls.Wake to)) false n2 n3 → ⊥
+  pub call-says : (n2 n3 : Noted_many) → n2 ≡ w → IsManyTried (ManyEvent.Call from (Call.Wake to)) false n2 n3 → ⊥
   call-says n2 n3 e call =
-      let c : IsManyTried (events.Call from (calls.Wake to)) false w n3 = subst (λ (x : Noted_many). IsManyTried (events.Call from (calls.Wake to)) false x n3) e call in
-      let one = noted-there (events.Call from (calls.Wake to)) c.0 w.crowd i c.1 in
-      let is : many_says_nothing (many.Called from one.noted.of_host) ≡ true = ap many_says_nothing (sym (one.said ∙ ap (by_numbers from from) one.noted.said)) ∙ c.2 in
+      let c : IsManyTried (ManyEvent.Call from (Call.Wake to)) false w n3 = subst (λ (x : Noted_many). IsManyTried (ManyEvent.Call from (Call.Wake to)) false x n3) e call in
+      let one = noted-there (ManyEvent.Call from (Call.Wake to)) c.0 w.crowd i c.1 in
+      let is : many_says_nothing (ManyNote.Called from one.noted.of_host) ≡ true = ap many_says_nothing (sym (one.said ∙ ap (by_numbers from from) one.noted.said)) ∙ c.2 in
       absurd (cc is)

@@ -2,16 +2,15 @@
 -- and are answered, and what is held is asked for again. Of each two of them it is what happens to two by itself.
 use Rattle.std.specs.Prelude.{◌≡◌, ◌≢◌, ◌≤◌, ◌+◌, ℕ, Bool, true, false, List, [], ◌∷◌, ◌++◌, length}
 use Rattle.ncp_slot.specs.Slots.{slot_at}
-use Rattle.ncp_proof_machine.specs.Hosts as hosts
-use Rattle.ncp_transcript.specs.declared.call.Call.TheVariants as calls
-use Rattle.ncp_transcript.specs.declared.note.HostNote.TheVariants as of_host
+use Rattle.ncp_proof_machine.specs.Hosts.{TwoNodes}
+use Rattle.ncp_transcript.specs.declared.call.Call.{Call}
+use Rattle.ncp_transcript.specs.declared.note.HostNote.{HostNote}
 use Rattle.ncp_transcript_two.specs.Tie.{Tied}
 use Rattle.ncp_transcript_two.specs.Between.{new_hosts}
 use Rattle.ncp_transcript_two.specs.Seen.{had_for, seen}
 use Rattle.ncp_subnet.specs.Subnet.{transit_at}
 use Rattle.ncp_transcript_many.specs.declared.many_event.ManyEvent.{ManyEvent}
 use Rattle.ncp_transcript_many.specs.declared.many_note.ManyNote.{ManyNote}
-use Rattle.ncp_transcript_many.specs.declared.many_note.ManyNote.TheVariants as many
 use Rattle.ncp_transcript_many.specs.Crowd.{Crowd, is_there, host_at, between, after_many, after_many_notes}
 use Rattle.ncp_transcript_many.specs.ManyHappening.{ManyNoted}
 use Rattle.ncp_transcript_many.specs.ManyTranscript.{IsManySaid, Noted_many}
@@ -31,10 +30,10 @@ AreSettled m = (a b : ℕ) → is_there a m ≡ true → is_there b m ≡ true �
 -- A note of what happens by itself: a message goes out, comes, or is answered; or a host asks again for what it
 -- holds for a peer, of which there is some.
 abbrev pub ManyByItself : ManyNote → Crowd → Type 0
-ManyByItself (many.Out host (of_host.Out message)) m = Unit {0}
-ManyByItself (many.Came from to link note) m = Unit {0}
-ManyByItself (many.Answered from to link note) m = Unit {0}
-ManyByItself (many.Called host (of_host.Done (calls.Wake peer))) m = (on : ℕ) × (is_held (slot_at (had_for peer (host_at host m)).slots on) ≡ true)
+ManyByItself (ManyNote.Out host (HostNote.Out message)) m = Unit {0}
+ManyByItself (ManyNote.Came from to link note) m = Unit {0}
+ManyByItself (ManyNote.Answered from to link note) m = Unit {0}
+ManyByItself (ManyNote.Called host (HostNote.Done (Call.Wake peer))) m = (on : ℕ) × (is_held (slot_at (had_for peer (host_at host m)).slots on) ≡ true)
 ManyByItself note m = ⊥
 
 -- notes of such, one after the other, each as the rules say
@@ -62,13 +61,13 @@ ManyGoOn before now =
 abbrev pub AreWithinWork : Noted_many → Noted_many → Type 0
 AreWithinWork before now =
     (a b : ℕ) → is_there a before.crowd ≡ true → is_there b before.crowd ≡ true → a ≢ b
-    → (x : hosts.World) × Tied x (seen (between a b before.crowd)) × (notes_move (notes_between a b before.notes) + work x ≤ notes_allow (notes_between a b before.notes) (new_hosts a b))
+    → (x : TwoNodes) × Tied x (seen (between a b before.crowd)) × (notes_move (notes_between a b before.notes) + work x ≤ notes_allow (notes_between a b before.notes) (new_hosts a b))
     × (length (notes_between a b now.notes) ≤ length (notes_between a b before.notes) + work x)
 
 -- A note that says nothing: no link was ready, or the subnet had no message to which this may happen.
 abbrev pub many_says_nothing : ManyNote → Bool
-many_says_nothing (many.Out host of_host.Nothing) = true
-many_says_nothing (many.Nothing event) = true
+many_says_nothing (ManyNote.Out host HostNote.Nothing) = true
+many_says_nothing (ManyNote.Nothing event) = true
 many_says_nothing note = false
 
 -- an event was tried: it happened and its note says something, or its note would say nothing and nothing has happened

@@ -1,6 +1,6 @@
 //! The notes of two to eight hosts: what moves is paid for.
 ghost use Rattle.std.specs.Prelude.{List};
-ghost use Rattle.ncp_transcript_many.specs.declared.many_note.ManyNote.{ManyNote as Noted};
+ghost use Rattle.ncp_transcript_many.specs.declared.many_note.ManyNote.{ManyNote};
 ghost use Rattle.ncp_transcript_many.specs.Crowd.{Crowd};
 ghost use Rattle.ncp_transcript_many.specs.ManyTranscript.{IsManyTranscript};
 ghost use Rattle.ncp_transcript_many.specs.Pairs.{ForEachTwo};
@@ -17,9 +17,9 @@ use ncp_proof_settling::settled::where_nothing_can_happen_two_are_finished;
 /// (`waits`); and where no message between the two is ready, in transit or held, they are finished, whatever happens at and
 /// between the others (`finished`).
 pub fn what_moves_between_two_of_many_is_paid_for()
-    ensures work { (notes : List Noted) (m : Crowd) → IsManyTranscript notes m → ForEachTwo MovesArePaidFor notes m }
-    ensures waits { (notes : List Noted) (m : Crowd) → IsManyTranscript notes m → ForEachTwo IsLeftWaiting notes m }
-    ensures finished { (notes : List Noted) (m : Crowd) → IsManyTranscript notes m → ForEachTwo EndsFinished notes m }
+    ensures work { (notes : List ManyNote) (m : Crowd) → IsManyTranscript notes m → ForEachTwo MovesArePaidFor notes m }
+    ensures waits { (notes : List ManyNote) (m : Crowd) → IsManyTranscript notes m → ForEachTwo IsLeftWaiting notes m }
+    ensures finished { (notes : List ManyNote) (m : Crowd) → IsManyTranscript notes m → ForEachTwo EndsFinished notes m }
 {
     moves_are_paid_for();
     what_is_left_waits_for_something();

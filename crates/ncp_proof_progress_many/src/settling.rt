@@ -1,9 +1,9 @@
 //! How much can happen to two to eight hosts by itself.
 ghost use Rattle.std.specs.Prelude.{◌≡◌, ℕ, Bool, List, true};
-ghost use Rattle.ncp_transcript.specs.declared.call.Call.TheVariants as calls;
-ghost use Rattle.ncp_transcript.specs.declared.note.HostNote.TheVariants as of_host;
+ghost use Rattle.ncp_transcript.specs.declared.call.Call.{Call};
+ghost use Rattle.ncp_transcript.specs.declared.note.HostNote.{HostNote};
 ghost use Rattle.ncp_transcript_many.specs.declared.many_event.ManyEvent.{ManyEvent};
-ghost use Rattle.ncp_transcript_many.specs.declared.many_note.ManyNote.TheVariants as notes;
+ghost use Rattle.ncp_transcript_many.specs.declared.many_note.ManyNote.{ManyNote};
 ghost use Rattle.ncp_transcript_many.specs.Crowd.{Crowd};
 ghost use Rattle.ncp_transcript_many.specs.ManyTranscript.{IsManyTranscript, Noted_many};
 ghost use Rattle.ncp_proof_progress_many.specs.ManySettling.{ManyByItself, ManyGoOn, AreWithinWork, many_says_nothing};
@@ -18,10 +18,10 @@ pub fn what_happens_among_many_is_within_the_work()
 /// A message goes out by itself. It is not lost, does not find its destination dead, and no user asks for anything;
 /// nor is it an event where nothing can be.
 pub fn messages_of_many_move_by_themselves()
-    ensures out { (host : ℕ) (message : List Bool) (m : Crowd) → ManyByItself (notes.Out host (of_host.Out message)) m }
-    ensures lost { (from to link : ℕ) (m : Crowd) → ManyByItself (notes.Lost from to link) m → ⊥ }
-    ensures dead { (from to link : ℕ) (m : Crowd) → ManyByItself (notes.FoundDead from to link) m → ⊥ }
-    ensures reset { (host peer : ℕ) (m : Crowd) → ManyByItself (notes.Called host (of_host.Done (calls.Reset peer))) m → ⊥ }
-    ensures nothing { (event : ManyEvent) (m : Crowd) → ManyByItself (notes.Nothing event) m → ⊥ }
-    ensures says { (event : ManyEvent) → many_says_nothing (notes.Nothing event) ≡ true }
+    ensures out { (host : ℕ) (message : List Bool) (m : Crowd) → ManyByItself (ManyNote.Out host (HostNote.Out message)) m }
+    ensures lost { (from to link : ℕ) (m : Crowd) → ManyByItself (ManyNote.Lost from to link) m → ⊥ }
+    ensures dead { (from to link : ℕ) (m : Crowd) → ManyByItself (ManyNote.FoundDead from to link) m → ⊥ }
+    ensures reset { (host peer : ℕ) (m : Crowd) → ManyByItself (ManyNote.Called host (HostNote.Done (Call.Reset peer))) m → ⊥ }
+    ensures nothing { (event : ManyEvent) (m : Crowd) → ManyByItself (ManyNote.Nothing event) m → ⊥ }
+    ensures says { (event : ManyEvent) → many_says_nothing (ManyNote.Nothing event) ≡ true }
 {}

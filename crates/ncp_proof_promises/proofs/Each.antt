@@ -1,12 +1,11 @@
 -- What holds of each step of the rules holds of each note of a transcript.
 use Rattle.std.proofs.Common.{◌≡◌, List, [], ◌∷◌, ◌++◌, Option, None, Some, refl, subst}
-use Rattle.ncp_proof_resets.specs.Resets.{Side, This, That}
-use Rattle.ncp_proof_machine.specs.Hosts as hosts
-use Rattle.ncp_transcript_two.specs.World.{World, swap, Told, Event, moves, at, step, run_from, notes_from}
-use Rattle.ncp_transcript_two.specs.World as worlds
+use Rattle.ncp_proof_resets.specs.Resets.{Party, This, That}
+use Rattle.ncp_proof_machine.specs.Hosts.{TwoNodes, nodes_swapped}
+use Rattle.ncp_transcript_two.specs.World.{World, swap, Told, WorldEvent, moves, at, step, world_run_from, notes_from, WorldNote, WorldStep}
 use Rattle.ncp_transcript_two.specs.Tie.{Tied, IsMove, AreEvents, IsOfModel}
 use Rattle.ncp_transcript_two.specs.declared.note.Note.{Note}
-use Rattle.ncp_transcript_two.specs.Between.{Hosts, after_note}
+use Rattle.ncp_transcript_two.specs.Between.{Hosts, hosts_after_note}
 use Rattle.ncp_transcript_two.specs.Transcript.{IsRun, began, IsTranscript}
 use Rattle.ncp_transcript_two.specs.Seen.{seen, as_rules, told_of, side_of, notes_of}
 use Rattle.ncp_transcript_two.proofs.Ties.{tied-swapped}
@@ -25,24 +24,24 @@ begins-tied ns w t =
     (first.0, first.1)
 
 -- the step of a note, and the rest
-pub tied-after : (note : Note) (w : Hosts) → Follows (note ∷ []) w (seen w) → IsOfModel (seen w) → IsOfModel (seen (after_note note w))
+pub tied-after : (note : Note) (w : Hosts) → Follows (note ∷ []) w (seen w) → IsOfModel (seen w) → IsOfModel (seen (hosts_after_note note w))
 tied-after note w f m = subst IsOfModel f.state (run-ties f.events (seen w) f.are m)
 
-module _ (P : Told → World → World → Type 0) (holds : (st : worlds.Step) (x : hosts.World) (v : World) → IsMove st → Tied x v → P (moves st v).1 v (moves st v).0) where
-  on-side : (e : Event) (v : World) → IsMove e.step → IsOfModel v → OnSide P e.side (step e v).1.told v (step e v).0
+module _ (P : Told → World → World → Type 0) (holds : (st : WorldStep) (x : TwoNodes) (v : World) → IsMove st → Tied x v → P (moves st v).1 v (moves st v).0) where
+  on-side : (e : WorldEvent) (v : World) → IsMove e.step → IsOfModel v → OnSide P e.side (step e v).1.told v (step e v).0
   on-side e v ok m = go e.side
     where
-      go : (side : Side) → OnSide P side (at side e.step v).1 v (at side e.step v).0
+      go : (side : Party) → OnSide P side (at side e.step v).1 v (at side e.step v).0
       go This = holds e.step m.0 v ok m.1
-      go That = holds e.step (hosts.swap m.0) (swap v) ok (tied-swapped m.0 v m.1)
+      go That = holds e.step (nodes_swapped m.0) (swap v) ok (tied-swapped m.0 v m.1)
 
-  of-one : (side : Side) (v : World) → IsOfModel v → (o : Option Told) (es : List Event) → AreEvents es → notes_from es v ≡ notes_of side o ++ [] → OfTold P side o v (run_from es v)
+  of-one : (side : Party) (v : World) → IsOfModel v → (o : Option Told) (es : List WorldEvent) → AreEvents es → notes_from es v ≡ notes_of side o ++ [] → OfTold P side o v (world_run_from es v)
   of-one side v m None [] ok e = refl
   of-one side v m None (x ∷ es) ok e = absurd (cc e)
   of-one side v m (Some t) [] ok e = absurd (cc e)
   of-one side v m (Some t) (x ∷ []) ok e =
-      let is : (step x v).1 ≡ (let n : worlds.Note = record { side = side; told = t } in n) = cc e in
-      subst (λ (n : worlds.Note). OnSide P n.side n.told v (step x v).0) is (on-side x v ok.0 m)
+      let is : (step x v).1 ≡ (let n : WorldNote = record { side = side; told = t } in n) = cc e in
+      subst (λ (n : WorldNote). OnSide P n.side n.told v (step x v).0) is (on-side x v ok.0 m)
   of-one side v m (Some t) (x ∷ y ∷ es) ok e = absurd (cc e)
 
   each : (ns : List Note) (w : Hosts) → IsRun ns w → Stand w → IsOfModel (seen w) → OfEachNote P ns w
@@ -50,7 +49,7 @@ module _ (P : Told → World → World → Type 0) (holds : (st : worlds.Step) (
   each (note ∷ ns) w r k m =
       let f : Follows (note ∷ []) w (seen w) = follows (note ∷ []) w (r.0, tt) k m in (
         subst (OfTold P (as_rules (side_of note)) (told_of note) (seen w)) f.state (of-one (as_rules (side_of note)) (seen w) m (told_of note) f.events f.are f.said),
-        each ns (after_note note w) r.1 (stand-after note w k) (tied-after note w f m),
+        each ns (hosts_after_note note w) r.1 (stand-after note w k) (tied-after note w f m),
       )
 
   -- of a whole transcript

@@ -9,32 +9,27 @@ use Rattle.ncp_leader.specs.declared.fault.MessageFault.{MessageFault}
 use Rattle.ncp_leader.specs.Message.{Message}
 use Rattle.ncp_terms.specs.declared.command.Command.{Command}
 use Rattle.ncp_terms.specs.declared.command.Command.TheVariants.{Rst, Rrp, Eco}
-use Rattle.ncp_terms.specs.declared.command.Command.TheVariants as commands
 use Rattle.ncp_terms.specs.Spelling.{spellings, IsCommand}
 use Rattle.ncp_control.specs.Reading.{commands_in, fault_in}
 use Rattle.ncp_control.proofs.Reading.{spellings_small, spelled_alone}
 use Rattle.ncp_slot.specs.Slots.{slot_at}
-use Rattle.ncp_proof_resets.specs.Delivery as model
+use Rattle.ncp_proof_resets.specs.Delivery.{MessageTransit}
 use Rattle.ncp_proof_resets.specs.Resets.{This, That, is_up}
 use Rattle.ncp_model.specs.declared.outcomes.Heard.{Heard}
-use Rattle.ncp_model.specs.declared.outcomes.Heard.TheVariants as heard
 use Rattle.ncp_model.specs.Act.{answer, made_by_hearing}
 use Rattle.ncp_model.specs.Ends.{hear}
 use Rattle.ncp_model.specs.Happenings.{of_reply, of_hearing, is_violation}
 use Rattle.ncp_model.specs.Phase.{up}
 use Rattle.ncp_model.specs.Peers.{Peer, echo_replies}
-use Rattle.ncp_proof_machine.specs.Hosts.{Node, peer_of}
-use Rattle.ncp_proof_machine.specs.Hosts as hosts
+use Rattle.ncp_proof_machine.specs.Hosts.{Node, peer_of, NodeEvent, NodeStep, TwoNodes, message_comes, node_at, node_hears, node_hears_all, node_hears_other, nodes_swapped}
 use Rattle.ncp_proof_machine.proofs.HostsStand.{hearing-stands}
-use Rattle.ncp_proof_machine.proofs.HostsStand.{Stands as ModelStands}
+use Rattle.ncp_proof_machine.proofs.HostsStand.{NodesStand}
 use Rattle.ncp_proof_headline.proofs.HostsHeld.{ever}
 use Rattle.ncp_host.specs.declared.received.Received.{Received}
-use Rattle.ncp_host.specs.declared.received.Received.TheVariants as received
 use Rattle.ncp_host.specs.PeerState.{PeerState}
-use Rattle.ncp_host.specs.Hearing as hearing
-use Rattle.ncp_transcript_two.specs.Subnet.{Holds, Free, Accepted, Delivered, Lost, Dead, Subnet, from_host}
-use Rattle.ncp_transcript_two.specs.World.{World, Told, In, Call_is_made, Goes_out, Is_delivered, Is_lost, Finds_dead, Is_answered, moves, goes, delivers, loses, dies, answers_for}
-use Rattle.ncp_transcript_two.specs.World as worlds
+use Rattle.ncp_host.specs.Hearing.{state_hears, state_hears_all}
+use Rattle.ncp_transcript_two.specs.Subnet.{Holds, Free, Accepted, Delivered, Lost, Dead, TransitByLink, from_host}
+use Rattle.ncp_transcript_two.specs.World.{World, Told, In, Call_is_made, Goes_out, Is_delivered, Is_lost, Finds_dead, Is_answered, moves, goes, delivers, loses, dies, answers_for, Asked, Reply, WorldEvent, WorldStep, received, state_after_received}
 use Rattle.ncp_transcript_two.specs.Tie.{control_bits, AreCommands, Stands, Reached, Goes_on, Tied, IsMove}
 use Rattle.ncp_transcript_two.specs.Refused.{refuses}
 use Rattle.ncp_transcript_two.specs.Underway.{text_read, text_of, commands_of}
@@ -44,17 +39,17 @@ use Rattle.ncp_transcript_two.proofs.Comings.{hears-stands, control-heard}
 use Rattle.ncp_transcript_two.proofs.Reaching.{of-reached, stands-there}
 use Rattle.ncp_transcript_two.proofs.Refusals.{none-refused}
 use Rattle.ncp_host.specs.Output.{next_of}
-use Rattle.ncp_proof_promises.specs.Judged.{ActsOnce, MakesNoErr, NoneErrs, is_err}
+use Rattle.ncp_proof_promises.specs.Judged.{ActsOnce, MakesNoErr, NoneErrs, is_error}
 
 -- a control message that comes, as the model has it
-abbrev pub ControlComes : hosts.World → World → List Bool → Type 0
+abbrev pub ControlComes : TwoNodes → World → List Bool → Type 0
 ControlComes w v m = Comes (control_bits v.there) AreCommands w.this.control (slot_at v.this.slots 0) m
 
-pub control-comes : (w : hosts.World) (v : World) (m : List Bool) → Tied w v → v.going 0 ≡ Accepted m → ControlComes w v m
+pub control-comes : (w : TwoNodes) (v : World) (m : List Bool) → Tied w v → v.going 0 ≡ Accepted m → ControlComes w v m
 control-comes w v m t e = delivered (control_bits v.there) AreCommands w.this.control (slot_at v.this.slots 0) (v.going 0) m t.this.control e
 
 -- its commands are read from it
-pub control-read : (w : hosts.World) (v : World) (m : List Bool) → Tied w v → (c : ControlComes w v m) → commands_of (from_host v.here m) ≡ c.what
+pub control-read : (w : TwoNodes) (v : World) (m : List Bool) → Tied w v → (c : ControlComes w v m) → commands_of (from_host v.here m) ≡ c.what
 control-read w v m t c =
     let text : List Bool = bits_of_bytes (spellings c.what) in
     ap (λ (x : List Bool). commands_of (from_host v.here x)) c.written
@@ -64,7 +59,7 @@ control-read w v m t c =
     ∙ (spelled_alone c.what c.fits.0).0
 
 -- and it has no fault
-control-faultless : (w : hosts.World) (v : World) (m : List Bool) → Tied w v → (c : ControlComes w v m) → fault_in (bytes_of (text_of (from_host v.here m))) ≡ None
+control-faultless : (w : TwoNodes) (v : World) (m : List Bool) → Tied w v → (c : ControlComes w v m) → fault_in (bytes_of (text_of (from_host v.here m))) ≡ None
 control-faultless w v m t c =
     let text : List Bool = bits_of_bytes (spellings c.what) in
     ap (λ (x : List Bool). fault_in (bytes_of (text_of (from_host v.here x)))) c.written
@@ -73,32 +68,32 @@ control-faultless w v m t c =
     ∙ ap fault_in (bytes_of-bits_of_bytes (spellings c.what) (spellings_small c.what c.fits.0))
     ∙ (spelled_alone c.what c.fits.0).1
 
-control-told : (w : hosts.World) (v : World) (m : List Bool) → Tied w v → (c : ControlComes w v m) → worlds.received (from_host v.here m) v.that ≡ received.Control (length c.what)
+control-told : (w : TwoNodes) (v : World) (m : List Bool) → Tied w v → (c : ControlComes w v m) → received (from_host v.here m) v.that ≡ Received.Control (length c.what)
 control-told w v m t c =
     let text : List Bool = bits_of_bytes (spellings c.what) in
-    ap (λ (x : List Bool). worlds.received (from_host v.here x) v.that) c.written
-    ∙ ap (λ (x : List Bool). worlds.received x v.that) (from_host-message v.here v.there 0 8 text)
+    ap (λ (x : List Bool). received (from_host v.here x) v.that) c.written
+    ∙ ap (λ (x : List Bool). received x v.that) (from_host-message v.here v.there 0 8 text)
     ∙ comes-received v.here 0 8 text v.that t.that.number (omega arith) (control_text c.what c.fits)
-    ∙ ap (λ (bs : List ℕ). received.Control (length (commands_in bs))) (bytes_of-bits_of_bytes (spellings c.what) (spellings_small c.what c.fits.0))
-    ∙ ap (λ (cs : List Command). received.Control (length cs)) (spelled_alone c.what c.fits.0).0
+    ∙ ap (λ (bs : List ℕ). Received.Control (length (commands_in bs))) (bytes_of-bits_of_bytes (spellings c.what) (spellings_small c.what c.fits.0))
+    ∙ ap (λ (cs : List Command). Received.Control (length cs)) (spelled_alone c.what c.fits.0).0
 
-pub acts : (w : hosts.World) (v : World) (m : List Bool) → Tied w v → v.going 0 ≡ Accepted m
-    → (worlds.received (from_host v.here m) v.that ≡ received.Control (length (commands_of (from_host v.here m)))) × (worlds.after_received (from_host v.here m) v.that ≡ hearing.hears_all (commands_of (from_host v.here m)) v.that)
+pub acts : (w : TwoNodes) (v : World) (m : List Bool) → Tied w v → v.going 0 ≡ Accepted m
+    → (received (from_host v.here m) v.that ≡ Received.Control (length (commands_of (from_host v.here m)))) × (state_after_received (from_host v.here m) v.that ≡ state_hears_all (commands_of (from_host v.here m)) v.that)
 acts w v m t e =
     let c : ControlComes w v m = control-comes w v m t e in
     let r : commands_of (from_host v.here m) ≡ c.what = control-read w v m t c in (
-      control-told w v m t c ∙ ap (λ (cs : List Command). received.Control (length cs)) (sym r),
-      control-heard w v m t c ∙ ap (λ (cs : List Command). hearing.hears_all cs v.that) (sym r),
+      control-told w v m t c ∙ ap (λ (cs : List Command). Received.Control (length cs)) (sym r),
+      control-heard w v m t c ∙ ap (λ (cs : List Command). state_hears_all cs v.that) (sym r),
     )
 
 -- on link 0
 pub on_control : (on : ℕ) (v : World) (m : List Bool) → (on == 0) ≡ true → v.going on ≡ Accepted m → v.going 0 ≡ Accepted m
 on_control on v m z e = ap v.going (sym (eqb-true on 0 z)) ∙ e
 
-pub hears_all-stands : (here : ℕ) (cs : List Command) (n : Node) (s : PeerState) (u : Subnet) → All IsCommand cs → ModelStands n → Stands here n s u → Stands here (hosts.hears_all cs n) (hearing.hears_all cs s) u
+pub hears_all-stands : (here : ℕ) (cs : List Command) (n : Node) (s : PeerState) (u : TransitByLink) → All IsCommand cs → NodesStand n → Stands here n s u → Stands here (node_hears_all cs n) (state_hears_all cs s) u
 hears_all-stands here [] n s u f g k = k
 hears_all-stands here (c ∷ cs) n s u f g k =
-    hears_all-stands here cs (hosts.hears c n) (hearing.hears c s) u (All-tail IsCommand c cs f) (hearing-stands c n g) (hears-stands here c n s u (All-head IsCommand c cs f) g k)
+    hears_all-stands here cs (node_hears c n) (state_hears c s) u (All-tail IsCommand c cs f) (hearing-stands c n g) (hears-stands here c n s u (All-head IsCommand c cs f) g k)
 
 -- No command of it is answered by an ERR.
 
@@ -110,60 +105,60 @@ or_right : (a b : Bool) → (a || b) ≡ false → b ≡ false
 or_right true b e = absurd (cc e)
 or_right false b e = e
 
-clean-one : (c : Command) (n : Node) → (hosts.hears c n).violated ≡ false → n.violated ≡ false
+clean-one : (c : Command) (n : Node) → (node_hears c n).violated ≡ false → n.violated ≡ false
 clean-one Rst n e = e
 clean-one Rrp n e = e
 clean-one c n e = go (is_up n.host) e
   where
-    go : (b : Bool) → (if b then hosts.hears_other c n else n).violated ≡ false → n.violated ≡ false
+    go : (b : Bool) → (if b then node_hears_other c n else n).violated ≡ false → n.violated ≡ false
     go true e = or_left n.violated _ e
     go false e = e
 
-pub clean : (cs : List Command) (n : Node) → (hosts.hears_all cs n).violated ≡ false → n.violated ≡ false
+pub clean : (cs : List Command) (n : Node) → (node_hears_all cs n).violated ≡ false → n.violated ≡ false
 clean [] n e = e
-clean (c ∷ cs) n e = clean-one c n (clean cs (hosts.hears c n) e)
+clean (c ∷ cs) n e = clean-one c n (clean cs (node_hears c n) e)
 
-no-echo-errs : (c : Command) → list_any is_err (echo_replies c) ≡ false
+no-echo-errs : (c : Command) → list_any is_error (echo_replies c) ≡ false
 no-echo-errs (Eco byte) = refl
 no-echo-errs c = refl
 
-right-reply : (d : Command) → is_violation (of_reply d) ≡ false → is_err d ≡ false
-right-reply (commands.Err code bytes) e = absurd (cc e)
+right-reply : (d : Command) → is_violation (of_reply d) ≡ false → is_error d ≡ false
+right-reply (Command.Err code bytes) e = absurd (cc e)
 right-reply d e = refl
 
-no-err : (a : Heard) (c : Command) → is_violation (of_hearing a) ≡ false → list_any is_err (made_by_hearing a ++ echo_replies c) ≡ false
-no-err heard.Nothing c e = no-echo-errs c
-no-err (heard.Reply d) c e = rw (right-reply d e) (no-echo-errs c)
-no-err heard.Late c e = no-echo-errs c
-no-err heard.Full c e = no-echo-errs c
+no-err : (a : Heard) (c : Command) → is_violation (of_hearing a) ≡ false → list_any is_error (made_by_hearing a ++ echo_replies c) ≡ false
+no-err Heard.Nothing c e = no-echo-errs c
+no-err (Heard.Reply d) c e = rw (right-reply d e) (no-echo-errs c)
+no-err Heard.Late c e = no-echo-errs c
+no-err Heard.Full c e = no-echo-errs c
 
-pub right-one : (c : Command) (n : Node) → (hosts.hears c n).violated ≡ false → up n.host.phase ≡ true → list_any is_err (made_by_hearing (answer (hear c n.ends)) ++ echo_replies c) ≡ false
+pub right-one : (c : Command) (n : Node) → (node_hears c n).violated ≡ false → up n.host.phase ≡ true → list_any is_error (made_by_hearing (answer (hear c n.ends)) ++ echo_replies c) ≡ false
 right-one Rst n e u = refl
 right-one Rrp n e u = refl
-right-one c n e u = no-err (answer (hear c n.ends)) c (or_right n.violated _ (ap (λ (b : Bool). (if b then hosts.hears_other c n else n).violated) (sym u) ∙ e))
+right-one c n e u = no-err (answer (hear c n.ends)) c (or_right n.violated _ (ap (λ (b : Bool). (if b then node_hears_other c n else n).violated) (sym u) ∙ e))
 
-none-errs : (here : ℕ) (cs : List Command) (n : Node) (s : PeerState) (u : Subnet) → All IsCommand cs → ModelStands n → Stands here n s u → (hosts.hears_all cs n).violated ≡ false → NoneErrs cs s
+none-errs : (here : ℕ) (cs : List Command) (n : Node) (s : PeerState) (u : TransitByLink) → All IsCommand cs → NodesStand n → Stands here n s u → (node_hears_all cs n).violated ≡ false → NoneErrs cs s
 none-errs here [] n s u f g k e = tt
 none-errs here (c ∷ cs) n s u f g k e = (
-  λ a. ap (λ (p : Peer). list_any is_err (made_by_hearing (answer (hear c p.ends)) ++ echo_replies c)) k.peer
-      ∙ right-one c n (clean cs (hosts.hears c n) e) (ap (λ (p : Peer). up p.phase) (sym k.peer) ∙ a),
-  none-errs here cs (hosts.hears c n) (hearing.hears c s) u (All-tail IsCommand c cs f) (hearing-stands c n g) (hears-stands here c n s u (All-head IsCommand c cs f) g k) e,
+  λ a. ap (λ (p : Peer). list_any is_error (made_by_hearing (answer (hear c p.ends)) ++ echo_replies c)) k.peer
+      ∙ right-one c n (clean cs (node_hears c n) e) (ap (λ (p : Peer). up p.phase) (sym k.peer) ∙ a),
+  none-errs here cs (node_hears c n) (state_hears c s) u (All-tail IsCommand c cs f) (hearing-stands c n g) (hears-stands here c n s u (All-head IsCommand c cs f) g k) e,
 )
 
-safe : (w : hosts.World) → Reached w → w.that.violated ≡ false
-safe w r = of-reached (λ (x : hosts.World). x.that.violated ≡ false) (λ (es : List hosts.Event). (ever es).holds.joined.that.safe) w r
+safe : (w : TwoNodes) → Reached w → w.that.violated ≡ false
+safe w r = of-reached (λ (x : TwoNodes). x.that.violated ≡ false) (λ (es : List NodeEvent). (ever es).holds.joined.that.safe) w r
 
-control-right : (w : hosts.World) (v : World) (m : List Bool) → Tied w v → v.going 0 ≡ Accepted m → NoneErrs (commands_of (from_host v.here m)) v.that
+control-right : (w : TwoNodes) (v : World) (m : List Bool) → Tied w v → v.going 0 ≡ Accepted m → NoneErrs (commands_of (from_host v.here m)) v.that
 control-right w v m t e =
     let c : ControlComes w v m = control-comes w v m t e in
-    let violates : model.Subnet (List Command) → Bool = λ x. (hosts.swap (hosts.message_comes x (hosts.swap w))).that.violated in
+    let violates : MessageTransit (List Command) → Bool = λ x. (nodes_swapped (message_comes x (nodes_swapped w))).that.violated in
     subst (λ (cs : List Command). NoneErrs cs v.that) (sym (control-read w v m t c))
     (none-errs v.here c.what w.that v.that v.coming c.fits.0 (stands-there w t.reached) t.that
-    (sym (ap violates c.there) ∙ safe (hosts.at That hosts.Hears w) (Goes_on t.reached That hosts.Hears)))
+    (sym (ap violates c.there) ∙ safe (node_at That NodeStep.Hears w) (Goes_on t.reached That NodeStep.Hears)))
 
 -- Each step.
 
-deliver-acts : (on : ℕ) (w : hosts.World) (v : World) (h : Holds) → Tied w v → v.going on ≡ h → ActsOnce (delivers on h v).1 v (delivers on h v).0
+deliver-acts : (on : ℕ) (w : TwoNodes) (v : World) (h : Holds) → Tied w v → v.going on ≡ h → ActsOnce (delivers on h v).1 v (delivers on h v).0
 deliver-acts on w v (Accepted m) t e = λ z. let k = acts w v m t (on_control on v m z e) in (k.0, k.1, refl)
 deliver-acts on w v Free t e = tt
 deliver-acts on w v Delivered t e = tt
@@ -171,9 +166,9 @@ deliver-acts on w v Lost t e = tt
 deliver-acts on w v Dead t e = tt
 
 -- of a note that is no coming nothing is said
-module _ (P : Told → World → World → Type 0) (v : World) (said : (asked : worlds.Asked) (reply : worlds.Reply) (after : World) → P (worlds.Called asked reply) v after)
-    (out : (m : List Bool) (after : World) → P (worlds.Out m) v after) (lost : (on : ℕ) (after : World) → P (worlds.Went_lost on) v after) (dead : (on : ℕ) (after : World) → P (worlds.Went_dead on) v after)
-    (told : (on : ℕ) (how : _) (r : Received) (after : World) → P (worlds.Answered on how r) v after) (nothing : P worlds.Nothing v v) where
+module _ (P : Told → World → World → Type 0) (v : World) (said : (asked : Asked) (reply : Reply) (after : World) → P (Told.Called asked reply) v after)
+    (out : (m : List Bool) (after : World) → P (Told.Out m) v after) (lost : (on : ℕ) (after : World) → P (Told.Went_lost on) v after) (dead : (on : ℕ) (after : World) → P (Told.Went_dead on) v after)
+    (told : (on : ℕ) (how : _) (r : Received) (after : World) → P (Told.Answered on how r) v after) (nothing : P Told.Nothing v v) where
   pub out-says : (o : Option (ℕ × List Bool)) → P (goes o v).1 v (goes o v).0
   out-says None = nothing
   out-says (Some m) = out m.1 _
@@ -199,7 +194,7 @@ module _ (P : Told → World → World → Type 0) (v : World) (said : (asked : 
   answer-says on Lost = told on _ _ _
   answer-says on Dead = told on _ _ _
 
-pub acts-once : (st : worlds.Step) (x : hosts.World) (v : World) → IsMove st → Tied x v → ActsOnce (moves st v).1 v (moves st v).0
+pub acts-once : (st : WorldStep) (x : TwoNodes) (v : World) → IsMove st → Tied x v → ActsOnce (moves st v).1 v (moves st v).0
 acts-once (Call_is_made asked) x v ok t = tt
 acts-once Goes_out x v ok t = out-says ActsOnce v (λ a r w. tt) (λ m w. tt) (λ on w. tt) (λ on w. tt) (λ on how r w. tt) tt (next_of v.there v.this)
 acts-once (Is_delivered on) x v ok t = deliver-acts on x v (v.going on) t refl
@@ -208,12 +203,12 @@ acts-once (Finds_dead on) x v ok t = die-says ActsOnce v (λ a r w. tt) (λ m w.
 acts-once (Is_answered on) x v ok t = answer-says ActsOnce v (λ a r w. tt) (λ m w. tt) (λ on w. tt) (λ on w. tt) (λ on how r w. tt) tt on (v.going on)
 
 -- nothing that comes is refused
-unrefused : (on : ℕ) (x : hosts.World) (v : World) → Tied x v → refuses (delivers on (v.going on) v).1 ≡ false
+unrefused : (on : ℕ) (x : TwoNodes) (v : World) → Tied x v → refuses (delivers on (v.going on) v).1 ≡ false
 unrefused on x v t =
-    let e : worlds.Event = record { side = This; step = Is_delivered on } in
+    let e : WorldEvent = record { side = This; step = Is_delivered on } in
     or_left (refuses (delivers on (v.going on) v).1) false (none-refused (e ∷ []) v (tt, tt) (x, t))
 
-deliver-right : (on : ℕ) (w : hosts.World) (v : World) (h : Holds) → Tied w v → v.going on ≡ h → refuses (delivers on h v).1 ≡ false → MakesNoErr (delivers on h v).1 v (delivers on h v).0
+deliver-right : (on : ℕ) (w : TwoNodes) (v : World) (h : Holds) → Tied w v → v.going on ≡ h → refuses (delivers on h v).1 ≡ false → MakesNoErr (delivers on h v).1 v (delivers on h v).0
 deliver-right on w v (Accepted m) t e r = (
   λ z. let f = on_control on v m z e in (control-faultless w v m t (control-comes w v m t f), control-right w v m t f),
   r,
@@ -223,7 +218,7 @@ deliver-right on w v Delivered t e r = tt
 deliver-right on w v Lost t e r = tt
 deliver-right on w v Dead t e r = tt
 
-pub makes-no-err : (st : worlds.Step) (x : hosts.World) (v : World) → IsMove st → Tied x v → MakesNoErr (moves st v).1 v (moves st v).0
+pub makes-no-err : (st : WorldStep) (x : TwoNodes) (v : World) → IsMove st → Tied x v → MakesNoErr (moves st v).1 v (moves st v).0
 makes-no-err (Call_is_made asked) x v ok t = tt
 makes-no-err Goes_out x v ok t = out-says MakesNoErr v (λ a r w. tt) (λ m w. tt) (λ on w. tt) (λ on w. tt) (λ on how r w. tt) tt (next_of v.there v.this)
 makes-no-err (Is_delivered on) x v ok t = deliver-right on x v (v.going on) t refl (unrefused on x v t)

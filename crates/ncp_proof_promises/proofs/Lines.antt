@@ -11,15 +11,15 @@ use Rattle.ncp_terms.specs.declared.command.Command.{Command}
 use Rattle.ncp_terms.specs.Spelling.{spelling, spellings, IsCommand}
 use Rattle.ncp_control.specs.Reading.{commands_in}
 use Rattle.ncp_control.proofs.Reading.{spellings_small, spelled_alone}
-use Rattle.ncp_slot.specs.declared.slot.Slot.TheVariants as slots
+use Rattle.ncp_slot.specs.declared.slot.Slot.{Slot}
 use Rattle.ncp_terms.specs.declared.answer.Answer.{Answer}
 use Rattle.ncp_slot.specs.Slot.{answered, woken}
 use Rattle.ncp_slot.specs.Slots.{LinkSlot, LinkSlots, slot_at, with_slot, all_woken}
 use Rattle.ncp_slot.proofs.Places.{slot_at-with_slot_same}
 use Rattle.ncp_slot.proofs.Waking.{slot_at-all_woken}
 use Rattle.ncp_model.specs.Sending.{fitting, next_commands}
-use Rattle.ncp_proof_machine.specs.Hosts as hosts
-use Rattle.ncp_transcript_two.specs.Subnet.{Holds, Free, Accepted, Delivered, Subnet, set_at}
+use Rattle.ncp_proof_machine.specs.Hosts.{TwoNodes}
+use Rattle.ncp_transcript_two.specs.Subnet.{Holds, Free, Accepted, Delivered, TransitByLink, set_at}
 use Rattle.ncp_transcript_two.specs.World.{World}
 use Rattle.ncp_transcript_two.specs.Tie.{control_bits, AreCommands, Tied}
 use Rattle.ncp_transcript_two.specs.Underway.{text_read, commands_of, not_come, commands_out}
@@ -29,7 +29,7 @@ use Rattle.ncp_transcript_two.proofs.Written.{read, control_text}
 abbrev pub line_of : LinkSlot → Holds → List Command
 line_of s h = commands_out (not_come s h)
 
-abbrev pub line : LinkSlots → Subnet → List Command
+abbrev pub line : LinkSlots → TransitByLink → List Command
 line sl u = line_of (slot_at sl 0) (u 0)
 
 -- what was written is read
@@ -64,46 +64,46 @@ pub next-are : (cs : List Command) → All IsCommand cs → AreCommands (next_co
 next-are cs a = (subst (λ (ds : List Command). All IsCommand ds) (sym (fitting-take 120 cs)) (All-take IsCommand (length (next_commands cs)) cs a), fitting-few 120 cs)
 
 -- a message that the subnet has stands in its slot
-pub accepted-line : (w : hosts.World) (v : World) (m : List Bool) → Tied w v → v.going 0 ≡ Accepted m → (slot_at v.this.slots 0 ≡ slots.Travelling m) × (line v.this.slots v.going ≡ commands_of m)
+pub accepted-line : (w : TwoNodes) (v : World) (m : List Bool) → Tied w v → v.going 0 ≡ Accepted m → (slot_at v.this.slots 0 ≡ Slot.Travelling m) × (line v.this.slots v.going ≡ commands_of m)
 accepted-line w v m t e =
-    let s : slot_at v.this.slots 0 ≡ slots.Travelling m = (away (control_bits v.there) AreCommands w.this.control (slot_at v.this.slots 0) (v.going 0) m t.this.control e).2 in
-    (s, ap (λ (x : LinkSlot). line_of x (v.going 0)) s ∙ ap (λ (h : Holds). line_of (slots.Travelling m) h) e)
+    let s : slot_at v.this.slots 0 ≡ Slot.Travelling m = (away (control_bits v.there) AreCommands w.this.control (slot_at v.this.slots 0) (v.going 0) m t.this.control e).2 in
+    (s, ap (λ (x : LinkSlot). line_of x (v.going 0)) s ∙ ap (λ (h : Holds). line_of (Slot.Travelling m) h) e)
 
 -- messages that are held are to go out again
-pub woken-line : (sl : LinkSlots) (u : Subnet) → line (all_woken sl) u ≡ line sl u
+pub woken-line : (sl : LinkSlots) (u : TransitByLink) → line (all_woken sl) u ≡ line sl u
 woken-line sl u = ap (λ (s : LinkSlot). line_of s (u 0)) (slot_at-all_woken sl 0) ∙ go (slot_at sl 0) (u 0)
   where
     go : (s : LinkSlot) (h : Holds) → line_of (woken s) h ≡ line_of s h
-    go slots.Empty h = refl
-    go (slots.Ready m) h = refl
-    go (slots.Travelling m) h = refl
-    go (slots.Held m) h = refl
+    go Slot.Empty h = refl
+    go (Slot.Ready m) h = refl
+    go (Slot.Travelling m) h = refl
+    go (Slot.Held m) h = refl
 
 -- what the subnet has of a message on another link is another matter
-pub other-line : (on : ℕ) (h : Holds) (sl : LinkSlots) (u : Subnet) → (0 == on) ≡ false → line sl (set_at on h u) ≡ line sl u
+pub other-line : (on : ℕ) (h : Holds) (sl : LinkSlots) (u : TransitByLink) → (0 == on) ≡ false → line sl (set_at on h u) ≡ line sl u
 other-line on h sl u z = ap (line_of (slot_at sl 0)) (set_at-apart on h u 0 z)
 
 -- where the subnet loses it, or finds its destination dead, it is still underway
-pub failed-line : (h : Holds) (w : hosts.World) (v : World) (m : List Bool) → (line_of (slots.Travelling m) h ≡ commands_of m) → Tied w v → v.going 0 ≡ Accepted m → line v.this.slots (set_at 0 h v.going) ≡ line v.this.slots v.going
+pub failed-line : (h : Holds) (w : TwoNodes) (v : World) (m : List Bool) → (line_of (Slot.Travelling m) h ≡ commands_of m) → Tied w v → v.going 0 ≡ Accepted m → line v.this.slots (set_at 0 h v.going) ≡ line v.this.slots v.going
 failed-line h w v m same t e =
     let k = accepted-line w v m t e in
     ap (λ (s : LinkSlot). line_of s h) k.0 ∙ same ∙ sym k.1
 
 -- it was delivered
-pub delivered-line : (sl : LinkSlots) (u : Subnet) (m : List Bool) → slot_at sl 0 ≡ slots.Travelling m → line sl (set_at 0 Delivered u) ≡ []
+pub delivered-line : (sl : LinkSlots) (u : TransitByLink) (m : List Bool) → slot_at sl 0 ≡ Slot.Travelling m → line sl (set_at 0 Delivered u) ≡ []
 delivered-line sl u m e = ap (λ (s : LinkSlot). line_of s Delivered) e
 
 -- it is answered
-pub answered-line : (how : Answer) (h : Holds) (sl : LinkSlots) (u : Subnet) (m : List Bool) → slot_at sl 0 ≡ slots.Travelling m → u 0 ≡ h → line_of (answered how (slots.Travelling m)) Free ≡ line_of (slots.Travelling m) h
-    → line (with_slot sl 0 (answered how (slots.Travelling m))) (set_at 0 Free u) ≡ line sl u
+pub answered-line : (how : Answer) (h : Holds) (sl : LinkSlots) (u : TransitByLink) (m : List Bool) → slot_at sl 0 ≡ Slot.Travelling m → u 0 ≡ h → line_of (answered how (Slot.Travelling m)) Free ≡ line_of (Slot.Travelling m) h
+    → line (with_slot sl 0 (answered how (Slot.Travelling m))) (set_at 0 Free u) ≡ line sl u
 answered-line how h sl u m e k same =
-    ap (λ (s : LinkSlot). line_of s Free) (slot_at-with_slot_same sl 0 (answered how (slots.Travelling m)))
-    ∙ same ∙ sym (ap (λ (s : LinkSlot). line_of s (u 0)) e ∙ ap (line_of (slots.Travelling m)) k)
+    ap (λ (s : LinkSlot). line_of s Free) (slot_at-with_slot_same sl 0 (answered how (Slot.Travelling m)))
+    ∙ same ∙ sym (ap (λ (s : LinkSlot). line_of s (u 0)) e ∙ ap (line_of (Slot.Travelling m)) k)
 
 -- a slot of another link, and what the subnet has for that
-pub apart-line : (on : ℕ) (s : LinkSlot) (h : Holds) (sl : LinkSlots) (u : Subnet) → (0 == on) ≡ false → line (with_slot sl on s) (set_at on h u) ≡ line sl u
+pub apart-line : (on : ℕ) (s : LinkSlot) (h : Holds) (sl : LinkSlots) (u : TransitByLink) → (0 == on) ≡ false → line (with_slot sl on s) (set_at on h u) ≡ line sl u
 apart-line on s h sl u z = ap (λ (x : LinkSlot). line_of x (set_at on h u 0)) (with_slot-apart on s sl 0 z) ∙ other-line on h sl u z
 
 -- a message goes out
-pub out-line : (m : List Bool) (sl : LinkSlots) (u : Subnet) → line (with_slot sl 0 (slots.Travelling m)) (set_at 0 (Accepted m) u) ≡ commands_of m
-out-line m sl u = ap (λ (s : LinkSlot). line_of s (Accepted m)) (slot_at-with_slot_same sl 0 (slots.Travelling m))
+pub out-line : (m : List Bool) (sl : LinkSlots) (u : TransitByLink) → line (with_slot sl 0 (Slot.Travelling m)) (set_at 0 (Accepted m) u) ≡ commands_of m
+out-line m sl u = ap (λ (s : LinkSlot). line_of s (Accepted m)) (slot_at-with_slot_same sl 0 (Slot.Travelling m))

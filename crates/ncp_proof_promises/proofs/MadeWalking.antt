@@ -9,10 +9,10 @@ use Rattle.ncp_leader.specs.Message.{Message, message_in}
 use Rattle.ncp_model.specs.declared.call_fault.CallFault.{CallFault}
 use Rattle.ncp_model.specs.declared.call_fault.CallFault.TheVariants.{OutOfMemory, UnknownPeer}
 use Rattle.ncp_model.specs.Peers.{Ask_to_send, Ask_to_receive, Close, Give, Take, Allocate, Call_back, Interrupt, comes_of, reply, reply_of_take, reply_of_echo}
-use Rattle.ncp_model.specs.Peers.{Call as Pair_call}
+use Rattle.ncp_model.specs.Peers.{PairCall}
 use Rattle.ncp_model.specs.Phase.{reset_answer}
 use Rattle.ncp_proof_resets.specs.Resets.{This, That}
-use Rattle.ncp_proof_machine.specs.Hosts as hosts
+use Rattle.ncp_proof_machine.specs.Hosts.{TwoNodes, nodes_swapped}
 use Rattle.ncp_host.specs.PeerState.{PeerState, control_link}
 use Rattle.ncp_host.specs.Hearing.{control_size, is_wrong_link, message_received, control_received, text_received}
 use Rattle.ncp_host.specs.Host.{Host, numbers_of, state_of, if_known}
@@ -21,32 +21,26 @@ use Rattle.ncp_host.specs.Arrivals.{received_in}
 use Rattle.ncp_host.specs.Output.{leader_to}
 use Rattle.ncp_host.specs.Turns.{next_output}
 use Rattle.ncp_host.specs.declared.received.Received.{Received}
-use Rattle.ncp_host.specs.declared.received.Received.TheVariants as cases
 use Rattle.ncp_numbers.specs.Bytes.{bytes_of}
 use Rattle.ncp_subnet.specs.Messages.{arriving, answer_about}
 use Rattle.ncp_transcript.specs.declared.call.Call.{Call}
-use Rattle.ncp_transcript.specs.declared.call.Call.TheVariants as calls
 use Rattle.ncp_transcript.specs.declared.note.HostNote.{HostNote}
-use Rattle.ncp_transcript.specs.declared.note.HostNote.TheVariants as of_host
 use Rattle.ncp_transcript.specs.Notes.{done_or_refused, told_or_refused}
 use Rattle.ncp_transcript.specs.Answers.{answer_to}
 use Rattle.ncp_transcript.specs.Noting.{CallNoted, note_of_bits, note_of_message}
-use Rattle.ncp_proof_runs.specs.Peers.{names, is_number, peer_of_leader, notes_of}
+use Rattle.ncp_proof_runs.specs.Peers.{names, is_this_number, peer_of_leader, notes_of_peer}
 use Rattle.ncp_transcript_two.specs.Subnet.{Holds, Free, Accepted, Delivered, Lost, Dead, from_host}
-use Rattle.ncp_transcript_two.specs.World.{World, Asked, Asks, Asks_echo, Asks_reset, Asks_wake, Reply, Told, Called, Nothing, Is_delivered, delivers, moves}
-use Rattle.ncp_transcript_two.specs.World as worlds
+use Rattle.ncp_transcript_two.specs.World.{World, Asked, Asks, Asks_echo, Asks_reset, Asks_wake, Reply, Told, Called, Nothing, Is_delivered, delivers, moves, state_received_with}
 use Rattle.ncp_transcript_two.specs.Tie.{Tied}
 use Rattle.ncp_transcript_two.specs.Seen.{seen, had_for, as_rules, asked_by, done, told_call, told_of, side_of}
-use Rattle.ncp_transcript_two.specs.Sides.{note_at}
+use Rattle.ncp_transcript_two.specs.Sides.{notes_at_side}
 use Rattle.ncp_transcript_two.specs.declared.side.Side.{Side}
 use Rattle.ncp_transcript_two.specs.declared.side.Side.TheVariants.{A, B}
 use Rattle.ncp_transcript_two.specs.declared.event.Event.{Event}
-use Rattle.ncp_transcript_two.specs.declared.event.Event.TheVariants as events
-use Rattle.ncp_transcript_two.specs.declared.note.Move.TheVariants as move_kinds
+use Rattle.ncp_transcript_two.specs.declared.note.Move.{Move}
 use Rattle.ncp_transcript_two.specs.declared.note.Note.{Note}
-use Rattle.ncp_transcript_two.specs.declared.note.Note.TheVariants as notes
-use Rattle.ncp_transcript_two.specs.Between.{Hosts, other, number_of, host_of}
-use Rattle.ncp_transcript_two.specs.Happening.{Noted, came, answered}
+use Rattle.ncp_transcript_two.specs.Between.{Hosts, other, side_number, host_of}
+use Rattle.ncp_transcript_two.specs.Happening.{Noted, note_of_coming, note_of_answering}
 use Rattle.ncp_transcript_two.specs.Naming.{IsAnswerAbout}
 use Rattle.ncp_transcript_two.proofs.OnePeer.{only-peer, noted-message}
 use Rattle.ncp_transcript_two.proofs.SeenSteps.{Stand}
@@ -61,21 +55,21 @@ use Rattle.ncp_slot.specs.Slots.{is_quiet}
 use Rattle.ncp_model.specs.declared.pair.Pair.{Pair}
 use Rattle.ncp_proof_machine.specs.Watching.{Watch, sees_each}
 use Rattle.ncp_host.specs.PeerState.{is_answered}
-use Rattle.ncp_proof_runs.specs.Links.{LinkHistory, is_fresh, link_of_leader}
-use Rattle.ncp_proof_runs.specs.Making.{Made, sent, by_pair_call, by_message, by_bits, by_out, made_by_note, made_from}
+use Rattle.ncp_proof_runs.specs.Links.{LinkSoFar, goes_fresh, link_of_leader}
+use Rattle.ncp_proof_runs.specs.Making.{Made, made_sent, by_pair_call, by_message, by_bits, by_out, made_by_note, made_from}
 use Rattle.ncp_transcript_two.specs.Refused.{is_refused}
 use Rattle.ncp_transcript_two.specs.Underway.{text_read}
 use Rattle.ncp_transcript_two.proofs.Flights.{delivered-out, lost-out, dead-out}
 use Rattle.ncp_proof_promises.specs.Judged.{MakesNoErr}
-use Rattle.ncp_proof_promises.specs.Since.{Watches, watch_at, of_asked, of_text, of_message, of_answer, if_told}
+use Rattle.ncp_proof_promises.specs.Since.{Watches, watch_at, watch_after_asked, watch_after_text, watch_after_message, of_answer, watches_if_told}
 use Rattle.ncp_proof_promises.proofs.Judging.{makes-no-err}
 use Rattle.ncp_proof_promises.proofs.MadeMatched.{IsWatched, call-watched, echo-watched, reset-watched, answer-watched, message-watched}
 
 -- what the host of a side has for the other
 abbrev pub ours : Side → Hosts → PeerState
-ours side w = had_for (number_of (other side) w) (host_of side w)
+ours side w = had_for (side_number (other side) w) (host_of side w)
 
-pub only-one : (side : Side) (w : Hosts) → Stand w → numbers_of (host_of side w).peers ≡ number_of (other side) w ∷ []
+pub only-one : (side : Side) (w : Hosts) → Stand w → numbers_of (host_of side w).peers ≡ side_number (other side) w ∷ []
 only-one A w k = k.a
 only-one B w k = k.b
 
@@ -91,7 +85,7 @@ judged : (link : ℕ) (o : Result Message MessageFault) (s : PeerState) → is_r
 judged link (Err fault) s e = absurd (cc e)
 judged link (Ok m) s e = go (is_wrong_link link) refl e
   where
-    by : (n : ℕ) (b : Bool) → is_refused (if b then cases.Control n else cases.WrongSize) ≡ false → b ≡ true
+    by : (n : ℕ) (b : Bool) → is_refused (if b then Received.Control n else Received.WrongSize) ≡ false → b ≡ true
     by n true e = refl
     by n false e = absurd (cc e)
 
@@ -99,7 +93,7 @@ judged link (Ok m) s e = go (is_wrong_link link) refl e
     sized false e z = absurd (cc z)
     sized true e z = by (length (commands_in (bytes_of m.text))) (m.size == control_size) e
 
-    go : (b : Bool) → is_wrong_link link ≡ b → is_refused (if b then cases.WrongLink else if link == control_link then control_received m else text_received link m s) ≡ false → Right link (Ok m)
+    go : (b : Bool) → is_wrong_link link ≡ b → is_refused (if b then Received.WrongLink else if link == control_link then control_received m else text_received link m s) ≡ false → Right link (Ok m)
     go true h e = absurd (cc e)
     go false h e = record { m = m; is = refl; good = h; sized = sized (link == control_link) e }
 
@@ -110,15 +104,15 @@ ToldAbout (Some bits) n link s h = IsAnswerAbout n link (note_of_bits bits h) ×
 
 abbrev pub StepAt : Side → Note → Hosts → Watches → Type 0
 StepAt side note w p =
-    (t : LinkHistory) (l : Made) → IsWatched (watch_at side p) l
-    → IsWatched (watch_at side (if_told (as_rules (side_of note)) (told_of note) (seen w) p)) (made_from (notes_of (number_of (other side) w) (note_at side note)) (ours side w) t l)
+    (t : LinkSoFar) (l : Made) → IsWatched (watch_at side p) l
+    → IsWatched (watch_at side (watches_if_told (as_rules (side_of note)) (told_of note) (seen w) p)) (made_from (notes_of_peer (side_number (other side) w) (notes_at_side side note)) (ours side w) t l)
 
 -- a note, whether it names the peer or not
-still : (b : Bool) (hn : HostNote) (s : PeerState) (t : LinkHistory) (l : Made) (x : Watch) → IsWatched x (made_by_note hn s t l) → IsWatched x l → IsWatched x (made_from (cond b (hn ∷ []) []) s t l)
+still : (b : Bool) (hn : HostNote) (s : PeerState) (t : LinkSoFar) (l : Made) (x : Watch) → IsWatched x (made_by_note hn s t l) → IsWatched x l → IsWatched x (made_from (cond b (hn ∷ []) []) s t l)
 still true hn s t l x i k = i
 still false hn s t l x i k = k
 
-named : (b : Bool) (hn : HostNote) (s : PeerState) (t : LinkHistory) (l : Made) (x : Watch) → b ≡ true → IsWatched x (made_by_note hn s t l) → IsWatched x (made_from (cond b (hn ∷ []) []) s t l)
+named : (b : Bool) (hn : HostNote) (s : PeerState) (t : LinkSoFar) (l : Made) (x : Watch) → b ≡ true → IsWatched x (made_by_note hn s t l) → IsWatched x (made_from (cond b (hn ∷ []) []) s t l)
 named true hn s t l x e i = i
 named false hn s t l x e i = absurd (cc e)
 
@@ -127,88 +121,88 @@ named false hn s t l x e i = absurd (cc e)
 module _ (side : Side) (w : Hosts) (k : Stand w) (p : Watches) where
   abbrev Own : HostNote → Type 0
   Own hn =
-      (t : LinkHistory) (l : Made) → IsWatched (watch_at side p) l
-      → IsWatched (watch_at side (if_told (as_rules side) (told_call hn) (seen w) p)) (made_from (notes_of (number_of (other side) w) (hn ∷ [])) (ours side w) t l)
+      (t : LinkSoFar) (l : Made) → IsWatched (watch_at side p) l
+      → IsWatched (watch_at side (watches_if_told (as_rules side) (told_call hn) (seen w) p)) (made_from (notes_of_peer (side_number (other side) w) (hn ∷ [])) (ours side w) t l)
 
-  own-asked : (asked : Asked) (answer : Reply) → watch_at side (if_told (as_rules side) (Some (Called asked answer)) (seen w) p) ≡ of_asked asked (ours side w) (watch_at side p)
+  own-asked : (asked : Asked) (answer : Reply) → watch_at side (watches_if_told (as_rules side) (Some (Called asked answer)) (seen w) p) ≡ watch_after_asked asked (ours side w) (watch_at side p)
   own-asked asked answer = go side
     where
-      go : (s : Side) → watch_at s (if_told (as_rules s) (Some (Called asked answer)) (seen w) p) ≡ of_asked asked (ours s w) (watch_at s p)
+      go : (s : Side) → watch_at s (watches_if_told (as_rules s) (Some (Called asked answer)) (seen w) p) ≡ watch_after_asked asked (ours s w) (watch_at s p)
       go A = refl
       go B = refl
 
-  own-asks : (asked : Asked) (answer : Reply) (peer : ℕ) (hn : HostNote) → peer ≡ number_of (other side) w → names (number_of (other side) w) hn ≡ (peer == number_of (other side) w)
-      → ((t : LinkHistory) (l : Made) → IsWatched (watch_at side p) l → IsWatched (of_asked asked (ours side w) (watch_at side p)) (made_by_note hn (ours side w) t l))
-      → (t : LinkHistory) (l : Made) → IsWatched (watch_at side p) l
-      → IsWatched (watch_at side (if_told (as_rules side) (Some (Called asked answer)) (seen w) p)) (made_from (notes_of (number_of (other side) w) (hn ∷ [])) (ours side w) t l)
+  own-asks : (asked : Asked) (answer : Reply) (peer : ℕ) (hn : HostNote) → peer ≡ side_number (other side) w → names (side_number (other side) w) hn ≡ (peer == side_number (other side) w)
+      → ((t : LinkSoFar) (l : Made) → IsWatched (watch_at side p) l → IsWatched (watch_after_asked asked (ours side w) (watch_at side p)) (made_by_note hn (ours side w) t l))
+      → (t : LinkSoFar) (l : Made) → IsWatched (watch_at side p) l
+      → IsWatched (watch_at side (watches_if_told (as_rules side) (Some (Called asked answer)) (seen w) p)) (made_from (notes_of_peer (side_number (other side) w) (hn ∷ [])) (ours side w) t l)
   own-asks asked answer peer hn is names_it says t l i =
-      subst (λ (x : Watch). IsWatched x (made_from (notes_of (number_of (other side) w) (hn ∷ [])) (ours side w) t l)) (sym (own-asked asked answer))
-      (named (names (number_of (other side) w) hn) hn (ours side w) t l (of_asked asked (ours side w) (watch_at side p)) (names_it ∙ eq-eqb peer (number_of (other side) w) is) (says t l i))
+      subst (λ (x : Watch). IsWatched x (made_from (notes_of_peer (side_number (other side) w) (hn ∷ [])) (ours side w) t l)) (sym (own-asked asked answer))
+      (named (names (side_number (other side) w) hn) hn (ours side w) t l (watch_after_asked asked (ours side w) (watch_at side p)) (names_it ∙ eq-eqb peer (side_number (other side) w) is) (says t l i))
 
-  quiet : (hn : HostNote) → told_call hn ≡ None → ((t : LinkHistory) (l : Made) → made_by_note hn (ours side w) t l ≡ l) → Own hn
+  quiet : (hn : HostNote) → told_call hn ≡ None → ((t : LinkSoFar) (l : Made) → made_by_note hn (ours side w) t l ≡ l) → Own hn
   quiet hn none same t l i =
-      subst (λ (o : Option Told). IsWatched (watch_at side (if_told (as_rules side) o (seen w) p)) (made_from (notes_of (number_of (other side) w) (hn ∷ [])) (ours side w) t l)) (sym none)
-      (still (names (number_of (other side) w) hn) hn (ours side w) t l (watch_at side p) (subst (λ (j : Made). IsWatched (watch_at side p) j) (sym (same t l)) i) i)
+      subst (λ (o : Option Told). IsWatched (watch_at side (watches_if_told (as_rules side) o (seen w) p)) (made_from (notes_of_peer (side_number (other side) w) (hn ∷ [])) (ours side w) t l)) (sym none)
+      (still (names (side_number (other side) w) hn) hn (ours side w) t l (watch_at side p) (subst (λ (j : Made). IsWatched (watch_at side p) j) (sym (same t l)) i) i)
 
-  refused : (call : Call) (fault : CallFault) → Own (of_host.Refused call fault)
-  refused call fault = quiet (of_host.Refused call fault) refl (λ t l. refl)
+  refused : (call : Call) (fault : CallFault) → Own (HostNote.Refused call fault)
+  refused call fault = quiet (HostNote.Refused call fault) refl (λ t l. refl)
 
-  own-done : (call : Call) (peer : ℕ) (f : PeerState → Result (Unit {0}) CallFault) → (peer ≡ number_of (other side) w → Own (of_host.Done call)) → Own (done_or_refused call (if_known (state_of (host_of side w) peer) f))
+  own-done : (call : Call) (peer : ℕ) (f : PeerState → Result (Unit {0}) CallFault) → (peer ≡ side_number (other side) w → Own (HostNote.Done call)) → Own (done_or_refused call (if_known (state_of (host_of side w) peer) f))
   own-done call peer f made = go (state_of (host_of side w) peer) refl
     where
       by : (s : PeerState) → state_of (host_of side w) peer ≡ Some s → (r : Result (Unit {0}) CallFault) → Own (done_or_refused call r)
-      by s e (Ok u) = made (only-peer (number_of (other side) w) peer s (host_of side w).peers (only-one side w k) e)
+      by s e (Ok u) = made (only-peer (side_number (other side) w) peer s (host_of side w).peers (only-one side w k) e)
       by s e (Err fault) = refused call fault
 
       go : (o : Option PeerState) → state_of (host_of side w) peer ≡ o → Own (done_or_refused call (if_known o f))
       go None e = refused call UnknownPeer
       go (Some s) e = by s e (f s)
 
-  own-took : (peer : ℕ) (q : Pair) (bytes : ℕ) (f : PeerState → Result (List Bool) CallFault) → Own (told_or_refused (calls.Take peer q bytes) (of_host.Took peer q bytes) (if_known (state_of (host_of side w) peer) f))
+  own-took : (peer : ℕ) (q : Pair) (bytes : ℕ) (f : PeerState → Result (List Bool) CallFault) → Own (told_or_refused (Call.Take peer q bytes) (HostNote.Took peer q bytes) (if_known (state_of (host_of side w) peer) f))
   own-took peer q bytes f = go (state_of (host_of side w) peer) refl
     where
-      by : (s : PeerState) → state_of (host_of side w) peer ≡ Some s → (r : Result (List Bool) CallFault) → Own (told_or_refused (calls.Take peer q bytes) (of_host.Took peer q bytes) r)
+      by : (s : PeerState) → state_of (host_of side w) peer ≡ Some s → (r : Result (List Bool) CallFault) → Own (told_or_refused (Call.Take peer q bytes) (HostNote.Took peer q bytes) r)
       by s e (Ok text) =
-          own-asks (Asks q (Take bytes)) (worlds.Took (Ok text)) peer (of_host.Took peer q bytes text) (only-peer (number_of (other side) w) peer s (host_of side w).peers (only-one side w k) e) refl
+          own-asks (Asks q (Take bytes)) (Reply.Took (Ok text)) peer (HostNote.Took peer q bytes text) (only-peer (side_number (other side) w) peer s (host_of side w).peers (only-one side w k) e) refl
           (λ t l i. call-watched q (Take bytes) (ours side w) (watch_at side p) l i)
-      by s e (Err fault) = refused (calls.Take peer q bytes) fault
+      by s e (Err fault) = refused (Call.Take peer q bytes) fault
 
-      go : (o : Option PeerState) → state_of (host_of side w) peer ≡ o → Own (told_or_refused (calls.Take peer q bytes) (of_host.Took peer q bytes) (if_known o f))
-      go None e = refused (calls.Take peer q bytes) UnknownPeer
+      go : (o : Option PeerState) → state_of (host_of side w) peer ≡ o → Own (told_or_refused (Call.Take peer q bytes) (HostNote.Took peer q bytes) (if_known o f))
+      go None e = refused (Call.Take peer q bytes) UnknownPeer
       go (Some s) e = by s e (f s)
 
-  own-pair : (call : Call) (peer : ℕ) (q : Pair) (act : Pair_call) → told_call (of_host.Done call) ≡ Some (Called (Asks q act) (worlds.Replied (Ok tt))) → names (number_of (other side) w) (of_host.Done call) ≡ (peer == number_of (other side) w)
-      → ((t : LinkHistory) (l : Made) → made_by_note (of_host.Done call) (ours side w) t l ≡ by_pair_call q act (ours side w) l)
+  own-pair : (call : Call) (peer : ℕ) (q : Pair) (act : PairCall) → told_call (HostNote.Done call) ≡ Some (Called (Asks q act) (Reply.Replied (Ok tt))) → names (side_number (other side) w) (HostNote.Done call) ≡ (peer == side_number (other side) w)
+      → ((t : LinkSoFar) (l : Made) → made_by_note (HostNote.Done call) (ours side w) t l ≡ by_pair_call q act (ours side w) l)
       → Own (done_or_refused call (if_known (state_of (host_of side w) peer) (λ s. reply (comes_of q act s.peer))))
   own-pair call peer q act is names_it same = own-done call peer (λ s. reply (comes_of q act s.peer)) (λ e.
-      subst (λ (o : Option Told). (t : LinkHistory) (l : Made) → IsWatched (watch_at side p) l → IsWatched (watch_at side (if_told (as_rules side) o (seen w) p)) (made_from (notes_of (number_of (other side) w) (of_host.Done call ∷ [])) (ours side w) t l)) (sym is)
-      (own-asks (Asks q act) (worlds.Replied (Ok tt)) peer (of_host.Done call) e names_it
-      (λ t l i. subst (λ (j : Made). IsWatched (of_asked (Asks q act) (ours side w) (watch_at side p)) j) (sym (same t l)) (call-watched q act (ours side w) (watch_at side p) l i))))
+      subst (λ (o : Option Told). (t : LinkSoFar) (l : Made) → IsWatched (watch_at side p) l → IsWatched (watch_at side (watches_if_told (as_rules side) o (seen w) p)) (made_from (notes_of_peer (side_number (other side) w) (HostNote.Done call ∷ [])) (ours side w) t l)) (sym is)
+      (own-asks (Asks q act) (Reply.Replied (Ok tt)) peer (HostNote.Done call) e names_it
+      (λ t l i. subst (λ (j : Made). IsWatched (watch_after_asked (Asks q act) (ours side w) (watch_at side p)) j) (sym (same t l)) (call-watched q act (ours side w) (watch_at side p) l i))))
 
   reading : {T : Type 0} (call : Call) (told : T → HostNote) (r : Result T CallFault) → ((x : T) → Own (told x)) → Own (told_or_refused call told r)
   reading call told (Ok x) says = says x
   reading call told (Err fault) says = refused call fault
 
   own-answer : (call : Call) → Own (answer_to call (host_of side w))
-  own-answer (calls.Reset peer) = own-done (calls.Reset peer) peer (λ s. reset_answer s.peer.phase) (λ e. own-asks Asks_reset (worlds.Replied (Ok tt)) peer (of_host.Done (calls.Reset peer)) e refl (λ t l i. reset-watched (ours side w) (watch_at side p) l i))
-  own-answer (calls.AskSend peer local remote size room) = own-pair (calls.AskSend peer local remote size room) peer (sockets local remote) (Ask_to_send size room) refl refl (λ t l. refl)
-  own-answer (calls.AskReceive peer local remote room) = own-pair (calls.AskReceive peer local remote room) peer (sockets local remote) (Ask_to_receive room) refl refl (λ t l. refl)
-  own-answer (calls.Give peer q text) = own-pair (calls.Give peer q text) peer q (Give text) refl refl (λ t l. refl)
-  own-answer (calls.Take peer q bytes) = own-took peer q bytes (λ s. reply_of_take (comes_of q (Take bytes) s.peer))
-  own-answer (calls.Allocate peer q m b) = own-pair (calls.Allocate peer q m b) peer q (Allocate m b) refl refl (λ t l. refl)
-  own-answer (calls.CallBack peer q fm fb) = own-pair (calls.CallBack peer q fm fb) peer q (Call_back fm fb) refl refl (λ t l. refl)
-  own-answer (calls.Interrupt peer q) = own-pair (calls.Interrupt peer q) peer q Interrupt refl refl (λ t l. refl)
-  own-answer (calls.Echo peer byte) = own-done (calls.Echo peer byte) peer (λ s. reply_of_echo byte s.peer) (λ e. own-asks (Asks_echo byte) (worlds.Replied (Ok tt)) peer (of_host.Done (calls.Echo peer byte)) e refl (λ t l i. echo-watched byte (ours side w) (watch_at side p) l i))
-  own-answer (calls.Close peer q) = own-pair (calls.Close peer q) peer q Close refl refl (λ t l. refl)
-  own-answer (calls.Wake peer) = own-done (calls.Wake peer) peer (λ s. Ok tt) (λ e. own-asks Asks_wake (worlds.Replied (Ok tt)) peer (of_host.Done (calls.Wake peer)) e refl (λ t l i. i))
-  own-answer (calls.State peer q) = reading (calls.State peer q) (of_host.State peer q) (record_told peer q (host_of side w)) (λ x. quiet (of_host.State peer q x) refl (λ t l. refl))
-  own-answer (calls.Phase peer) = reading (calls.Phase peer) (of_host.Phase peer) (flags_told peer (host_of side w)) (λ x. quiet (of_host.Phase peer x) refl (λ t l. refl))
-  own-answer (calls.Echoed peer) = reading (calls.Echoed peer) (of_host.Echoed peer) (echoed_told peer (host_of side w)) (λ x. quiet (of_host.Echoed peer x) refl (λ t l. refl))
-  own-answer (calls.Errors peer) = reading (calls.Errors peer) (of_host.Errors peer) (errors_told peer (host_of side w)) (λ x. quiet (of_host.Errors peer x) refl (λ t l. refl))
-  own-answer (calls.Counts peer) = reading (calls.Counts peer) (of_host.Counts peer) (counts_told peer (host_of side w)) (λ x. quiet (of_host.Counts peer x) refl (λ t l. refl))
-  own-answer (calls.Waiting peer place) = quiet (answer_to (calls.Waiting peer place) (host_of side w)) refl (λ t l. refl)
-  own-answer (calls.Kept peer link) = quiet (answer_to (calls.Kept peer link) (host_of side w)) refl (λ t l. refl)
-  own-answer calls.Ignored = quiet (answer_to calls.Ignored (host_of side w)) refl (λ t l. refl)
+  own-answer (Call.Reset peer) = own-done (Call.Reset peer) peer (λ s. reset_answer s.peer.phase) (λ e. own-asks Asks_reset (Reply.Replied (Ok tt)) peer (HostNote.Done (Call.Reset peer)) e refl (λ t l i. reset-watched (ours side w) (watch_at side p) l i))
+  own-answer (Call.AskSend peer local remote size room) = own-pair (Call.AskSend peer local remote size room) peer (sockets local remote) (Ask_to_send size room) refl refl (λ t l. refl)
+  own-answer (Call.AskReceive peer local remote room) = own-pair (Call.AskReceive peer local remote room) peer (sockets local remote) (Ask_to_receive room) refl refl (λ t l. refl)
+  own-answer (Call.Give peer q text) = own-pair (Call.Give peer q text) peer q (Give text) refl refl (λ t l. refl)
+  own-answer (Call.Take peer q bytes) = own-took peer q bytes (λ s. reply_of_take (comes_of q (Take bytes) s.peer))
+  own-answer (Call.Allocate peer q m b) = own-pair (Call.Allocate peer q m b) peer q (Allocate m b) refl refl (λ t l. refl)
+  own-answer (Call.CallBack peer q fm fb) = own-pair (Call.CallBack peer q fm fb) peer q (Call_back fm fb) refl refl (λ t l. refl)
+  own-answer (Call.Interrupt peer q) = own-pair (Call.Interrupt peer q) peer q Interrupt refl refl (λ t l. refl)
+  own-answer (Call.Echo peer byte) = own-done (Call.Echo peer byte) peer (λ s. reply_of_echo byte s.peer) (λ e. own-asks (Asks_echo byte) (Reply.Replied (Ok tt)) peer (HostNote.Done (Call.Echo peer byte)) e refl (λ t l i. echo-watched byte (ours side w) (watch_at side p) l i))
+  own-answer (Call.Close peer q) = own-pair (Call.Close peer q) peer q Close refl refl (λ t l. refl)
+  own-answer (Call.Wake peer) = own-done (Call.Wake peer) peer (λ s. Ok tt) (λ e. own-asks Asks_wake (Reply.Replied (Ok tt)) peer (HostNote.Done (Call.Wake peer)) e refl (λ t l i. i))
+  own-answer (Call.State peer q) = reading (Call.State peer q) (HostNote.State peer q) (record_told peer q (host_of side w)) (λ x. quiet (HostNote.State peer q x) refl (λ t l. refl))
+  own-answer (Call.Phase peer) = reading (Call.Phase peer) (HostNote.Phase peer) (flags_told peer (host_of side w)) (λ x. quiet (HostNote.Phase peer x) refl (λ t l. refl))
+  own-answer (Call.Echoed peer) = reading (Call.Echoed peer) (HostNote.Echoed peer) (echoed_told peer (host_of side w)) (λ x. quiet (HostNote.Echoed peer x) refl (λ t l. refl))
+  own-answer (Call.Errors peer) = reading (Call.Errors peer) (HostNote.Errors peer) (errors_told peer (host_of side w)) (λ x. quiet (HostNote.Errors peer x) refl (λ t l. refl))
+  own-answer (Call.Counts peer) = reading (Call.Counts peer) (HostNote.Counts peer) (counts_told peer (host_of side w)) (λ x. quiet (HostNote.Counts peer x) refl (λ t l. refl))
+  own-answer (Call.Waiting peer place) = quiet (answer_to (Call.Waiting peer place) (host_of side w)) refl (λ t l. refl)
+  own-answer (Call.Kept peer link) = quiet (answer_to (Call.Kept peer link) (host_of side w)) refl (λ t l. refl)
+  own-answer Call.Ignored = quiet (answer_to Call.Ignored (host_of side w)) refl (λ t l. refl)
 
   own : (call : Call) (hn : HostNote) → CallNoted call hn (host_of side w) → Own hn
   own call hn (inl e) = subst Own (sym e) (own-answer call)
@@ -216,23 +210,23 @@ module _ (side : Side) (w : Hosts) (k : Stand w) (p : Watches) where
 
 -- a call at the other
 
-a-aside : (o : Option Asked) (v : World) (p : Watches) → (if_told That (done o) v p).this ≡ p.this
+a-aside : (o : Option Asked) (v : World) (p : Watches) → (watches_if_told That (done o) v p).this ≡ p.this
 a-aside None v p = refl
 a-aside (Some asked) v p = refl
 
-b-aside : (o : Option Asked) (v : World) (p : Watches) → (if_told This (done o) v p).that ≡ p.that
+b-aside : (o : Option Asked) (v : World) (p : Watches) → (watches_if_told This (done o) v p).that ≡ p.that
 b-aside None v p = refl
 b-aside (Some asked) v p = refl
 
-a-call-aside : (hn : HostNote) (v : World) (p : Watches) → (if_told That (told_call hn) v p).this ≡ p.this
-a-call-aside (of_host.Done call) v p = a-aside (asked_by call) v p
+a-call-aside : (hn : HostNote) (v : World) (p : Watches) → (watches_if_told That (told_call hn) v p).this ≡ p.this
+a-call-aside (HostNote.Done call) v p = a-aside (asked_by call) v p
 a-call-aside hn v p = refl
 
-b-call-aside : (hn : HostNote) (v : World) (p : Watches) → (if_told This (told_call hn) v p).that ≡ p.that
-b-call-aside (of_host.Done call) v p = b-aside (asked_by call) v p
+b-call-aside : (hn : HostNote) (v : World) (p : Watches) → (watches_if_told This (told_call hn) v p).that ≡ p.that
+b-call-aside (HostNote.Done call) v p = b-aside (asked_by call) v p
 b-call-aside hn v p = refl
 
-called : (side by : Side) (w : Hosts) → Stand w → (p : Watches) (call : Call) (hn : HostNote) → CallNoted call hn (host_of by w) → StepAt side (notes.Called by hn) w p
+called : (side by : Side) (w : Hosts) → Stand w → (p : Watches) (call : Call) (hn : HostNote) → CallNoted call hn (host_of by w) → StepAt side (Note.Called by hn) w p
 called A A w k p call hn c = own A w k p call hn c
 called B B w k p call hn c = own B w k p call hn c
 called A B w k p call hn c = λ t l i. subst (λ (x : Watch). IsWatched x l) (sym (a-call-aside hn (seen w) p)) i
@@ -240,50 +234,50 @@ called B A w k p call hn c = λ t l i. subst (λ (x : Watch). IsWatched x l) (sy
 
 -- a message that goes out
 
-out-watched : (r : Result Leader Short) (t : LinkHistory) (l : Made) (x : Watch) → IsWatched x l → IsWatched x (by_out r t l)
-out-watched r t l x i = go (is_number control_link (link_of_leader r)) (is_fresh t)
+out-watched : (r : Result Leader Short) (t : LinkSoFar) (l : Made) (x : Watch) → IsWatched x l → IsWatched x (by_out r t l)
+out-watched r t l x i = go (is_this_number control_link (link_of_leader r)) (goes_fresh t)
   where
-    go : (a b : Bool) → IsWatched x (if a then (if b then sent l else l) else l)
+    go : (a b : Bool) → IsWatched x (if a then (if b then made_sent l else l) else l)
     go true true = i
     go true false = i
     go false b = i
 
-went : (side by : Side) (w : Hosts) (p : Watches) (o : Option (List Bool)) → StepAt side (notes.Out by (note_of_message o)) w p
-went A A w p None = λ t l i. still (names w.number_b of_host.Nothing) of_host.Nothing (ours A w) t l p.this i i
-went A A w p (Some m) = λ t l i. still (names w.number_b (of_host.Out m)) (of_host.Out m) (ours A w) t l p.this (out-watched (leader_in m) t l p.this i) i
+went : (side by : Side) (w : Hosts) (p : Watches) (o : Option (List Bool)) → StepAt side (Note.Out by (note_of_message o)) w p
+went A A w p None = λ t l i. still (names w.number_b HostNote.Nothing) HostNote.Nothing (ours A w) t l p.this i i
+went A A w p (Some m) = λ t l i. still (names w.number_b (HostNote.Out m)) (HostNote.Out m) (ours A w) t l p.this (out-watched (leader_in m) t l p.this i) i
 went A B w p None = λ t l i. i
 went A B w p (Some m) = λ t l i. i
 went B A w p None = λ t l i. i
 went B A w p (Some m) = λ t l i. i
-went B B w p None = λ t l i. still (names w.number_a of_host.Nothing) of_host.Nothing (ours B w) t l p.that i i
-went B B w p (Some m) = λ t l i. still (names w.number_a (of_host.Out m)) (of_host.Out m) (ours B w) t l p.that (out-watched (leader_in m) t l p.that i) i
+went B B w p None = λ t l i. still (names w.number_a HostNote.Nothing) HostNote.Nothing (ours B w) t l p.that i i
+went B B w p (Some m) = λ t l i. still (names w.number_a (HostNote.Out m)) (HostNote.Out m) (ours B w) t l p.that (out-watched (leader_in m) t l p.that i) i
 
 -- an answer that comes, to a message that is out
 
-was-answered : (side by : Side) (link : ℕ) (w : Hosts) (p : Watches) (hn : HostNote) → IsAnswerAbout (number_of (other by) w) link hn → is_answered link (ours by w) ≡ true → StepAt side (notes.Answered by link hn) w p
-was-answered side by link w p hn (how, told, is) out = subst (λ (x : HostNote). StepAt side (notes.Answered by link x) w p) (sym is) (go side by out)
+was-answered : (side by : Side) (link : ℕ) (w : Hosts) (p : Watches) (hn : HostNote) → IsAnswerAbout (side_number (other by) w) link hn → is_answered link (ours by w) ≡ true → StepAt side (Note.Answered by link hn) w p
+was-answered side by link w p hn (how, told, is) out = subst (λ (x : HostNote). StepAt side (Note.Answered by link x) w p) (sym is) (go side by out)
   where
-    go : (side by : Side) → is_answered link (ours by w) ≡ true → StepAt side (notes.Answered by link (of_host.Answered (number_of (other by) w) link how told)) w p
-    go A A e = λ t l i. named (w.number_b == w.number_b) (of_host.Answered w.number_b link how told) (ours A w) t l (of_answer link how (ours A w) p.this) (eq-eqb w.number_b w.number_b refl) (answer-watched link how (ours A w) p.this l e i)
+    go : (side by : Side) → is_answered link (ours by w) ≡ true → StepAt side (Note.Answered by link (HostNote.Answered (side_number (other by) w) link how told)) w p
+    go A A e = λ t l i. named (w.number_b == w.number_b) (HostNote.Answered w.number_b link how told) (ours A w) t l (of_answer link how (ours A w) p.this) (eq-eqb w.number_b w.number_b refl) (answer-watched link how (ours A w) p.this l e i)
     go A B e = λ t l i. i
     go B A e = λ t l i. i
-    go B B e = λ t l i. named (w.number_a == w.number_a) (of_host.Answered w.number_a link how told) (ours B w) t l (of_answer link how (ours B w) p.that) (eq-eqb w.number_a w.number_a refl) (answer-watched link how (ours B w) p.that l e i)
+    go B B e = λ t l i. named (w.number_a == w.number_a) (HostNote.Answered w.number_a link how told) (ours B w) t l (of_answer link how (ours B w) p.that) (eq-eqb w.number_a w.number_a refl) (answer-watched link how (ours B w) p.that l e i)
 
 -- nothing comes
 
-none-came : (side by : Side) (link : ℕ) (kind : _) (w : Hosts) (p : Watches) → StepAt side (notes.Nothing by link kind) w p
+none-came : (side by : Side) (link : ℕ) (kind : _) (w : Hosts) (p : Watches) → StepAt side (Note.Nothing by link kind) w p
 none-came A A link kind w p = λ t l i. i
 none-came A B link kind w p = λ t l i. i
 none-came B A link kind w p = λ t l i. i
 none-came B B link kind w p = λ t l i. i
 
-was-lost : (side by : Side) (link : ℕ) (w : Hosts) (p : Watches) → StepAt side (notes.Lost by link) w p
+was-lost : (side by : Side) (link : ℕ) (w : Hosts) (p : Watches) → StepAt side (Note.Lost by link) w p
 was-lost A A link w p = λ t l i. i
 was-lost A B link w p = λ t l i. i
 was-lost B A link w p = λ t l i. i
 was-lost B B link w p = λ t l i. i
 
-was-dead : (side by : Side) (link : ℕ) (w : Hosts) (p : Watches) → StepAt side (notes.FoundDead by link) w p
+was-dead : (side by : Side) (link : ℕ) (w : Hosts) (p : Watches) → StepAt side (Note.FoundDead by link) w p
 was-dead A A link w p = λ t l i. i
 was-dead A B link w p = λ t l i. i
 was-dead B A link w p = λ t l i. i
@@ -291,7 +285,7 @@ was-dead B B link w p = λ t l i. i
 
 -- A message of side A that comes to side B.
 
-module _ (w : Hosts) (k : Stand w) (x : hosts.World) (t : Tied x (seen w)) (link : ℕ) (m : List Bool) (e : (seen w).going link ≡ Accepted m) where
+module _ (w : Hosts) (k : Stand w) (x : TwoNodes) (t : Tied x (seen w)) (link : ℕ) (m : List Bool) (e : (seen w).going link ≡ Accepted m) where
   front : leader_in (from_host w.number_a m) ≡ Ok (leader_to w.number_a link)
   front = (sent-led link x (seen w) m t e).1
 
@@ -299,52 +293,52 @@ module _ (w : Hosts) (k : Stand w) (x : hosts.World) (t : Tied x (seen w)) (link
   right = subst (λ (h : Holds). MakesNoErr (delivers link h (seen w)).1 (seen w) (delivers link h (seen w)).0) e (makes-no-err (Is_delivered link) x (seen w) tt t)
 
   unrefused : is_refused (message_received link (message_in (from_host w.number_a m)) (had_for w.number_a w.b)) ≡ false
-  unrefused = ap (λ (r : Result Leader Short). is_refused (worlds.received_with r (from_host w.number_a m) (had_for w.number_a w.b))) (sym front) ∙ right.1
+  unrefused = ap (λ (r : Result Leader Short). is_refused (state_received_with r (from_host w.number_a m) (had_for w.number_a w.b))) (sym front) ∙ right.1
 
-  pub noted-in : note_of_bits (from_host w.number_a m) w.b ≡ of_host.In (from_host w.number_a m) (received_in (from_host w.number_a m) w.b)
+  pub noted-in : note_of_bits (from_host w.number_a m) w.b ≡ HostNote.In (from_host w.number_a m) (received_in (from_host w.number_a m) w.b)
   noted-in = noted-message w.b (from_host w.number_a m) (leader_to w.number_a link) front refl
 
-  pub come-here : (told : Received) (seen_there : Watch) (h : LinkHistory) (l : Made) → IsWatched seen_there l
-      → IsWatched (of_message link (from_host w.number_a m) (had_for w.number_a w.b) seen_there) (made_from (notes_of w.number_a (of_host.In (from_host w.number_a m) told ∷ [])) (had_for w.number_a w.b) h l)
+  pub come-here : (told : Received) (seen_there : Watch) (h : LinkSoFar) (l : Made) → IsWatched seen_there l
+      → IsWatched (watch_after_message link (from_host w.number_a m) (had_for w.number_a w.b) seen_there) (made_from (notes_of_peer w.number_a (HostNote.In (from_host w.number_a m) told ∷ [])) (had_for w.number_a w.b) h l)
   come-here told y h l i =
       let j = judged link (message_in (from_host w.number_a m)) (had_for w.number_a w.b) unrefused in
-      named (names w.number_a (of_host.In (from_host w.number_a m) told)) (of_host.In (from_host w.number_a m) told) (had_for w.number_a w.b) h l (of_message link (from_host w.number_a m) (had_for w.number_a w.b) y)
-      (ap (λ (r : Result Leader Short). is_number w.number_a (peer_of_leader r)) front ∙ eq-eqb w.number_a w.number_a refl)
-      (subst (λ (r : Result Leader Short). IsWatched (of_message link (from_host w.number_a m) (had_for w.number_a w.b) y) (by_bits r (from_host w.number_a m) (had_for w.number_a w.b) l)) (sym front)
-      (subst (λ (o : Result Message MessageFault). IsWatched (if link == control_link then sees_each (is_quiet (had_for w.number_a w.b).slots) (commands_in (bytes_of (text_read o))) (had_for w.number_a w.b).peer y else of_text link (take FRONT_BITS (from_host w.number_a m)) o (had_for w.number_a w.b) y) (by_message link (from_host w.number_a m) o (had_for w.number_a w.b) l)) (sym j.is)
+      named (names w.number_a (HostNote.In (from_host w.number_a m) told)) (HostNote.In (from_host w.number_a m) told) (had_for w.number_a w.b) h l (watch_after_message link (from_host w.number_a m) (had_for w.number_a w.b) y)
+      (ap (λ (r : Result Leader Short). is_this_number w.number_a (peer_of_leader r)) front ∙ eq-eqb w.number_a w.number_a refl)
+      (subst (λ (r : Result Leader Short). IsWatched (watch_after_message link (from_host w.number_a m) (had_for w.number_a w.b) y) (by_bits r (from_host w.number_a m) (had_for w.number_a w.b) l)) (sym front)
+      (subst (λ (o : Result Message MessageFault). IsWatched (if link == control_link then sees_each (is_quiet (had_for w.number_a w.b).slots) (commands_in (bytes_of (text_read o))) (had_for w.number_a w.b).peer y else watch_after_text link (take FRONT_BITS (from_host w.number_a m)) o (had_for w.number_a w.b) y) (by_message link (from_host w.number_a m) o (had_for w.number_a w.b) l)) (sym j.is)
       (message-watched link (from_host w.number_a m) j.m (had_for w.number_a w.b) y l j.good j.sized
       (λ z. ap (λ (o : Result Message MessageFault). fault_in (bytes_of (text_read o))) (sym j.is) ∙ (right.0 z).0) i)))
 
-  a-comes : (side : Side) (p : Watches) → StepAt side (notes.Came A link (note_of_bits (from_host w.number_a m) w.b)) w p
-  a-comes side p = subst (λ (hn : HostNote). StepAt side (notes.Came A link hn) w p) (sym noted-in) (go side)
+  a-comes : (side : Side) (p : Watches) → StepAt side (Note.Came A link (note_of_bits (from_host w.number_a m) w.b)) w p
+  a-comes side p = subst (λ (hn : HostNote). StepAt side (Note.Came A link hn) w p) (sym noted-in) (go side)
     where
-      go : (side : Side) → StepAt side (notes.Came A link (of_host.In (from_host w.number_a m) (received_in (from_host w.number_a m) w.b))) w p
+      go : (side : Side) → StepAt side (Note.Came A link (HostNote.In (from_host w.number_a m) (received_in (from_host w.number_a m) w.b))) w p
       go A = λ h l i. i
       go B = come-here (received_in (from_host w.number_a m) w.b) p.that
 
-a-arrives : (w : Hosts) → Stand w → (x : hosts.World) → Tied x (seen w) → (link : ℕ) (h : Holds) → (seen w).going link ≡ h → (side : Side) (p : Watches) → StepAt side (came A link (arriving w.number_a h) w) w p
-a-arrives w k x t link Free e side p = none-came side A link move_kinds.Deliver w p
-a-arrives w k x t link Delivered e side p = none-came side A link move_kinds.Deliver w p
-a-arrives w k x t link Lost e side p = none-came side A link move_kinds.Deliver w p
-a-arrives w k x t link Dead e side p = none-came side A link move_kinds.Deliver w p
+a-arrives : (w : Hosts) → Stand w → (x : TwoNodes) → Tied x (seen w) → (link : ℕ) (h : Holds) → (seen w).going link ≡ h → (side : Side) (p : Watches) → StepAt side (note_of_coming A link (arriving w.number_a h) w) w p
+a-arrives w k x t link Free e side p = none-came side A link Move.Deliver w p
+a-arrives w k x t link Delivered e side p = none-came side A link Move.Deliver w p
+a-arrives w k x t link Lost e side p = none-came side A link Move.Deliver w p
+a-arrives w k x t link Dead e side p = none-came side A link Move.Deliver w p
 a-arrives w k x t link (Accepted m) e side p = a-comes w k x t link m e side p
 
-b-comes : (w : Hosts) → Stand w → (x : hosts.World) → Tied x (seen w) → (link : ℕ) (m : List Bool) → (seen w).coming link ≡ Accepted m → (side : Side) (p : Watches) → StepAt side (notes.Came B link (note_of_bits (from_host w.number_b m) w.a)) w p
-b-comes w k x t link m e side p = subst (λ (hn : HostNote). StepAt side (notes.Came B link hn) w p) (sym (noted-in (turned w) (stand-turned w k) (hosts.swap x) (tied-swapped x (seen w) t) link m e)) (go side)
+b-comes : (w : Hosts) → Stand w → (x : TwoNodes) → Tied x (seen w) → (link : ℕ) (m : List Bool) → (seen w).coming link ≡ Accepted m → (side : Side) (p : Watches) → StepAt side (Note.Came B link (note_of_bits (from_host w.number_b m) w.a)) w p
+b-comes w k x t link m e side p = subst (λ (hn : HostNote). StepAt side (Note.Came B link hn) w p) (sym (noted-in (turned w) (stand-turned w k) (nodes_swapped x) (tied-swapped x (seen w) t) link m e)) (go side)
   where
-    go : (side : Side) → StepAt side (notes.Came B link (of_host.In (from_host w.number_b m) (received_in (from_host w.number_b m) w.a))) w p
-    go A = come-here (turned w) (stand-turned w k) (hosts.swap x) (tied-swapped x (seen w) t) link m e (received_in (from_host w.number_b m) w.a) p.this
+    go : (side : Side) → StepAt side (Note.Came B link (HostNote.In (from_host w.number_b m) (received_in (from_host w.number_b m) w.a))) w p
+    go A = come-here (turned w) (stand-turned w k) (nodes_swapped x) (tied-swapped x (seen w) t) link m e (received_in (from_host w.number_b m) w.a) p.this
     go B = λ h l i. i
 
-b-arrives : (w : Hosts) → Stand w → (x : hosts.World) → Tied x (seen w) → (link : ℕ) (h : Holds) → (seen w).coming link ≡ h → (side : Side) (p : Watches) → StepAt side (came B link (arriving w.number_b h) w) w p
-b-arrives w k x t link Free e side p = none-came side B link move_kinds.Deliver w p
-b-arrives w k x t link Delivered e side p = none-came side B link move_kinds.Deliver w p
-b-arrives w k x t link Lost e side p = none-came side B link move_kinds.Deliver w p
-b-arrives w k x t link Dead e side p = none-came side B link move_kinds.Deliver w p
+b-arrives : (w : Hosts) → Stand w → (x : TwoNodes) → Tied x (seen w) → (link : ℕ) (h : Holds) → (seen w).coming link ≡ h → (side : Side) (p : Watches) → StepAt side (note_of_coming B link (arriving w.number_b h) w) w p
+b-arrives w k x t link Free e side p = none-came side B link Move.Deliver w p
+b-arrives w k x t link Delivered e side p = none-came side B link Move.Deliver w p
+b-arrives w k x t link Lost e side p = none-came side B link Move.Deliver w p
+b-arrives w k x t link Dead e side p = none-came side B link Move.Deliver w p
 b-arrives w k x t link (Accepted m) e side p = b-comes w k x t link m e side p
 
 -- An answer of the subnet to side A is about a message that is out.
-answer-out : (w : Hosts) → Stand w → (x : hosts.World) → Tied x (seen w) → (link : ℕ) (h : Holds) → (seen w).going link ≡ h → AnswerNamed (answer_about w.number_b link h) w.number_b link w → ToldAbout (answer_about w.number_b link h) w.number_b link (ours A w) w.a
+answer-out : (w : Hosts) → Stand w → (x : TwoNodes) → Tied x (seen w) → (link : ℕ) (h : Holds) → (seen w).going link ≡ h → AnswerNamed (answer_about w.number_b link h) w.number_b link w → ToldAbout (answer_about w.number_b link h) w.number_b link (ours A w) w.a
 answer-out w k x t link Free e n = tt
 answer-out w k x t link (Accepted m) e n = tt
 answer-out w k x t link Delivered e n = (n, ap is_travelling (delivered-out link x (seen w) t e).in_slot)
@@ -353,31 +347,31 @@ answer-out w k x t link Dead e n = (n, ap is_travelling (dead-out link x (seen w
 
 -- Each event.
 
-answered-here : (by side : Side) (link : ℕ) (o : Option (List Bool)) (w : Hosts) (p : Watches) → ToldAbout o (number_of (other by) w) link (ours by w) (host_of by w) → StepAt side (answered by link o w) w p
-answered-here by side link None w p k = none-came side by link move_kinds.Answer w p
+answered-here : (by side : Side) (link : ℕ) (o : Option (List Bool)) (w : Hosts) (p : Watches) → ToldAbout o (side_number (other by) w) link (ours by w) (host_of by w) → StepAt side (note_of_answering by link o w) w p
+answered-here by side link None w p k = none-came side by link Move.Answer w p
 answered-here by side link (Some bits) w p k = was-answered side by link w p (note_of_bits bits (host_of by w)) k.0 k.1
 
-lost-here : (side by : Side) (link : ℕ) (b : Bool) (w : Hosts) (p : Watches) → StepAt side (if b then notes.Lost by link else notes.Nothing by link move_kinds.Lose) w p
+lost-here : (side by : Side) (link : ℕ) (b : Bool) (w : Hosts) (p : Watches) → StepAt side (if b then Note.Lost by link else Note.Nothing by link Move.Lose) w p
 lost-here side by link true w p = was-lost side by link w p
-lost-here side by link false w p = none-came side by link move_kinds.Lose w p
+lost-here side by link false w p = none-came side by link Move.Lose w p
 
-dead-here : (side by : Side) (link : ℕ) (b : Bool) (w : Hosts) (p : Watches) → StepAt side (if b then notes.FoundDead by link else notes.Nothing by link move_kinds.Dead) w p
+dead-here : (side by : Side) (link : ℕ) (b : Bool) (w : Hosts) (p : Watches) → StepAt side (if b then Note.FoundDead by link else Note.Nothing by link Move.Dead) w p
 dead-here side by link true w p = was-dead side by link w p
-dead-here side by link false w p = none-came side by link move_kinds.Dead w p
+dead-here side by link false w p = none-came side by link Move.Dead w p
 
-pub step-here : (side : Side) (w : Hosts) → Stand w → (x : hosts.World) → Tied x (seen w) → (event : Event) (note : Note) → Noted event note w → (p : Watches) → StepAt side note w p
-step-here side w k x t (events.Call by call) note n p = subst (λ (y : Note). StepAt side y w p) (sym n.said) (called side by w k p call n.of_host n.noted)
-step-here side w k x t (events.Out by) note n p = subst (λ (y : Note). StepAt side y w p) (sym n) (went side by w p (next_output (host_of by w)))
-step-here side w k x t (events.Deliver A link) note n p = subst (λ (y : Note). StepAt side y w p) (sym n) (a-arrives w k x t link ((seen w).going link) refl side p)
-step-here side w k x t (events.Deliver B link) note n p = subst (λ (y : Note). StepAt side y w p) (sym n) (b-arrives w k x t link ((seen w).coming link) refl side p)
-step-here side w k x t (events.Lose by link) note n p = subst (λ (y : Note). StepAt side y w p) (sym n) (lost-here side by link _ w p)
-step-here side w k x t (events.Dead by link) note n p = subst (λ (y : Note). StepAt side y w p) (sym n) (dead-here side by link _ w p)
-step-here side w k x t (events.Answer A link) note n p =
+pub step-here : (side : Side) (w : Hosts) → Stand w → (x : TwoNodes) → Tied x (seen w) → (event : Event) (note : Note) → Noted event note w → (p : Watches) → StepAt side note w p
+step-here side w k x t (Event.Call by call) note n p = subst (λ (y : Note). StepAt side y w p) (sym n.said) (called side by w k p call n.of_host n.noted)
+step-here side w k x t (Event.Out by) note n p = subst (λ (y : Note). StepAt side y w p) (sym n) (went side by w p (next_output (host_of by w)))
+step-here side w k x t (Event.Deliver A link) note n p = subst (λ (y : Note). StepAt side y w p) (sym n) (a-arrives w k x t link ((seen w).going link) refl side p)
+step-here side w k x t (Event.Deliver B link) note n p = subst (λ (y : Note). StepAt side y w p) (sym n) (b-arrives w k x t link ((seen w).coming link) refl side p)
+step-here side w k x t (Event.Lose by link) note n p = subst (λ (y : Note). StepAt side y w p) (sym n) (lost-here side by link _ w p)
+step-here side w k x t (Event.Dead by link) note n p = subst (λ (y : Note). StepAt side y w p) (sym n) (dead-here side by link _ w p)
+step-here side w k x t (Event.Answer A link) note n p =
     subst (λ (y : Note). StepAt side y w p) (sym n)
     (answered-here A side link (answer_about w.number_b link ((seen w).going link)) w p
     (answer-out w k x t link ((seen w).going link) refl (answer-named w k x t link ((seen w).going link) refl)))
-step-here side w k x t (events.Answer B link) note n p =
+step-here side w k x t (Event.Answer B link) note n p =
     subst (λ (y : Note). StepAt side y w p) (sym n)
     (answered-here B side link (answer_about w.number_a link ((seen w).coming link)) w p
-    (answer-out (turned w) (stand-turned w k) (hosts.swap x) (tied-swapped x (seen w) t) link ((seen w).coming link) refl
-    (answer-named (turned w) (stand-turned w k) (hosts.swap x) (tied-swapped x (seen w) t) link ((seen w).coming link) refl)))
+    (answer-out (turned w) (stand-turned w k) (nodes_swapped x) (tied-swapped x (seen w) t) link ((seen w).coming link) refl
+    (answer-named (turned w) (stand-turned w k) (nodes_swapped x) (tied-swapped x (seen w) t) link ((seen w).coming link) refl)))

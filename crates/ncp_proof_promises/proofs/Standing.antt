@@ -7,15 +7,15 @@ use Rattle.ncp_transcript_two.specs.Seen.{state_or_new, had_for}
 use Rattle.ncp_transcript_two.specs.declared.side.Side.{Side}
 use Rattle.ncp_transcript_two.specs.declared.side.Side.TheVariants.{A, B}
 use Rattle.ncp_transcript_two.specs.declared.note.Note.{Note}
-use Rattle.ncp_transcript_two.specs.Between.{Hosts, other, number_of, host_of, after_note, after_notes}
+use Rattle.ncp_transcript_two.specs.Between.{Hosts, other, side_number, host_of, hosts_after_note, hosts_after_notes}
 use Rattle.ncp_transcript_two.specs.Transcript.{began, IsTranscript}
 use Rattle.ncp_transcript_two.proofs.SeenSteps.{Stand}
 use Rattle.ncp_transcript_two.proofs.SeenRuns.{stand-after}
 use Rattle.ncp_transcript_two.proofs.Headlines.{stands}
 
-stands-all : (ns : List Note) (w : Hosts) → Stand w → Stand (after_notes ns w)
+stands-all : (ns : List Note) (w : Hosts) → Stand w → Stand (hosts_after_notes ns w)
 stands-all [] w k = k
-stands-all (note ∷ ns) w k = stands-all ns (after_note note w) (stand-after note w k)
+stands-all (note ∷ ns) w k = stands-all ns (hosts_after_note note w) (stand-after note w k)
 
 stands-last : (ns : List Note) (w : Hosts) → IsTranscript ns w → Stand w
 stands-last ns w t = subst (λ (x : Hosts). Stand x) (sym t.state) (stands-all ns (began w) (stands ns w t))
@@ -29,6 +29,6 @@ had-one n (p ∷ ps) e =
     here ∙ ap (λ (o : Option PeerState). Some (state_or_new o)) (sym here)
 
 -- what a host has for the other
-pub kept-for : (ns : List Note) (w : Hosts) (side : Side) → IsTranscript ns w → state_of (host_of side w) (number_of (other side) w) ≡ Some (had_for (number_of (other side) w) (host_of side w))
+pub kept-for : (ns : List Note) (w : Hosts) (side : Side) → IsTranscript ns w → state_of (host_of side w) (side_number (other side) w) ≡ Some (had_for (side_number (other side) w) (host_of side w))
 kept-for ns w A t = had-one w.number_b w.a.peers (stands-last ns w t).a
 kept-for ns w B t = had-one w.number_a w.b.peers (stands-last ns w t).b

@@ -4,53 +4,52 @@ use Rattle.std.proofs.lemmas.Bool.{eq-eqb}
 use Rattle.ncp_terms.specs.declared.command.Command.{Command}
 use Rattle.ncp_slot.specs.Slots.{LinkSlot, no_slots}
 use Rattle.ncp_slot.proofs.Places.{slot_at-no_slots}
-use Rattle.ncp_transcript_two.specs.Subnet.{Subnet}
-use Rattle.ncp_proof_resets.specs.Resets.{Side, This, That}
+use Rattle.ncp_transcript_two.specs.Subnet.{TransitByLink}
+use Rattle.ncp_proof_resets.specs.Resets.{Party, This, That}
 use Rattle.ncp_proof_resets.proofs.ResetKept.{Kept}
 use Rattle.ncp_proof_resets.proofs.ResetRuns.{starting}
-use Rattle.ncp_proof_machine.specs.Hosts as hosts
+use Rattle.ncp_proof_machine.specs.Hosts.{nodes_swapped}
 use Rattle.ncp_host.specs.PeerState.{PeerState, new_state}
-use Rattle.ncp_transcript_two.specs.World.{World, swap, Told, Event, moves, at, step, run_from, notes_from}
-use Rattle.ncp_transcript_two.specs.World as worlds
+use Rattle.ncp_transcript_two.specs.World.{World, swap, Told, WorldEvent, moves, at, step, world_run_from, notes_from, WorldNote}
 use Rattle.ncp_transcript_two.specs.Tie.{IsOfModel}
 use Rattle.ncp_transcript_two.specs.declared.note.Note.{Note}
-use Rattle.ncp_transcript_two.specs.Between.{Hosts, after_note, after_notes}
+use Rattle.ncp_transcript_two.specs.Between.{Hosts, hosts_after_note, hosts_after_notes}
 use Rattle.ncp_transcript_two.specs.Transcript.{IsRun, began, IsTranscript}
 use Rattle.ncp_transcript_two.specs.Seen.{state_or_new, seen, as_rules, told_of, side_of, notes_of}
 use Rattle.ncp_transcript_two.proofs.Ties.{tied-swapped}
 use Rattle.ncp_transcript_two.proofs.SeenSteps.{Stand}
 use Rattle.ncp_transcript_two.proofs.SeenRuns.{Follows, follows}
-use Rattle.ncp_proof_promises.specs.Since.{Watches, nothing_seen, none_watched, after_told, on_side, if_told, watched_from, other_way, CommandsAgree, IsSilent}
+use Rattle.ncp_proof_promises.specs.Since.{Watches, nothing_seen, none_watched, watches_after_told, watches_on_side, watches_if_told, watched_from, other_way, CommandsAgree, IsSilentWhileDown}
 use Rattle.ncp_transcript_two.proofs.SeenRuns.{stand-after}
 use Rattle.ncp_transcript_two.proofs.Headlines.{stands}
 use Rattle.ncp_proof_promises.proofs.Each.{begins-tied, tied-after}
 use Rattle.ncp_proof_promises.proofs.Lines.{line_of, line}
 use Rattle.ncp_proof_promises.proofs.Keeping.{host_at, KeptIn, step-kept, kept-turned, commands-agree, silent}
 
-on-side : (e : Event) (v : World) (p : Watches) → IsOfModel v → KeptIn p v → KeptIn (on_side e.side (step e v).1.told v p) (step e v).0
+on-side : (e : WorldEvent) (v : World) (p : Watches) → IsOfModel v → KeptIn p v → KeptIn (watches_on_side e.side (step e v).1.told v p) (step e v).0
 on-side e v p m g = go e.side
   where
-    go : (side : Side) → KeptIn (on_side side (at side e.step v).1 v p) (at side e.step v).0
+    go : (side : Party) → KeptIn (watches_on_side side (at side e.step v).1 v p) (at side e.step v).0
     go This = step-kept e.step m.0 v p m.1 g
     go That =
         let d : World × Told = moves e.step (swap v) in
-        kept-turned (after_told d.1 (swap v) (record { this = p.that; that = p.this })) d.0 (step-kept e.step (hosts.swap m.0) (swap v) (record { this = p.that; that = p.this }) (tied-swapped m.0 v m.1) (kept-turned p v g))
+        kept-turned (watches_after_told d.1 (swap v) (record { this = p.that; that = p.this })) d.0 (step-kept e.step (nodes_swapped m.0) (swap v) (record { this = p.that; that = p.this }) (tied-swapped m.0 v m.1) (kept-turned p v g))
 
-of-one : (side : Side) (v : World) (p : Watches) → IsOfModel v → KeptIn p v → (o : Option Told) (es : List Event) → notes_from es v ≡ notes_of side o ++ [] → KeptIn (if_told side o v p) (run_from es v)
+of-one : (side : Party) (v : World) (p : Watches) → IsOfModel v → KeptIn p v → (o : Option Told) (es : List WorldEvent) → notes_from es v ≡ notes_of side o ++ [] → KeptIn (watches_if_told side o v p) (world_run_from es v)
 of-one side v p m g None [] e = g
 of-one side v p m g None (x ∷ es) e = absurd (cc e)
 of-one side v p m g (Some t) [] e = absurd (cc e)
 of-one side v p m g (Some t) (x ∷ []) e =
-    let is : (step x v).1 ≡ (let n : worlds.Note = record { side = side; told = t } in n) = cc e in
-    subst (λ (n : worlds.Note). KeptIn (on_side n.side n.told v p) (step x v).0) is (on-side x v p m g)
+    let is : (step x v).1 ≡ (let n : WorldNote = record { side = side; told = t } in n) = cc e in
+    subst (λ (n : WorldNote). KeptIn (watches_on_side n.side n.told v p) (step x v).0) is (on-side x v p m g)
 of-one side v p m g (Some t) (x ∷ y ∷ es) e = absurd (cc e)
 
-each : (ns : List Note) (w : Hosts) (p : Watches) → IsRun ns w → Stand w → IsOfModel (seen w) → KeptIn p (seen w) → KeptIn (watched_from ns w p) (seen (after_notes ns w))
+each : (ns : List Note) (w : Hosts) (p : Watches) → IsRun ns w → Stand w → IsOfModel (seen w) → KeptIn p (seen w) → KeptIn (watched_from ns w p) (seen (hosts_after_notes ns w))
 each [] w p r k m g = g
 each (note ∷ ns) w p r k m g =
     let f : Follows (note ∷ []) w (seen w) = follows (note ∷ []) w (r.0, tt) k m in
-    let q : Watches = if_told (as_rules (side_of note)) (told_of note) (seen w) p in
-    each ns (after_note note w) q r.1 (stand-after note w k) (tied-after note w f m)
+    let q : Watches = watches_if_told (as_rules (side_of note)) (told_of note) (seen w) p in
+    each ns (hosts_after_note note w) q r.1 (stand-after note w k) (tied-after note w f m)
     (subst (KeptIn q) f.state (of-one (as_rules (side_of note)) (seen w) p m g (told_of note) f.events f.said))
 
 -- at the beginning
@@ -58,7 +57,7 @@ each (note ∷ ns) w p r k m g =
 new-state : (n : ℕ) → state_or_new (if n == n then Some new_state else None) ≡ new_state
 new-state n = ap (λ (b : Bool). state_or_new (if b then Some new_state else None)) (eq-eqb n n refl)
 
-new-line : (u : Subnet) → line no_slots u ≡ []
+new-line : (u : TransitByLink) → line no_slots u ≡ []
 new-line u = ap (λ (s : LinkSlot). line_of s (u 0)) (slot_at-no_slots 0)
 
 begins-kept : (w : Hosts) → KeptIn none_watched (seen (began w))
@@ -80,5 +79,5 @@ agree ns w t =
     let g : KeptIn p (seen w) = kept-last ns w t in
     (commands-agree p (seen w) g, commands-agree (other_way p) (swap (seen w)) (kept-turned p (seen w) g))
 
-pub are-silent : (ns : List Note) (w : Hosts) → IsTranscript ns w → IsSilent (seen w).this (watched_from ns (began w) none_watched).this × IsSilent (seen w).that (watched_from ns (began w) none_watched).that
+pub are-silent : (ns : List Note) (w : Hosts) → IsTranscript ns w → IsSilentWhileDown (seen w).this (watched_from ns (began w) none_watched).this × IsSilentWhileDown (seen w).that (watched_from ns (began w) none_watched).that
 are-silent ns w t = silent (watched_from ns (began w) none_watched) (seen w) (kept-last ns w t)

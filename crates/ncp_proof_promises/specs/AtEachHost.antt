@@ -2,10 +2,10 @@
 use Rattle.std.specs.Prelude.{List}
 use Rattle.ncp_host.specs.PeerState.{PeerState}
 use Rattle.ncp_transcript.specs.declared.note.HostNote.{HostNote}
-use Rattle.ncp_proof_runs.specs.Peers.{notes_of}
+use Rattle.ncp_proof_runs.specs.Peers.{notes_of_peer}
 use Rattle.ncp_transcript_two.specs.declared.note.Note.{Note}
 use Rattle.ncp_transcript_two.specs.declared.side.Side.{Side}
-use Rattle.ncp_transcript_two.specs.Between.{Hosts, other, number_of, host_of}
+use Rattle.ncp_transcript_two.specs.Between.{Hosts, other, side_number, host_of}
 use Rattle.ncp_transcript_two.specs.Sides.{notes_at}
 use Rattle.ncp_transcript_two.specs.Transcript.{IsTranscript}
 use Rattle.ncp_transcript_two.specs.Seen.{had_for}
@@ -13,4 +13,4 @@ use Rattle.ncp_transcript_two.specs.Seen.{had_for}
 -- of the host's own notes of the other, and of what it has for the other
 abbrev pub AtEachHost : (List HostNote → PeerState → Type 0) → Type 0
 AtEachHost holds =
-    (notes : List Note) (w : Hosts) (side : Side) → IsTranscript notes w → holds (notes_of (number_of (other side) w) (notes_at side notes)) (had_for (number_of (other side) w) (host_of side w))
+    (notes : List Note) (w : Hosts) (side : Side) → IsTranscript notes w → holds (notes_of_peer (side_number (other side) w) (notes_at side notes)) (had_for (side_number (other side) w) (host_of side w))

@@ -10,10 +10,6 @@ use Rattle.ncp_transcript_two.specs.World.{World, Told}
 use Rattle.ncp_transcript_two.specs.Watch.{Both}
 use Rattle.ncp_proof_promises.specs.Since.{nothing_seen}
 
--- a host that is up, without a connection, and one that waits for an RRP
-abbrev pub up_state : PeerState
-up_state = record new_state { peer = record new_peer { phase = up_phase } }
-
 abbrev pub waiting_state : PeerState
 waiting_state = record new_state { peer = record new_peer { phase = record up_phase { wait = true } } }
 

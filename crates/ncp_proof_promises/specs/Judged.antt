@@ -7,9 +7,9 @@ use Rattle.ncp_terms.specs.declared.command.Command.{Command}
 use Rattle.ncp_slot.specs.Slots.{is_quiet}
 use Rattle.ncp_model.specs.Phase.{up}
 use Rattle.ncp_model.specs.Peers.{reaction}
-use Rattle.ncp_host.specs.declared.received.Received.TheVariants as received
+use Rattle.ncp_host.specs.declared.received.Received.{Received}
 use Rattle.ncp_host.specs.PeerState.{PeerState, control_link}
-use Rattle.ncp_host.specs.Hearing.{hears, hears_all}
+use Rattle.ncp_host.specs.Hearing.{state_hears, state_hears_all}
 use Rattle.ncp_transcript_two.specs.World.{World, Told, In}
 use Rattle.ncp_transcript_two.specs.Refused.{is_refused}
 use Rattle.ncp_transcript_two.specs.Underway.{text_of, commands_of}
@@ -18,18 +18,18 @@ use Rattle.ncp_transcript_two.specs.Underway.{text_of, commands_of}
 -- this one.
 abbrev pub ActsOnce : Told → World → World → Type 0
 ActsOnce (In on message told) v after =
-    (on == control_link) ≡ true → (told ≡ received.Control (length (commands_of message))) × (after.that ≡ hears_all (commands_of message) v.that) × (after.this ≡ v.this)
+    (on == control_link) ≡ true → (told ≡ Received.Control (length (commands_of message))) × (after.that ≡ state_hears_all (commands_of message) v.that) × (after.this ≡ v.this)
 ActsOnce told v after = Unit {0}
 
-abbrev pub is_err : Command → Bool
-is_err (Command.Err code bytes) = true
-is_err c = false
+abbrev pub is_error : Command → Bool
+is_error (Command.Err code bytes) = true
+is_error c = false
 
 -- what a host that is up makes for each of these commands has no ERR
 abbrev pub NoneErrs : List Command → PeerState → Type 0
 NoneErrs [] s = Unit {0}
 NoneErrs (c ∷ cs) s =
-    (up s.peer.phase ≡ true → list_any is_err (reaction (is_quiet s.slots) c s.peer).replies ≡ false) × NoneErrs cs (hears c s)
+    (up s.peer.phase ≡ true → list_any is_error (reaction (is_quiet s.slots) c s.peer).replies ≡ false) × NoneErrs cs (state_hears c s)
 
 -- No control text that comes has a fault, and no command of one is answered by an ERR; no text is answered
 -- as not connected, of the wrong size or beyond the allocation, and no bits are a faulty message.

@@ -11,7 +11,7 @@ use Rattle.ncp_model.specs.Leading.{passes}
 use Rattle.ncp_model.specs.Peers.{Peer}
 use Rattle.ncp_proof_watch.specs.Histories.{opens}
 use Rattle.ncp_host.specs.PeerState.{PeerState, control_link}
-use Rattle.ncp_host.specs.Hearing.{hears, hears_all}
+use Rattle.ncp_host.specs.Hearing.{state_hears, state_hears_all}
 use Rattle.ncp_transcript_two.specs.World.{World, Told, Called, Out, In, Answered}
 use Rattle.ncp_transcript_two.specs.Underway.{commands_of}
 
@@ -29,7 +29,7 @@ OpensOnFreeLinks own other before after = (pair : Pair) (on : ℕ) → (on == co
 -- each command of a message, even where a later one ends what it opens
 abbrev pub EachOpensOnFreeLinks : List Command → PeerState → PeerState → Type 0
 EachOpensOnFreeLinks [] own other = Unit {0}
-EachOpensOnFreeLinks (c ∷ cs) own other = OpensOnFreeLinks own other own.peer (hears c own).peer × EachOpensOnFreeLinks cs (hears c own) other
+EachOpensOnFreeLinks (c ∷ cs) own other = OpensOnFreeLinks own other own.peer (state_hears c own).peer × EachOpensOnFreeLinks cs (state_hears c own) other
 
 abbrev pub OpensNothing : Peer → Peer → Type 0
 OpensNothing before after = (pair : Pair) → opens (get before.ends pair) (get after.ends pair) ≡ false
@@ -39,7 +39,7 @@ abbrev pub OpensUnderNoText : Told → World → World → Type 0
 OpensUnderNoText (Called asked reply) v after = OpensOnFreeLinks v.this v.that v.this.peer after.this.peer × (after.that ≡ v.that)
 OpensUnderNoText (Out message) v after = OpensNothing v.this.peer after.this.peer × (after.that ≡ v.that)
 OpensUnderNoText (In on message told) v after =
-    ((on == control_link) ≡ true → (after.that ≡ hears_all (commands_of message) v.that) × EachOpensOnFreeLinks (commands_of message) v.that v.this)
+    ((on == control_link) ≡ true → (after.that ≡ state_hears_all (commands_of message) v.that) × EachOpensOnFreeLinks (commands_of message) v.that v.this)
     × ((on == control_link) ≡ false → OpensNothing v.that.peer after.that.peer) × (after.this ≡ v.this)
 OpensUnderNoText (Answered on how told) v after = OpensNothing v.this.peer after.this.peer × (after.that ≡ v.that)
 OpensUnderNoText told v after = (after.this ≡ v.this) × (after.that ≡ v.that)

@@ -3,9 +3,9 @@
 use Rattle.std.specs.Prelude.{◌≡◌, ℕ, true, List}
 use Rattle.ncp_model.specs.declared.pair.Pair.{Pair}
 use Rattle.ncp_model.specs.Pairs.{sends}
-use Rattle.ncp_proof_resets.specs.Resets.{Side}
+use Rattle.ncp_proof_resets.specs.Resets.{Party}
 use Rattle.ncp_transcript_two.specs.World.{World, swap}
-use Rattle.ncp_transcript_two.specs.Honest.{IsHonest, IsBeginning, number_of_side, sent, came}
+use Rattle.ncp_transcript_two.specs.Honest.{IsHonest, IsBeginningWithin, number_of_side, sent, came}
 use Rattle.ncp_transcript_two.specs.Watch.{Both, turn}
 use Rattle.ncp_transcript_two.specs.Streams.{GotIsBeginning, GotIsTakenOrHeld, NeverBeyondAllocation}
 use Rattle.ncp_transcript_two.specs.Underway.{MessagesAgree, BitsAgree, Parted}
@@ -17,7 +17,7 @@ use Rattle.ncp_transcript_two.specs.OfRules.{histories_of}
 use Rattle.ncp_proof_promises.specs.EachNote.{OfEachNote}
 use Rattle.ncp_proof_promises.specs.Judged.{ActsOnce, MakesNoErr}
 use Rattle.ncp_proof_promises.specs.Errless.{HasNoErr}
-use Rattle.ncp_proof_promises.specs.Resetting.{Waits, StillWaits, OnlyResetsAct}
+use Rattle.ncp_proof_promises.specs.Resetting.{AwaitsReply, StillWaits, OnlyResetsAct}
 use Rattle.ncp_proof_promises.specs.Openings.{OpensUnderNoText}
 use Rattle.ncp_proof_promises.specs.Since.{none_watched, watched_from, other_way, CommandsAgree}
 use Rattle.ncp_proof_promises.specs.Headline.{NeverOver}
@@ -34,7 +34,7 @@ SubnetHonest notes w = IsHonest w.number_a w.number_b (told notes)
 
 -- what came on a link is a beginning of what was sent there, shorter by at most one message
 abbrev pub CameInOrder : List Note → Hosts → Type 0
-CameInOrder notes w = (side : Side) (on : ℕ) → IsBeginning 1 (came side on (told notes)) (sent (number_of_side w.number_a w.number_b side) side on (told notes))
+CameInOrder notes w = (side : Party) (on : ℕ) → IsBeginningWithin 1 (came side on (told notes)) (sent (number_of_side w.number_a w.number_b side) side on (told notes))
 
 -- What a connection carries.
 
@@ -97,4 +97,4 @@ OnlyResetsActed notes w = OfEachNote OnlyResetsAct notes (began w)
 
 -- and a host that waits for an RRP has no connection, and lets nothing wait but RST and RRP
 abbrev pub WaitsAlone : List Note → Hosts → Type 0
-WaitsAlone notes w = (Waits (seen w).this → StillWaits (seen w).this) × (Waits (seen w).that → StillWaits (seen w).that)
+WaitsAlone notes w = (AwaitsReply (seen w).this → StillWaits (seen w).this) × (AwaitsReply (seen w).that → StillWaits (seen w).that)

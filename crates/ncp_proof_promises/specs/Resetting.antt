@@ -6,37 +6,36 @@ use Rattle.ncp_terms.specs.declared.command.Command.{Command}
 use Rattle.ncp_model.specs.Ends.{no_ends}
 use Rattle.ncp_model.specs.Phase.{is_rrp, is_other}
 use Rattle.ncp_host.specs.declared.received.Received.{Received}
-use Rattle.ncp_host.specs.declared.received.Received.TheVariants as received
 use Rattle.ncp_host.specs.PeerState.{PeerState, control_link}
-use Rattle.ncp_host.specs.Hearing.{hears, hears_all}
+use Rattle.ncp_host.specs.Hearing.{state_hears, state_hears_all}
 use Rattle.ncp_transcript_two.specs.World.{World, Told, Called, Out, In, Answered}
 use Rattle.ncp_transcript_two.specs.Underway.{commands_of}
 
 -- an RST was made, and no RRP has come since
-abbrev pub Waits : PeerState → Type 0
-Waits s = s.peer.phase.wait ≡ true
+abbrev pub AwaitsReply : PeerState → Type 0
+AwaitsReply s = s.peer.phase.wait ≡ true
 
 -- it goes on to wait, without a connection, and nothing waits to go out but RST and RRP
 abbrev pub StillWaits : PeerState → Type 0
-StillWaits s = Waits s × (s.peer.ends ≡ no_ends) × (filter is_other s.peer.phase.waiting ≡ [])
+StillWaits s = AwaitsReply s × (s.peer.ends ≡ no_ends) × (filter is_other s.peer.phase.waiting ≡ [])
 
 -- each command that is neither RST nor RRP, and comes while the host waits, changes nothing of what it keeps
 -- of its peer
 abbrev pub DropsOthers : List Command → PeerState → Type 0
 DropsOthers [] s = Unit {0}
-DropsOthers (c ∷ cs) s = (Waits s → is_other c ≡ true → (hears c s).peer ≡ s.peer) × DropsOthers cs (hears c s)
+DropsOthers (c ∷ cs) s = (AwaitsReply s → is_other c ≡ true → (state_hears c s).peer ≡ s.peer) × DropsOthers cs (state_hears c s)
 
 -- a message comes to a host that waits: its commands come one after the other, of which all but RST and RRP
 -- are dropped, and a text is told as not up. Where it has no RRP the host goes on to wait
 abbrev pub Drops : ℕ → List Bool → Received → PeerState → PeerState → Type 0
 Drops on message told s after =
-    ((on == control_link) ≡ false → (told ≡ received.NotUp) × (after.peer ≡ s.peer))
-    × ((on == control_link) ≡ true → (after ≡ hears_all (commands_of message) s) × DropsOthers (commands_of message) s × (list_any is_rrp (commands_of message) ≡ false → StillWaits after))
+    ((on == control_link) ≡ false → (told ≡ Received.NotUp) × (after.peer ≡ s.peer))
+    × ((on == control_link) ≡ true → (after ≡ state_hears_all (commands_of message) s) × DropsOthers (commands_of message) s × (list_any is_rrp (commands_of message) ≡ false → StillWaits after))
 
 -- of each note: what it does at a host that waits
 abbrev pub OnlyResetsAct : Told → World → World → Type 0
-OnlyResetsAct (Called asked reply) v after = (Waits v.this → after.this.peer ≡ v.this.peer) × (after.that ≡ v.that)
-OnlyResetsAct (Out message) v after = (Waits v.this → StillWaits after.this × (after.this.peer.echoes ≡ v.this.peer.echoes)) × (after.that ≡ v.that)
-OnlyResetsAct (In on message told) v after = (Waits v.that → Drops on message told v.that after.that) × (after.this ≡ v.this)
-OnlyResetsAct (Answered on how told) v after = (Waits v.this → StillWaits after.this × (after.this.peer.echoes ≡ v.this.peer.echoes)) × (after.that ≡ v.that)
+OnlyResetsAct (Called asked reply) v after = (AwaitsReply v.this → after.this.peer ≡ v.this.peer) × (after.that ≡ v.that)
+OnlyResetsAct (Out message) v after = (AwaitsReply v.this → StillWaits after.this × (after.this.peer.echoes ≡ v.this.peer.echoes)) × (after.that ≡ v.that)
+OnlyResetsAct (In on message told) v after = (AwaitsReply v.that → Drops on message told v.that after.that) × (after.this ≡ v.this)
+OnlyResetsAct (Answered on how told) v after = (AwaitsReply v.this → StillWaits after.this × (after.this.peer.echoes ≡ v.this.peer.echoes)) × (after.that ≡ v.that)
 OnlyResetsAct told v after = (after.this ≡ v.this) × (after.that ≡ v.that)

@@ -6,18 +6,18 @@ use Rattle.std.proofs.lemmas.Bool.{both_ways, cond_both}
 use Rattle.std.proofs.lemmas.List.{append_assoc, take-append-drop}
 use Rattle.ncp_terms.specs.declared.command.Command.{Command}
 use Rattle.ncp_terms.specs.declared.command.Command.TheVariants.{Rst, Rrp}
-use Rattle.ncp_model.specs.Phase.{Phase, is_rst, is_rrp, is_other, answers, asks, owes_answer, hears_rrp}
+use Rattle.ncp_model.specs.Phase.{Phase, is_rst, is_rrp, is_other, phase_answers, phase_asks, owes_answer, hears_rrp}
 use Rattle.ncp_model.proofs.ResetLists.{bit, rsts, rrps, others, purged, after_rst, rsts-append, rrps-append, rsts-purged, any-rsts, any-rrps}
-use Rattle.ncp_proof_resets.specs.Resets.{Host, is_up, anew, host_settles}
+use Rattle.ncp_proof_resets.specs.Resets.{ResetHost, is_up, anew, host_settles}
 use Rattle.ncp_proof_resets.proofs.ResetKept.{Kept, answering}
 use Rattle.ncp_proof_headline.proofs.Lives.{fronts, behind, live, fronts_other, behind_other, behind_new, live_rst, live_cut, rrps_cut, owed}
 
 -- a host that is not down, or owes an RRP, by which it comes up
-abbrev pub Rises : Host → Type 0
+abbrev pub Rises : ResetHost → Type 0
 Rises h = (h.phase.down && not h.phase.owe) ≡ false
 
 -- both begin anew, where x and y are on the lines: nothing is underway that would act at the other
-abbrev pub Anew : Host → Host → List Command → List Command → Type 0
+abbrev pub Anew : ResetHost → ResetHost → List Command → List Command → Type 0
 Anew h k x y = record {
   this : Rises h;
   that : Rises k;
@@ -26,10 +26,10 @@ Anew h k x y = record {
 }
 
 -- a host is about to make its RST, or has made it and it has not come
-abbrev pub Asked : Host → List Command → Type 0
+abbrev pub Asked : ResetHost → List Command → Type 0
 Asked h x = (h.phase.want ≡ true) ⊎ ((0 < rsts (x ++ h.phase.waiting)) × (h.phase.down ≡ false))
 
-pub anew-turned : (h k : Host) (x y : List Command) → Anew h k x y → Anew k h y x
+pub anew-turned : (h k : ResetHost) (x y : List Command) → Anew h k x y → Anew k h y x
 anew-turned h k x y a = record { this = a.that; that = a.this; there = a.back; back = a.there }
 
 -- Lists in which nothing lives.
@@ -88,41 +88,41 @@ answered p = record p { down = false; owe = false; waiting = if list_any is_rrp 
 abbrev asked : Phase → Phase
 asked p = record p { down = false; want = false; wait = true; waiting = if list_any is_rst p.waiting then p.waiting else p.waiting ++ Rst ∷ [] }
 
-abbrev with_phase : Host → Phase → Host
+abbrev with_phase : ResetHost → Phase → ResetHost
 with_phase h p = record h { phase = p }
 
 -- A host that has asked.
 
-pub asked-not-up : (h k : Host) (x y : List Command) → Kept h k x y → Asked h x → is_up h ≡ false
+pub asked-not-up : (h k : ResetHost) (x y : List Command) → Kept h k x y → Asked h x → is_up h ≡ false
 asked-not-up h k x y p (inl w) = grind (arith, w)
 asked-not-up h k x y p (inr (r, d)) = grind (arith, p.there.count, r)
 
-answers-asked : (h : Host) (x : List Command) → Asked h x → Asked (with_phase h (answers h.phase)) x
+answers-asked : (h : ResetHost) (x : List Command) → Asked h x → Asked (with_phase h (phase_answers h.phase)) x
 answers-asked h x a = cond_both h.phase.owe (answered h.phase) h.phase (λ (p : Phase). Asked (with_phase h p) x) (λ _. made a) (λ _. a)
   where
     made : Asked h x → Asked (with_phase h (answered h.phase)) x
     made (inl w) = inl w
     made (inr (r, d)) = inr (rsts-rrp x h.phase.waiting r, refl)
 
-asks-asked : (h : Host) (x : List Command) → Asked h x → Asked (with_phase h (asks h.phase)) x
+asks-asked : (h : ResetHost) (x : List Command) → Asked h x → Asked (with_phase h (phase_asks h.phase)) x
 asks-asked h x a = cond_both h.phase.want (asked h.phase) h.phase (λ (p : Phase). Asked (with_phase h p) x) (λ _. inr (rst-there x h.phase.waiting, refl)) (λ _. a)
 
-pub settles-asked : (quiet : Bool) (h : Host) (x : List Command) → Asked h x → Asked (host_settles quiet h) x
-settles-asked true h x a = asks-asked (with_phase h (answers h.phase)) x (answers-asked h x a)
+pub settles-asked : (quiet : Bool) (h : ResetHost) (x : List Command) → Asked h x → Asked (host_settles quiet h) x
+settles-asked true h x a = asks-asked (with_phase h (phase_answers h.phase)) x (answers-asked h x a)
 settles-asked false h x a = a
 
-pub rst-asked : (h : Host) (x : List Command) → Asked h x → Asked (anew (owes_answer h.phase)) x
+pub rst-asked : (h : ResetHost) (x : List Command) → Asked h x → Asked (anew (owes_answer h.phase)) x
 rst-asked h x (inl w) = inl w
 rst-asked h x (inr (r, d)) = inr (rsts-struck x h.phase.waiting r, d)
 
 -- what comes to its peer is not yet its RST
-pub other-asked : (k : Host) (c : Command) (y : List Command) → is_rst c ≡ false → Asked k (c ∷ y) → Asked k y
+pub other-asked : (k : ResetHost) (c : Command) (y : List Command) → is_rst c ≡ false → Asked k (c ∷ y) → Asked k y
 other-asked k c y n (inl w) = inl w
 other-asked k c y n (inr (r, d)) = let z : bit (is_rst c) ≡ 0 = ap bit n in inr (omega (arith, r, z), d)
 
 -- Two that begin anew.
 
-answers-anew : (h k : Host) (x y : List Command) → Kept h k x y → Anew h k x y → Anew (with_phase h (answers h.phase)) k x y
+answers-anew : (h k : ResetHost) (x y : List Command) → Kept h k x y → Anew h k x y → Anew (with_phase h (phase_answers h.phase)) k x y
 answers-anew h k x y p a = cond_both h.phase.owe (answered h.phase) h.phase (λ (q : Phase). Anew (with_phase h q) k x y) made (λ _. a)
   where
     made : h.phase.owe ≡ true → Anew (with_phase h (answered h.phase)) k x y
@@ -130,7 +130,7 @@ answers-anew h k x y p a = cond_both h.phase.owe (answered h.phase) h.phase (λ 
         let due = owed h k x y p e in
         record { this = refl; that = a.that; there = rw (due.0) (rrp-lives x h.phase.waiting due.1); back = a.back }
 
-asks-anew : (h k : Host) (x y : List Command) → Kept h k x y → Anew h k x y → Anew (with_phase h (asks h.phase)) k x y
+asks-anew : (h k : ResetHost) (x y : List Command) → Kept h k x y → Anew h k x y → Anew (with_phase h (phase_asks h.phase)) k x y
 asks-anew h k x y p a = cond_both h.phase.want (asked h.phase) h.phase (λ (q : Phase). Anew (with_phase h q) k x y) made (λ _. a)
   where
     made : h.phase.want ≡ true → Anew (with_phase h (asked h.phase)) k x y
@@ -139,8 +139,8 @@ asks-anew h k x y p a = cond_both h.phase.want (asked h.phase) h.phase (λ (q : 
         let c = p.there.count in
         record { this = refl; that = a.that; there = rst-same k.phase.wait x h.phase.waiting ∙ a.there; back = behind-none (y ++ k.phase.waiting) (omega (arith, c, w)) }
 
-pub settles-anew : (quiet : Bool) (h k : Host) (x y : List Command) → Kept h k x y → Anew h k x y → Anew (host_settles quiet h) k x y
-settles-anew true h k x y p a = asks-anew (with_phase h (answers h.phase)) k x y (answering h k x y p) (answers-anew h k x y p a)
+pub settles-anew : (quiet : Bool) (h k : ResetHost) (x y : List Command) → Kept h k x y → Anew h k x y → Anew (host_settles quiet h) k x y
+settles-anew true h k x y p a = asks-anew (with_phase h (phase_answers h.phase)) k x y (answering h k x y p) (answers-anew h k x y p a)
 settles-anew false h k x y p a = a
 
 and-false : (b : Bool) → (b && false) ≡ false
@@ -148,7 +148,7 @@ and-false true = refl
 and-false false = refl
 
 -- an RST comes: where both begin anew; and from a host that has asked
-pub rst-anew : (h k : Host) (x y : List Command) → Kept h k x (Rst ∷ y) → Anew h k x (Rst ∷ y) → Anew (anew (owes_answer h.phase)) k x y
+pub rst-anew : (h k : ResetHost) (x y : List Command) → Kept h k x (Rst ∷ y) → Anew h k x (Rst ∷ y) → Anew (anew (owes_answer h.phase)) k x y
 rst-anew h k x y p a = record {
   this = and-false h.phase.down;
   that = a.that;
@@ -156,7 +156,7 @@ rst-anew h k x y p a = record {
   back = live-calm h.phase.wait (y ++ k.phase.waiting) p.here.still;
 }
 
-pub rst-begins : (h k : Host) (x y : List Command) → Kept h k x (Rst ∷ y) → Asked k (Rst ∷ y) → Anew (anew (owes_answer h.phase)) k x y
+pub rst-begins : (h k : ResetHost) (x y : List Command) → Kept h k x (Rst ∷ y) → Asked k (Rst ∷ y) → Anew (anew (owes_answer h.phase)) k x y
 rst-begins h k x y p a = record {
   this = and-false h.phase.down;
   that = rises a;
@@ -175,7 +175,7 @@ rst-begins h k x y p a = record {
     rises (inr (r, d)) = ap (λ (b : Bool). b && not k.phase.owe) d
 
 -- the RRP comes
-pub rrp-anew : (h k : Host) (x y : List Command) → Kept h k x (Rrp ∷ y) → Anew h k x (Rrp ∷ y) → Anew (with_phase h (hears_rrp h.phase)) k x y
+pub rrp-anew : (h k : ResetHost) (x y : List Command) → Kept h k x (Rrp ∷ y) → Anew h k x (Rrp ∷ y) → Anew (with_phase h (hears_rrp h.phase)) k x y
 rrp-anew h k x y p a = record {
   this = a.this;
   that = a.that;
@@ -187,14 +187,14 @@ rrp-anew h k x y p a = record {
     waits = grind (arith, p.there.count)
 
 -- what else is underway comes to a host that waits, and is dropped
-pub drop-anew : (h k : Host) (x y : List Command) (c : Command) → is_other c ≡ true → Anew h k x (c ∷ y) → Anew h k x y
+pub drop-anew : (h k : ResetHost) (x y : List Command) (c : Command) → is_other c ≡ true → Anew h k x (c ∷ y) → Anew h k x y
 drop-anew h k x y c o a = record { this = a.this; that = a.that; there = a.there; back = go h.phase.wait a.back }
   where
     go : (b : Bool) → live b (c ∷ (y ++ k.phase.waiting)) ≡ [] → live b (y ++ k.phase.waiting) ≡ []
     go true e = sym (behind_other c (y ++ k.phase.waiting) o) ∙ e
     go false e = absurd (cc (sym (fronts_other c (y ++ k.phase.waiting) o) ∙ e))
 
-pub up-hears-none : (h k : Host) (x y : List Command) (c : Command) → is_other c ≡ true → is_up h ≡ true → Anew h k x (c ∷ y) → ⊥
+pub up-hears-none : (h k : ResetHost) (x y : List Command) (c : Command) → is_other c ≡ true → is_up h ≡ true → Anew h k x (c ∷ y) → ⊥
 up-hears-none h k x y c o u a =
     let w : h.phase.wait ≡ false = grind (arith, u) in
     let e : live false (c ∷ (y ++ k.phase.waiting)) ≡ [] = subst (λ (b : Bool). live b (c ∷ (y ++ k.phase.waiting)) ≡ []) w a.back in
@@ -202,14 +202,14 @@ up-hears-none h k x y c o u a =
 
 -- The front of what waits goes onto the empty line.
 
-abbrev sent : ℕ → Host → Host
+abbrev sent : ℕ → ResetHost → ResetHost
 sent n h = record h { phase = record h.phase { waiting = drop n h.phase.waiting } }
 
-pub front-asked : (n : ℕ) (h : Host) → Asked h [] → Asked (sent n h) (take n h.phase.waiting)
+pub front-asked : (n : ℕ) (h : ResetHost) → Asked h [] → Asked (sent n h) (take n h.phase.waiting)
 front-asked n h (inl w) = inl w
 front-asked n h (inr (r, d)) = inr (subst (λ (u : List Command). 0 < rsts u) (sym (take-append-drop n h.phase.waiting)) r, d)
 
-pub front-anew : (n : ℕ) (h k : Host) (y : List Command) → Anew h k [] y → Anew (sent n h) k (take n h.phase.waiting) y
+pub front-anew : (n : ℕ) (h k : ResetHost) (y : List Command) → Anew h k [] y → Anew (sent n h) k (take n h.phase.waiting) y
 front-anew n h k y a = record {
   this = a.this;
   that = a.that;

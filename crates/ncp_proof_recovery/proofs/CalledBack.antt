@@ -10,16 +10,15 @@ use Rattle.ncp_model.specs.Pairs.{sends, turned, same}
 use Rattle.ncp_model.specs.End.{End, new_end, or_new, is_going}
 use Rattle.ncp_model.specs.Texts.{Answer, Rfnm, Incomplete, Dead}
 use Rattle.ncp_model.specs.Happenings.{Happening, happens, is_violation}
-use Rattle.ncp_model.specs.Happenings as all
 use Rattle.ncp_proof_watch.specs.Sound.{SoundAt}
 use Rattle.ncp_proof_watch.specs.Histories.{Watched}
-use Rattle.ncp_proof_connection.specs.Connections.{Text, No_text, Away, Here, Connection, sender_does, receiver_does, is_call, command_comes, Event, Sender_calls, Receiver_calls, Comes_to_sender, Comes_to_receiver, Text_goes_out, Text_comes, Text_is_answered, sender_hears, receiver_hears, comes_to_sender, comes_to_receiver, text_comes, text_is_answered, occurs}
+use Rattle.ncp_proof_connection.specs.Connections.{Text, No_text, Away, Here, Connection, sender_does, receiver_does, is_call, command_comes, ConnectionEvent, Sender_calls, Receiver_calls, Comes_to_sender, Comes_to_receiver, Text_goes_out, Text_comes, Text_is_answered, sender_hears, receiver_hears, comes_to_sender, comes_to_receiver, text_comes, text_is_answered, occurs}
 use Rattle.ncp_proof_connection.specs.Clearings.{Hosted, Occurs, changes, is_at_sender}
 use Rattle.ncp_proof_connection.proofs.Lines.{Kind, Request, Close, Data, Alien, Comes, Passes, comes_asked}
 use Rattle.ncp_proof_connection.proofs.Joint.{to_receiver_kind, kinds, Place, Together, Sender_ahead, Receiver_ahead, Joint, Firm, live_got}
 use Rattle.ncp_proof_connection.proofs.Whole.{Inv, r_firm}
 use Rattle.ncp_proof_connection.proofs.Outliving.{Fit}
-use Rattle.ncp_proof_sharing.specs.Sharing.{Tagged, Shared, new_shared, only, tag, at, bringing, put, Shared_event, On, Next_to_senders, Next_to_receivers, Other_to_senders, Other_to_receivers, Senders_are_cleared, Receivers_are_cleared, All_start_anew, next_to_senders, next_to_receivers, shared_occurs, shared_from, shared, MayHappen, AllMayHappen}
+use Rattle.ncp_proof_sharing.specs.Sharing.{Tagged, Shared, new_shared, only, tag, connection_at, bringing, put_hosted, Shared_event, On, Next_to_senders, Next_to_receivers, Other_to_senders, Other_to_receivers, Senders_are_cleared, Receivers_are_cleared, All_start_anew, next_to_senders, next_to_receivers, shared_occurs, shared_from, shared, MayHappen, AllMayHappen}
 use Rattle.ncp_proof_sharing.proofs.Projecting.{same_refl, same_true, only_more, only_own, only_other, apart, AllFit, fits_keep, new_fits}
 use Rattle.ncp_proof_recovery.proofs.CallingBack.{is_gvb, is_ret, is_cls, many, many-more, Recalled, sender-keeps, receiver-keeps, gvb-fits, ret-fits, cls-fits}
 
@@ -118,29 +117,29 @@ module _ (pair : Pair) (sd : sends pair ≡ true) where
 
   -- the first command underway comes
   to-sender : (n : ℕ) (c : Command) (w : Connection) (p q : List Command) → Inv pair (onto p q (sender_hears pair (command_comes n c) (with [] [] w))) → Answers (with p (c ∷ q) w) → Answers (onto p q (sender_hears pair (command_comes n c) (with [] [] w)))
-  to-sender n (Rts a b on) w p q i k = sender-acts (all.Rts_comes on false n) w p (Rts a b on ∷ q) q (λ e v t h. omega arith) i k
-  to-sender n (Str a b z) w p q i k = sender-acts (all.Str_comes z n) w p (Str a b z ∷ q) q (λ e v t h. omega arith) i k
-  to-sender n (Cls a b) w p q i k = sender-acts all.Cls_comes w p (Cls a b ∷ q) q (λ e v t h. omega arith) i k
-  to-sender n (All on a b) w p q i k = sender-acts (all.All_comes on a b) w p (All on a b ∷ q) q (λ e v t h. omega arith) i k
-  to-sender n (Gvb on a b) w p q i k = sender-acts (all.Gvb_comes on a b) w p (Gvb on a b ∷ q) q (λ e v t h. gvb-fits pair on a b w.sender.end e q v t h) i k
-  to-sender n (Ret on a b) w p q i k = sender-acts (all.Ret_comes on a b) w p (Ret on a b ∷ q) q (λ e v t h. omega arith) i k
-  to-sender n (Inr on) w p q i k = sender-acts (all.Inr_comes on) w p (Inr on ∷ q) q (λ e v t h. omega arith) i k
-  to-sender n (Ins on) w p q i k = sender-acts (all.Ins_comes on) w p (Ins on ∷ q) q (λ e v t h. omega arith) i k
+  to-sender n (Rts a b on) w p q i k = sender-acts (Happening.Rts_comes on false n) w p (Rts a b on ∷ q) q (λ e v t h. omega arith) i k
+  to-sender n (Str a b z) w p q i k = sender-acts (Happening.Str_comes z n) w p (Str a b z ∷ q) q (λ e v t h. omega arith) i k
+  to-sender n (Cls a b) w p q i k = sender-acts Happening.Cls_comes w p (Cls a b ∷ q) q (λ e v t h. omega arith) i k
+  to-sender n (All on a b) w p q i k = sender-acts (Happening.All_comes on a b) w p (All on a b ∷ q) q (λ e v t h. omega arith) i k
+  to-sender n (Gvb on a b) w p q i k = sender-acts (Happening.Gvb_comes on a b) w p (Gvb on a b ∷ q) q (λ e v t h. gvb-fits pair on a b w.sender.end e q v t h) i k
+  to-sender n (Ret on a b) w p q i k = sender-acts (Happening.Ret_comes on a b) w p (Ret on a b ∷ q) q (λ e v t h. omega arith) i k
+  to-sender n (Inr on) w p q i k = sender-acts (Happening.Inr_comes on) w p (Inr on ∷ q) q (λ e v t h. omega arith) i k
+  to-sender n (Ins on) w p q i k = sender-acts (Happening.Ins_comes on) w p (Ins on ∷ q) q (λ e v t h. omega arith) i k
   to-sender n c w p q i k = nothing p q w (λ a b g d. let j = k a b g d in omega (arith, j))
 
   to-receiver : (n : ℕ) (c : Command) (w : Connection) (p q : List Command) → Inv pair (onto p q (receiver_hears pair (command_comes n c) (with [] [] w))) → Answers (with (c ∷ p) q w) → Answers (onto p q (receiver_hears pair (command_comes n c) (with [] [] w)))
-  to-receiver n (Rts a b on) w p q i k = receiver-acts (all.Rts_comes on false n) w (Rts a b on ∷ p) p q (λ e v t h c. (omega arith, omega arith)) i k
-  to-receiver n (Str a b z) w p q i k = receiver-acts (all.Str_comes z n) w (Str a b z ∷ p) p q (λ e v t h c. (omega arith, omega arith)) i k
-  to-receiver n (Cls a b) w p q i k = receiver-acts all.Cls_comes w (Cls a b ∷ p) p q (λ e v t h c. absurd (cls-fits (turned pair) w.receiver.end e v t h)) i k
-  to-receiver n (All on a b) w p q i k = receiver-acts (all.All_comes on a b) w (All on a b ∷ p) p q (λ e v t h c. (omega arith, omega arith)) i k
-  to-receiver n (Gvb on a b) w p q i k = receiver-acts (all.Gvb_comes on a b) w (Gvb on a b ∷ p) p q (λ e v t h c. (omega arith, omega arith)) i k
-  to-receiver n (Ret on a b) w p q i k = receiver-acts (all.Ret_comes on a b) w (Ret on a b ∷ p) p q (λ e v t h c. absurd (ret-fits (turned pair) on a b w.receiver.end e v t h c)) i k
-  to-receiver n (Inr on) w p q i k = receiver-acts (all.Inr_comes on) w (Inr on ∷ p) p q (λ e v t h c. (omega arith, omega arith)) i k
-  to-receiver n (Ins on) w p q i k = receiver-acts (all.Ins_comes on) w (Ins on ∷ p) p q (λ e v t h c. (omega arith, omega arith)) i k
+  to-receiver n (Rts a b on) w p q i k = receiver-acts (Happening.Rts_comes on false n) w (Rts a b on ∷ p) p q (λ e v t h c. (omega arith, omega arith)) i k
+  to-receiver n (Str a b z) w p q i k = receiver-acts (Happening.Str_comes z n) w (Str a b z ∷ p) p q (λ e v t h c. (omega arith, omega arith)) i k
+  to-receiver n (Cls a b) w p q i k = receiver-acts Happening.Cls_comes w (Cls a b ∷ p) p q (λ e v t h c. absurd (cls-fits (turned pair) w.receiver.end e v t h)) i k
+  to-receiver n (All on a b) w p q i k = receiver-acts (Happening.All_comes on a b) w (All on a b ∷ p) p q (λ e v t h c. (omega arith, omega arith)) i k
+  to-receiver n (Gvb on a b) w p q i k = receiver-acts (Happening.Gvb_comes on a b) w (Gvb on a b ∷ p) p q (λ e v t h c. (omega arith, omega arith)) i k
+  to-receiver n (Ret on a b) w p q i k = receiver-acts (Happening.Ret_comes on a b) w (Ret on a b ∷ p) p q (λ e v t h c. absurd (ret-fits (turned pair) on a b w.receiver.end e v t h c)) i k
+  to-receiver n (Inr on) w p q i k = receiver-acts (Happening.Inr_comes on) w (Inr on ∷ p) p q (λ e v t h c. (omega arith, omega arith)) i k
+  to-receiver n (Ins on) w p q i k = receiver-acts (Happening.Ins_comes on) w (Ins on ∷ p) p q (λ e v t h c. (omega arith, omega arith)) i k
   to-receiver n c w p q i k = nothing p q w (λ a b g d. let j = k a b g (omega (arith, d)) in omega (arith, j))
 
   -- all else
-  occurring : (e : Event) (w : Connection) (p q : List Command) → Inv pair (onto p q (occurs pair e (with [] [] w))) → Answers (with p q w) → Answers (onto p q (occurs pair e (with [] [] w)))
+  occurring : (e : ConnectionEvent) (w : Connection) (p q : List Command) → Inv pair (onto p q (occurs pair e (with [] [] w))) → Answers (with p q w) → Answers (onto p q (occurs pair e (with [] [] w)))
   occurring (Sender_calls what) w p q i k = go (is_call what) i
     where
       go : (b : Bool) → Inv pair (onto p q (if b then sender_does pair what (with [] [] w) else with [] [] w)) → Answers (onto p q (if b then sender_does pair what (with [] [] w) else with [] [] w))
@@ -161,48 +160,48 @@ module _ (pair : Pair) (sd : sends pair ≡ true) where
       go : (b : Bool) → Answers (onto p q (if b then with [] [] w else with [] [] w))
       go true = nothing p q w k
       go false = nothing p q w k
-  occurring Text_goes_out w p q i k = sender-does all.Text_goes_out w p q i k
+  occurring Text_goes_out w p q i k = sender-does Happening.Text_goes_out w p q i k
   occurring (Text_comes head) w p q i k = go w.text i
     where
       go : (t : Text) → Inv pair (onto p q (text_comes pair head t (with [] [] w))) → Answers (onto p q (text_comes pair head t (with [] [] w)))
       go No_text i = nothing p q w k
-      go (Away li n bits) i = receiver-does (all.Text_comes head n bits) (record w { text = Here li }) p q i k
+      go (Away li n bits) i = receiver-does (Happening.Text_comes head n bits) (record w { text = Here li }) p q i k
       go (Here li) i = nothing p q w k
   occurring (Text_is_answered how) w p q i k = go how w.text i
     where
       go : (how : Answer) (t : Text) → Inv pair (onto p q (text_is_answered pair how t (with [] [] w))) → Answers (onto p q (text_is_answered pair how t (with [] [] w)))
       go Rfnm No_text i = nothing p q w k
       go Rfnm (Away li n bits) i = nothing p q w k
-      go Rfnm (Here li) i = sender-does (all.Is_answered Rfnm) (record w { text = No_text }) p q i k
+      go Rfnm (Here li) i = sender-does (Happening.Is_answered Rfnm) (record w { text = No_text }) p q i k
       go Incomplete No_text i = nothing p q w k
-      go Incomplete (Away li n bits) i = sender-does (all.Is_answered Incomplete) w p q i k
+      go Incomplete (Away li n bits) i = sender-does (Happening.Is_answered Incomplete) w p q i k
       go Incomplete (Here li) i = nothing p q w k
       go Dead No_text i = nothing p q w k
-      go Dead (Away li n bits) i = sender-does (all.Is_answered Dead) w p q i k
+      go Dead (Away li n bits) i = sender-does (Happening.Is_answered Dead) w p q i k
       go Dead (Here li) i = nothing p q w k
 
 -- Any number of connections that share what is underway.
 
 abbrev pub AllAnswer : Shared → Type 0
-AllAnswer s = s.sends ≡ true → s.receives ≡ true → (p : Pair) → sends p ≡ true → Answers (at p s)
+AllAnswer s = s.sends ≡ true → s.receives ≡ true → (p : Pair) → sends p ≡ true → Answers (connection_at p s)
 
-put-own : (q : Pair) (h : Hosted) (s : Shared) → Answers (onto (only q s.to_receivers) (only q s.to_senders) h.connection) → Answers (at q (put q h s))
+put-own : (q : Pair) (h : Hosted) (s : Shared) → Answers (onto (only q s.to_receivers) (only q s.to_senders) h.connection) → Answers (connection_at q (put_hosted q h s))
 put-own q h s k = rw (same_refl q, only_more q s.to_receivers (tag q h.connection.to_receiver), only_more q s.to_senders (tag q h.connection.to_sender), only_own q h.connection.to_receiver, only_own q h.connection.to_sender) k
 
-put-other : (q p : Pair) (h : Hosted) (s : Shared) → same q p ≡ false → Answers (at p s) → Answers (at p (put q h s))
+put-other : (q p : Pair) (h : Hosted) (s : Shared) → same q p ≡ false → Answers (connection_at p s) → Answers (connection_at p (put_hosted q h s))
 put-other q p h s e k = rw (e, only_more p s.to_receivers (tag q h.connection.to_receiver), only_more p s.to_senders (tag q h.connection.to_sender), only_other q p e h.connection.to_receiver, only_other q p e h.connection.to_sender, append-nil (only p s.to_receivers), append-nil (only p s.to_senders)) k
 
-put-answers : (q : Pair) (h : Hosted) (s : Shared) → ((p : Pair) → same q p ≡ false → sends p ≡ true → Answers (at p s)) → Answers (onto (only q s.to_receivers) (only q s.to_senders) h.connection) → (p : Pair) → sends p ≡ true → Answers (at p (put q h s))
+put-answers : (q : Pair) (h : Hosted) (s : Shared) → ((p : Pair) → same q p ≡ false → sends p ≡ true → Answers (connection_at p s)) → Answers (onto (only q s.to_receivers) (only q s.to_senders) h.connection) → (p : Pair) → sends p ≡ true → Answers (connection_at p (put_hosted q h s))
 put-answers q h s others own p sp = go (same q p) refl
   where
-    go : (b : Bool) → same q p ≡ b → Answers (at p (put q h s))
-    go true e = subst (λ (r : Pair). Answers (at r (put q h s))) (same_true q p e) (put-own q h s own)
+    go : (b : Bool) → same q p ≡ b → Answers (connection_at p (put_hosted q h s))
+    go true e = subst (λ (r : Pair). Answers (connection_at r (put_hosted q h s))) (same_true q p e) (put-own q h s own)
     go false e = put-other q p h s e (others p e sp)
 
-put-inv : (q : Pair) (h : Hosted) (s : Shared) → AllFit (put q h s) → sends q ≡ true → s.sends ≡ true → s.receives ≡ true → Inv q (onto (only q s.to_receivers) (only q s.to_senders) h.connection)
+put-inv : (q : Pair) (h : Hosted) (s : Shared) → AllFit (put_hosted q h s) → sends q ≡ true → s.sends ≡ true → s.receives ≡ true → Inv q (onto (only q s.to_receivers) (only q s.to_senders) h.connection)
 put-inv q h s f d a b =
-    let k : Fit q s.sends s.receives (at q (put q h s)) = f q d in
-    let i : Inv q (at q (put q h s)) = subst (λ (x : Bool). Fit q x true (at q (put q h s))) a (subst (λ (y : Bool). Fit q s.sends y (at q (put q h s))) b k) in
+    let k : Fit q s.sends s.receives (connection_at q (put_hosted q h s)) = f q d in
+    let i : Inv q (connection_at q (put_hosted q h s)) = subst (λ (x : Bool). Fit q x true (connection_at q (put_hosted q h s))) a (subst (λ (y : Bool). Fit q s.sends y (connection_at q (put_hosted q h s))) b k) in
     rw (same_refl q, only_more q s.to_receivers (tag q h.connection.to_receiver), only_more q s.to_senders (tag q h.connection.to_sender), only_own q h.connection.to_receiver, only_own q h.connection.to_sender) at i
 
 to-senders : (n : ℕ) (xs : List Tagged) (s : Shared) → nat_lt n MAX_BY_PEER ≡ true → AllFit (next_to_senders n xs (record s { to_senders = xs })) → AllAnswer (record s { to_senders = xs }) → AllAnswer (next_to_senders n xs (record s { to_senders = xs }))
@@ -216,15 +215,15 @@ to-senders n (c ∷ rest) s few f k = go (sends c.pair) refl f
     h = changes c.pair (Occurs (Comes_to_sender n)) (bringing c.pair [] (c.command ∷ []) (record s { to_senders = c ∷ rest }))
 
     heard : Connection
-    heard = sender_hears c.pair (command_comes n c.command) (with [] [] (at c.pair s))
+    heard = sender_hears c.pair (command_comes n c.command) (with [] [] (connection_at c.pair s))
 
     same-as : s.sends ≡ true → h.connection ≡ heard
     same-as a = rw (a, few) refl
 
-    go : (b : Bool) → sends c.pair ≡ b → AllFit (if b then put c.pair h after else after) → AllAnswer (if b then put c.pair h after else after)
+    go : (b : Bool) → sends c.pair ≡ b → AllFit (if b then put_hosted c.pair h after else after) → AllAnswer (if b then put_hosted c.pair h after else after)
     go true e f = λ a b. put-answers c.pair h after (λ p d sp. rw d at (k a b p sp))
         (subst (λ (w : Connection). Answers (onto (only c.pair s.to_receivers) (only c.pair rest) w)) (sym (same-as a))
-        (to-sender c.pair e n c.command (at c.pair s) (only c.pair s.to_receivers) (only c.pair rest)
+        (to-sender c.pair e n c.command (connection_at c.pair s) (only c.pair s.to_receivers) (only c.pair rest)
         (subst (λ (w : Connection). Inv c.pair (onto (only c.pair s.to_receivers) (only c.pair rest) w)) (same-as a) (put-inv c.pair h after f e a b))
         (rw (same_refl c.pair) at (k a b c.pair e))))
     go false e f = λ a b p sp. rw (apart c.pair p sp e) at (k a b p sp)
@@ -240,15 +239,15 @@ to-receivers n (c ∷ rest) s few f k = go (sends c.pair) refl f
     h = changes c.pair (Occurs (Comes_to_receiver n)) (bringing c.pair (c.command ∷ []) [] (record s { to_receivers = c ∷ rest }))
 
     heard : Connection
-    heard = receiver_hears c.pair (command_comes n c.command) (with [] [] (at c.pair s))
+    heard = receiver_hears c.pair (command_comes n c.command) (with [] [] (connection_at c.pair s))
 
     same-as : s.receives ≡ true → h.connection ≡ heard
     same-as a = rw (a, few) refl
 
-    go : (b : Bool) → sends c.pair ≡ b → AllFit (if b then put c.pair h after else after) → AllAnswer (if b then put c.pair h after else after)
+    go : (b : Bool) → sends c.pair ≡ b → AllFit (if b then put_hosted c.pair h after else after) → AllAnswer (if b then put_hosted c.pair h after else after)
     go true e f = λ a b. put-answers c.pair h after (λ p d sp. rw d at (k a b p sp))
         (subst (λ (w : Connection). Answers (onto (only c.pair rest) (only c.pair s.to_senders) w)) (sym (same-as b))
-        (to-receiver c.pair e n c.command (at c.pair s) (only c.pair rest) (only c.pair s.to_senders)
+        (to-receiver c.pair e n c.command (connection_at c.pair s) (only c.pair rest) (only c.pair s.to_senders)
         (subst (λ (w : Connection). Inv c.pair (onto (only c.pair rest) (only c.pair s.to_senders) w)) (same-as b) (put-inv c.pair h after f e a b))
         (rw (same_refl c.pair) at (k a b c.pair e))))
     go false e f = λ a b p sp. rw (apart c.pair p sp e) at (k a b p sp)
@@ -263,13 +262,13 @@ step-answers (On q e) s m f k = go (sends q) refl (fits_keep (On q e) s m f)
     there a b true = a
     there a b false = b
 
-    same-as : s.sends ≡ true → s.receives ≡ true → h.connection ≡ occurs q e (with [] [] (at q s))
+    same-as : s.sends ≡ true → s.receives ≡ true → h.connection ≡ occurs q e (with [] [] (connection_at q s))
     same-as a b = rw (there a b (is_at_sender e)) refl
 
-    go : (b : Bool) → sends q ≡ b → AllFit (if b then put q h s else s) → AllAnswer (if b then put q h s else s)
+    go : (b : Bool) → sends q ≡ b → AllFit (if b then put_hosted q h s else s) → AllAnswer (if b then put_hosted q h s else s)
     go true d f = λ a b. put-answers q h s (λ p _ sp. k a b p sp)
         (subst (λ (w : Connection). Answers (onto (only q s.to_receivers) (only q s.to_senders) w)) (sym (same-as a b))
-        (occurring q d e (at q s) (only q s.to_receivers) (only q s.to_senders)
+        (occurring q d e (connection_at q s) (only q s.to_receivers) (only q s.to_senders)
         (subst (λ (w : Connection). Inv q (onto (only q s.to_receivers) (only q s.to_senders) w)) (same-as a b) (put-inv q h s f d a b))
         (k a b q d)))
     go false d f = k
@@ -296,10 +295,10 @@ step-answers (Other_to_receivers c) s m f k = go (sends c.pair) refl
 step-answers (Senders_are_cleared n) s m f k = λ a b. absurd (both_ways false refl a)
 step-answers (Receivers_are_cleared n) s m f k = λ a b. absurd (both_ways false refl b)
 step-answers All_start_anew s m f k = λ a b p sp c.
-    let n = nobody p (subst (λ (x : Bool). Fit p x false (at p s)) m.0 (subst (λ (y : Bool). Fit p s.sends y (at p s)) m.1 (f p sp))) in
+    let n = nobody p (subst (λ (x : Bool). Fit p x false (connection_at p s)) m.0 (subst (λ (y : Bool). Fit p s.sends y (connection_at p s)) m.1 (f p sp))) in
     absurd (both_ways (or_new (s.receiver p).end).recall (ap (λ (o : Option End). (or_new o).recall) n) c)
   where
-    nobody : (p : Pair) → Fit p false false (at p s) → (s.receiver p).end ≡ None
+    nobody : (p : Pair) → Fit p false false (connection_at p s) → (s.receiver p).end ≡ None
     nobody p n = n.no_receiver
 
 answers-from : (es : List Shared_event) (s : Shared) → AllMayHappen es s → AllFit s → AllAnswer s → AllAnswer (shared_from es s)

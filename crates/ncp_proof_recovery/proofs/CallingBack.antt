@@ -7,7 +7,6 @@ use Rattle.ncp_model.specs.declared.pair.Pair.{Pair}
 use Rattle.ncp_model.specs.End.{End, or_new, is_going}
 use Rattle.ncp_model.specs.Texts.{Rfnm, Incomplete, Dead}
 use Rattle.ncp_model.specs.Happenings.{Happening, happens, is_violation}
-use Rattle.ncp_model.specs.Happenings as all
 use Rattle.ncp_model.proofs.ResetLists.{bit}
 
 abbrev pub is_gvb : Command → Bool
@@ -47,9 +46,9 @@ of-new (Some e) = λ _. refl
 
 stays-going : (pair : Pair) (what : Happening) (before : Option End) → StaysGoing (happens pair what before).after (is_going (or_new before))
 stays-going pair what None = of-new (happens pair what None).after
-stays-going pair (all.Is_answered Rfnm) (Some e) = grind arith
-stays-going pair (all.Is_answered Incomplete) (Some e) = λ g. g
-stays-going pair (all.Is_answered Dead) (Some e) = λ g. g
+stays-going pair (Happening.Is_answered Rfnm) (Some e) = grind arith
+stays-going pair (Happening.Is_answered Incomplete) (Some e) = λ g. g
+stays-going pair (Happening.Is_answered Dead) (Some e) = λ g. g
 stays-going pair what (Some e) = grind arith
 
 -- A receiver that has called back had, or makes its GVB.
@@ -59,12 +58,12 @@ CallsBack None g made = Unit {0}
 CallsBack (Some e) g made = e.recall ≡ true → g ≡ false → 0 < many is_gvb made
 
 calls-back : (pair : Pair) (what : Happening) (before : Option End) → CallsBack (happens pair what before).after (or_new before).recall (happens pair what before).made
-calls-back pair (all.Is_answered Rfnm) (Some e) = grind arith
-calls-back pair (all.Is_answered Incomplete) (Some e) = λ g h. absurd (both_ways e.recall h g)
-calls-back pair (all.Is_answered Dead) (Some e) = λ g h. absurd (both_ways e.recall h g)
-calls-back pair (all.Is_answered Rfnm) None = tt
-calls-back pair (all.Is_answered Incomplete) None = tt
-calls-back pair (all.Is_answered Dead) None = tt
+calls-back pair (Happening.Is_answered Rfnm) (Some e) = grind arith
+calls-back pair (Happening.Is_answered Incomplete) (Some e) = λ g h. absurd (both_ways e.recall h g)
+calls-back pair (Happening.Is_answered Dead) (Some e) = λ g h. absurd (both_ways e.recall h g)
+calls-back pair (Happening.Is_answered Rfnm) None = tt
+calls-back pair (Happening.Is_answered Incomplete) None = tt
+calls-back pair (Happening.Is_answered Dead) None = tt
 calls-back pair what before = grind arith
 
 -- What comes, and is not against the protocol.
@@ -74,17 +73,17 @@ OnEnd None P = Unit {0}
 OnEnd (Some e) P = P e
 
 -- a GVB is answered, but by an end on its way out
-gvb-answered : (pair : Pair) (on a b : ℕ) (before : Option End) → is_violation (happens pair (all.Gvb_comes on a b) before).outcome ≡ false → OnEnd (happens pair (all.Gvb_comes on a b) before).after (λ e. is_going e ≡ false → 0 < many is_ret (happens pair (all.Gvb_comes on a b) before).made)
+gvb-answered : (pair : Pair) (on a b : ℕ) (before : Option End) → is_violation (happens pair (Happening.Gvb_comes on a b) before).outcome ≡ false → OnEnd (happens pair (Happening.Gvb_comes on a b) before).after (λ e. is_going e ≡ false → 0 < many is_ret (happens pair (Happening.Gvb_comes on a b) before).made)
 gvb-answered pair on a b None v = absurd (cc v)
 gvb-answered pair on a b (Some e) v = grind arith
 
 -- a RET answers it
-ret-answers : (pair : Pair) (on a b : ℕ) (before : Option End) → is_violation (happens pair (all.Ret_comes on a b) before).outcome ≡ false → OnEnd (happens pair (all.Ret_comes on a b) before).after (λ e. is_going e ≡ false → e.recall ≡ false)
+ret-answers : (pair : Pair) (on a b : ℕ) (before : Option End) → is_violation (happens pair (Happening.Ret_comes on a b) before).outcome ≡ false → OnEnd (happens pair (Happening.Ret_comes on a b) before).after (λ e. is_going e ≡ false → e.recall ≡ false)
 ret-answers pair on a b None v = absurd (cc v)
 ret-answers pair on a b (Some e) v = grind arith
 
 -- a CLS sends an end on its way out
-cls-goes : (pair : Pair) (before : Option End) → is_violation (happens pair all.Cls_comes before).outcome ≡ false → OnEnd (happens pair all.Cls_comes before).after (λ e. is_going e ≡ true)
+cls-goes : (pair : Pair) (before : Option End) → is_violation (happens pair Happening.Cls_comes before).outcome ≡ false → OnEnd (happens pair Happening.Cls_comes before).after (λ e. is_going e ≡ true)
 cls-goes pair None v = grind arith
 cls-goes pair (Some e) v = grind arith
 
@@ -128,15 +127,15 @@ receiver-keeps pair what before s e p p' q a f k c g h n = go (or_new before).re
         omega (arith, i, l, more)
     go false t = let i = back c t in omega (arith, i, more)
 
-pub gvb-fits : (pair : Pair) (on a b : ℕ) (before : Option End) (e : End) (q : List Command) → is_violation (happens pair (all.Gvb_comes on a b) before).outcome ≡ false → (happens pair (all.Gvb_comes on a b) before).after ≡ Some e
-    → is_going e ≡ false → many is_gvb (Gvb on a b ∷ q) ≤ many is_gvb q + many is_ret (happens pair (all.Gvb_comes on a b) before).made
+pub gvb-fits : (pair : Pair) (on a b : ℕ) (before : Option End) (e : End) (q : List Command) → is_violation (happens pair (Happening.Gvb_comes on a b) before).outcome ≡ false → (happens pair (Happening.Gvb_comes on a b) before).after ≡ Some e
+    → is_going e ≡ false → many is_gvb (Gvb on a b ∷ q) ≤ many is_gvb q + many is_ret (happens pair (Happening.Gvb_comes on a b) before).made
 gvb-fits pair on a b before e q v t h =
-    let i = subst (λ (o : Option End). OnEnd o (λ e. is_going e ≡ false → 0 < many is_ret (happens pair (all.Gvb_comes on a b) before).made)) t (gvb-answered pair on a b before v) h in
+    let i = subst (λ (o : Option End). OnEnd o (λ e. is_going e ≡ false → 0 < many is_ret (happens pair (Happening.Gvb_comes on a b) before).made)) t (gvb-answered pair on a b before v) h in
     omega (arith, i)
 
-pub ret-fits : (pair : Pair) (on a b : ℕ) (before : Option End) (e : End) → is_violation (happens pair (all.Ret_comes on a b) before).outcome ≡ false → (happens pair (all.Ret_comes on a b) before).after ≡ Some e → is_going e ≡ false → e.recall ≡ true → ⊥
+pub ret-fits : (pair : Pair) (on a b : ℕ) (before : Option End) (e : End) → is_violation (happens pair (Happening.Ret_comes on a b) before).outcome ≡ false → (happens pair (Happening.Ret_comes on a b) before).after ≡ Some e → is_going e ≡ false → e.recall ≡ true → ⊥
 ret-fits pair on a b before e v t h c =
     both_ways e.recall (subst (λ (o : Option End). OnEnd o (λ e. is_going e ≡ false → e.recall ≡ false)) t (ret-answers pair on a b before v) h) c
 
-pub cls-fits : (pair : Pair) (before : Option End) (e : End) → is_violation (happens pair all.Cls_comes before).outcome ≡ false → (happens pair all.Cls_comes before).after ≡ Some e → is_going e ≡ false → ⊥
+pub cls-fits : (pair : Pair) (before : Option End) (e : End) → is_violation (happens pair Happening.Cls_comes before).outcome ≡ false → (happens pair Happening.Cls_comes before).after ≡ Some e → is_going e ≡ false → ⊥
 cls-fits pair before e v t h = both_ways (is_going e) h (subst (λ (o : Option End). OnEnd o (λ e. is_going e ≡ true)) t (cls-goes pair before v))

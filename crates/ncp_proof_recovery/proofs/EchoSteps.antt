@@ -15,10 +15,10 @@ use Rattle.ncp_model.specs.Echo.{Echoes, echo_asked}
 use Rattle.ncp_model.specs.Phase.{is_other, is_resetting, wants_reset, owes_answer}
 use Rattle.ncp_model.specs.Sending.{is_full}
 use Rattle.ncp_model.proofs.ResetLists.{bit, rrps}
-use Rattle.ncp_proof_resets.specs.Delivery.{Slot, Empty, Ready, Travelling, Held, Subnet, Free, Accepted, Delivered, Lost, Dead, idle}
-use Rattle.ncp_proof_resets.specs.Resets.{Host, is_up, on_line, anew, host_resets, host_settles, host_falls, host_makes_all, host_hears, Side, This, That}
+use Rattle.ncp_proof_resets.specs.Delivery.{Slot, Empty, Ready, Travelling, Held, MessageTransit, Free, Accepted, Delivered, Lost, Dead, idle}
+use Rattle.ncp_proof_resets.specs.Resets.{ResetHost, is_up, on_line, anew, host_resets, host_settles, host_falls, host_makes_all, host_hears, Party, This, That}
 use Rattle.ncp_proof_resets.proofs.ResetKept.{Kept, settling, wanting, owing, came_up, replying}
-use Rattle.ncp_proof_machine.specs.Hosts.{TextOut, Node, kept_echoes, quiet, cleared, called, happens_at, calls, echo_called, calls_echo, calls_reset, is_full_up, echo_replies, echoes_after, reaction, hears, hears_other, hears_all, takes_text, hears_text, cuts, sends_text, frees, text_answered, control_answered, text_comes, message_comes, Call, World, swap, base, Step, Calls_reset, Calls, Calls_echo, Falls, Sends, Sends_text, Hears, Hears_text, Loses, Loses_text, Dies, Text_dies, Is_answered, Text_is_answered, Wakes, steps, Event, at, run_from, run, start}
+use Rattle.ncp_proof_machine.specs.Hosts.{TextOut, Node, node_kept_echoes, quiet, node_cleared, called, happens_at, node_calls, node_echo_called, node_calls_echo, node_calls_reset, is_full_up, echo_replies, echoes_after, node_reaction, node_hears, node_hears_other, node_hears_all, node_takes_text, node_hears_text, node_cuts, node_sends_text, node_frees, text_answered, control_answered, node_text_comes, message_comes, PairCall, TwoNodes, nodes_swapped, base, NodeStep, Calls_reset, Calls, Calls_echo, Falls, Sends, Sends_text, Hears, Hears_text, Loses, Loses_text, Dies, Text_dies, Is_answered, Text_is_answered, Wakes, node_steps, NodeEvent, node_at, run_from, run, start}
 use Rattle.ncp_proof_machine.proofs.HostsBase.{hears_all-control}
 use Rattle.ncp_proof_headline.proofs.Lives.{live}
 use Rattle.ncp_proof_recovery.proofs.Others.{called-other, hear-other, text-other, answered-other}
@@ -36,7 +36,7 @@ abbrev pub EchoesLive : Node → Node → Type 0
 EchoesLive n m = Echo n m (line n.control) (line m.control)
 
 -- a host that goes down in the midst of it awaits none
-kept-awaited : (h : Host) (s : Echoes) → (kept_echoes h s).awaited ≡ (is_up h && s.awaited)
+kept-awaited : (h : ResetHost) (s : Echoes) → (node_kept_echoes h s).awaited ≡ (is_up h && s.awaited)
 kept-awaited h s = go (is_up h)
   where
     go : (u : Bool) → (if u then s else record s { awaited = false }).awaited ≡ (u && s.awaited)
@@ -48,13 +48,13 @@ module _ (n m : Node) (x y : List Command) where
   b = m.echoes.awaited
 
   -- the host made these, and keeps what it awaits
-  abbrev Keeps : Host → Echoes → Type 0
-  Keeps h s = Echoing 0 0 (kept_echoes h s).awaited b h m.host x y
+  abbrev Keeps : ResetHost → Echoes → Type 0
+  Keeps h s = Echoing 0 0 (node_kept_echoes h s).awaited b h m.host x y
 
-  keeps : (h : Host) (s : Echoes) → Made s.awaited b h m.host x y → Keeps h s
+  keeps : (h : ResetHost) (s : Echoes) → Made s.awaited b h m.host x y → Keeps h s
   keeps h s r = subst (λ (t : Bool). Echoing 0 0 t b h m.host x y) (sym (kept-awaited h s)) r
 
-  made-up : (a : Bool) (h : Host) → is_up h ≡ true → Echoing 0 0 a b h m.host x y → Made a b h m.host x y
+  made-up : (a : Bool) (h : ResetHost) → is_up h ≡ true → Echoing 0 0 a b h m.host x y → Made a b h m.host x y
   made-up a h u r = subst (λ (t : Bool). Echoing 0 0 (t && a) b h m.host x y) (sym u) r
 
   makes : (cs : List Command) → AllOther cs → is_up n.host ≡ true → Kept n.host m.host x y → Echo n m x y → Keeps (host_makes_all cs n.host) n.echoes
@@ -62,14 +62,14 @@ module _ (n m : Node) (x y : List Command) where
 
   -- calls
 
-  calls-echoes : (pair : Pair) (call : Call) → Kept n.host m.host x y → Echo n m x y → Echo (calls pair call n) m x y
+  calls-echoes : (pair : Pair) (call : PairCall) → Kept n.host m.host x y → Echo n m x y → Echo (node_calls pair call n) m x y
   calls-echoes pair call k r =
       let what = called call (is_full n.host.phase) n.ends in
       cond_both (is_up n.host) (happens_at pair what n) n (λ (o : Node). Echo o m x y)
       (λ u. makes (happens pair what (get n.ends pair)).made (called-other pair what (get n.ends pair)) u k r) (λ _. r)
 
-  asks-echoes : (byte : ℕ) → Kept n.host m.host x y → Echo n m x y → Echo (calls_echo byte n) m x y
-  asks-echoes byte k r = cond_both (is_up n.host) (echo_called byte n) n (λ (o : Node). Echo o m x y) (λ u. go u n.echoes.awaited (is_full n.host.phase) r) (λ _. r)
+  asks-echoes : (byte : ℕ) → Kept n.host m.host x y → Echo n m x y → Echo (node_calls_echo byte n) m x y
+  asks-echoes byte k r = cond_both (is_up n.host) (node_echo_called byte n) n (λ (o : Node). Echo o m x y) (λ u. go u n.echoes.awaited (is_full n.host.phase) r) (λ _. r)
     where
       go : is_up n.host ≡ true → (a f : Bool) → Echoing 0 0 a b n.host m.host x y
           → Keeps (host_makes_all (made_by_call (if a then Err Busy else if f then Err QueueFull else Ok (Eco byte))) n.host) (record n.echoes { awaited = a || not f })
@@ -79,9 +79,9 @@ module _ (n m : Node) (x y : List Command) where
           (makes-echo true b n.host m.host x y (Eco byte) refl u k
           (record { up = λ _. u; up_too = r.up_too; there = λ s g. omega arith; back = r.back }))
 
-  resets-echoes : Kept n.host m.host x y → Echo n m x y → Echo (calls_reset n) m x y
-  resets-echoes k r = cond_both (is_resetting n.host.phase) n (cleared (host_resets (quiet n) n.host) n) (λ (o : Node). Echo o m x y) (λ _. r)
-      (λ e. subst (λ (h : Host). Echoing 0 0 false b h m.host x y) (sym (becomes e))
+  resets-echoes : Kept n.host m.host x y → Echo n m x y → Echo (node_calls_reset n) m x y
+  resets-echoes k r = cond_both (is_resetting n.host.phase) n (node_cleared (host_resets (quiet n) n.host) n) (λ (o : Node). Echo o m x y) (λ _. r)
+      (λ e. subst (λ (h : ResetHost). Echoing 0 0 false b h m.host x y) (sym (becomes e))
       (settles-echo (quiet n) false b (anew (wants_reset n.host.phase)) m.host x y (wanting n.host m.host x y (grind arith) (grind arith) k)
       (clears-echo b (anew (wants_reset n.host.phase)) m.host x y (grind arith) r.up_too)))
     where
@@ -90,30 +90,30 @@ module _ (n m : Node) (x y : List Command) where
 
   -- texts
 
-  text-echoes : (on : ℕ) (head : List Bool) (t : TextOut) → Kept n.host m.host x y → Echo n m x y → Echo (hears_text on head t n) m x y
-  text-echoes on head t k r = cond_both (is_up n.host) (takes_text on head t n) n (λ (o : Node). Echo o m x y)
+  text-echoes : (on : ℕ) (head : List Bool) (t : TextOut) → Kept n.host m.host x y → Echo n m x y → Echo (node_hears_text on head t n) m x y
+  text-echoes on head t k r = cond_both (is_up n.host) (node_takes_text on head t n) n (λ (o : Node). Echo o m x y)
       (λ u. makes (made_by_text head t.bits (answer (text_in on t.of_size t.bits n.ends))) (text-other head on t.of_size t.bits n.ends) u k r) (λ _. r)
 
-  down-makes : (cs : List Command) (h : Host) → is_up h ≡ false → host_makes_all cs h ≡ h
+  down-makes : (cs : List Command) (h : ResetHost) → is_up h ≡ false → host_makes_all cs h ≡ h
   down-makes [] h d = refl
   down-makes (c ∷ cs) h d = let same : host_makes_all (c ∷ []) h ≡ h = rw d refl in ap (host_makes_all cs) same ∙ down-makes cs h d
 
-  freed-echoes : (on : ℕ) → Kept n.host m.host x y → Echo n m x y → Echo (frees on n) m x y
+  freed-echoes : (on : ℕ) → Kept n.host m.host x y → Echo n m x y → Echo (node_frees on n) m x y
   freed-echoes on k r = go (is_up n.host) refl
     where
       made : List Command
       made = made_if_any (answer (answered_in on Rfnm n.ends))
 
-      host : Host
+      host : ResetHost
       host = host_makes_all made n.host
 
-      go : (u : Bool) → is_up n.host ≡ u → Echoing 0 0 (if is_up n.host then kept_echoes host n.echoes else n.echoes).awaited b host m.host x y
-      go true u = subst (λ (t : Bool). Echoing 0 0 (if t then kept_echoes host n.echoes else n.echoes).awaited b host m.host x y) (sym u) (makes made (answered-other on n.ends) u k r)
+      go : (u : Bool) → is_up n.host ≡ u → Echoing 0 0 (if is_up n.host then node_kept_echoes host n.echoes else n.echoes).awaited b host m.host x y
+      go true u = subst (λ (t : Bool). Echoing 0 0 (if t then node_kept_echoes host n.echoes else n.echoes).awaited b host m.host x y) (sym u) (makes made (answered-other on n.ends) u k r)
       go false d =
-          subst (λ (t : Bool). Echoing 0 0 (if t then kept_echoes host n.echoes else n.echoes).awaited b host m.host x y) (sym d)
-          (subst (λ (h : Host). Echoing 0 0 n.echoes.awaited b h m.host x y) (sym (down-makes made n.host d)) r)
+          subst (λ (t : Bool). Echoing 0 0 (if t then node_kept_echoes host n.echoes else n.echoes).awaited b host m.host x y) (sym d)
+          (subst (λ (h : ResetHost). Echoing 0 0 n.echoes.awaited b h m.host x y) (sym (down-makes made n.host d)) r)
 
-  freed-kept : (on : ℕ) → Kept n.host m.host x y → Kept (frees on n).host m.host x y
+  freed-kept : (on : ℕ) → Kept n.host m.host x y → Kept (node_frees on n).host m.host x y
   freed-kept on k = replying n.host m.host x y (made_if_any (answer (answered_in on Rfnm n.ends))) k
 
 -- A command comes.
@@ -123,18 +123,18 @@ module _ (n m : Node) (x y : List Command) (c : Command) (o : is_other c ≡ tru
   replied = made_by_hearing (answer (hear c n.ends)) ++ echo_replies c
 
   -- where a host that is up and has a place makes so of it
-  heard-echoes : (is_up n.host ≡ true → Made (echoes_after c n.echoes).awaited m.echoes.awaited (host_makes_all replied (came c n.host)) m.host x y) → host_hears c (reaction c n) n.host ≡ (if is_up n.host then (if is_full_up (answer (hear c n.ends)) then host_falls n.host else host_makes_all replied (came c n.host)) else n.host) → Echo (if is_up n.host then hears_other c n else n) m x y
-  heard-echoes f e = cond_both (is_up n.host) (hears_other c n) n (λ (o : Node). Echo o m x y) up (λ d. drops-echo n.echoes.awaited m.echoes.awaited n.host m.host x y c o d r)
+  heard-echoes : (is_up n.host ≡ true → Made (echoes_after c n.echoes).awaited m.echoes.awaited (host_makes_all replied (came c n.host)) m.host x y) → host_hears c (node_reaction c n) n.host ≡ (if is_up n.host then (if is_full_up (answer (hear c n.ends)) then host_falls n.host else host_makes_all replied (came c n.host)) else n.host) → Echo (if is_up n.host then node_hears_other c n else n) m x y
+  heard-echoes f e = cond_both (is_up n.host) (node_hears_other c n) n (λ (o : Node). Echo o m x y) up (λ d. drops-echo n.echoes.awaited m.echoes.awaited n.host m.host x y c o d r)
     where
-      heard : (h : Host) → Type 0
+      heard : (h : ResetHost) → Type 0
       heard h = Keeps n m x y h (echoes_after c n.echoes)
 
-      up : is_up n.host ≡ true → Keeps n m x y (host_hears c (reaction c n) n.host) (echoes_after c n.echoes)
+      up : is_up n.host ≡ true → Keeps n m x y (host_hears c (node_reaction c n) n.host) (echoes_after c n.echoes)
       up u =
-          let s : host_hears c (reaction c n) n.host ≡ (if is_full_up (answer (hear c n.ends)) then host_falls n.host else host_makes_all replied (came c n.host)) =
+          let s : host_hears c (node_reaction c n) n.host ≡ (if is_full_up (answer (hear c n.ends)) then host_falls n.host else host_makes_all replied (came c n.host)) =
           e ∙ ap (λ (t : Bool). if t then (if is_full_up (answer (hear c n.ends)) then host_falls n.host else host_makes_all replied (came c n.host)) else n.host) u in
-          subst (λ (h : Host). Keeps n m x y h (echoes_after c n.echoes)) (sym s)
-          (cond_both (is_full_up (answer (hear c n.ends))) (host_falls n.host) (host_makes_all replied (came c n.host)) (λ (h : Host). Keeps n m x y h (echoes_after c n.echoes))
+          subst (λ (h : ResetHost). Keeps n m x y h (echoes_after c n.echoes)) (sym s)
+          (cond_both (is_full_up (answer (hear c n.ends))) (host_falls n.host) (host_makes_all replied (came c n.host)) (λ (h : ResetHost). Keeps n m x y h (echoes_after c n.echoes))
           (λ _. clears-echo m.echoes.awaited (host_falls n.host) m.host x y refl r.up_too)
           (λ _. keeps n m x y (host_makes_all replied (came c n.host)) (echoes_after c n.echoes) (f u)))
 
@@ -157,7 +157,7 @@ eco-echo n m x y byte k r u =
     makes-echo n.echoes.awaited m.echoes.awaited (came (Eco byte) n.host) m.host x y (Erp byte) refl u (came_up n.host m.host x y (Eco byte) u refl k)
     (comes-echo n.echoes.awaited m.echoes.awaited n.host m.host x y (Eco byte) refl u r)
 
-hear-echoes : (c : Command) (n m : Node) (x y : List Command) → Kept n.host m.host x (c ∷ y) → Echo n m x (c ∷ y) → Echo (hears c n) m x y
+hear-echoes : (c : Command) (n m : Node) (x y : List Command) → Kept n.host m.host x (c ∷ y) → Echo n m x (c ∷ y) → Echo (node_hears c n) m x y
 hear-echoes Rst n m x y k r =
     settles-echo (quiet n) false m.echoes.awaited (anew (owes_answer n.host.phase)) m.host x y (owing n.host m.host x y k)
     (clears-echo m.echoes.awaited (anew (owes_answer n.host.phase)) m.host x y (grind arith) r.up_too)
@@ -165,13 +165,13 @@ hear-echoes Rrp n m x y k r = rrp-echo n.echoes.awaited m.echoes.awaited n.host 
 hear-echoes (Eco byte) n m x y k r = heard-echoes n m x y (Eco byte) refl k r (eco-echo n m x y byte k r) refl
 hear-echoes c n m x y k r = heard-echoes n m x y c refl k r (others-echo n m x y c refl k r refl refl) refl
 
-all-echoes : (own own' : ℕ → Option Pair) (m : Node) (x : List Command) (cs : List Command) (n : Node) → Joined own own' n m x cs → Echo n m x cs → Echo (hears_all cs n) m x []
+all-echoes : (own own' : ℕ → Option Pair) (m : Node) (x : List Command) (cs : List Command) (n : Node) → Joined own own' n m x cs → Echo n m x cs → Echo (node_hears_all cs n) m x []
 all-echoes own own' m x [] n j r = r
-all-echoes own own' m x (c ∷ cs) n j r = all-echoes own own' m x cs (hears c n) (hears-keeps own own' n m x cs c j) (hear-echoes c n m x cs j.kept r)
+all-echoes own own' m x (c ∷ cs) n j r = all-echoes own own' m x cs (node_hears c n) (hears-keeps own own' n m x cs c j) (hear-echoes c n m x cs j.kept r)
 
 -- The steps.
 
-module _ (w : World) (t : Ever w) where
+module _ (w : TwoNodes) (t : Ever w) where
   abbrev x : List Command
   x = line w.this.control
 
@@ -181,35 +181,35 @@ module _ (w : World) (t : Ever w) where
   kept : Kept w.this.host w.that.host x y
   kept = t.holds.joined.kept
 
-  abbrev R : Host → List Command → Type 0
+  abbrev R : ResetHost → List Command → Type 0
   R h u = Echoing 0 0 w.this.echoes.awaited w.that.echoes.awaited h w.that.host u y
 
-  cut-echoes : (on : ℕ) (o : Option (ℕ × List Bool)) → EchoesLive w.this w.that → EchoesLive (cuts on o w.this) w.that
+  cut-echoes : (on : ℕ) (o : Option (ℕ × List Bool)) → EchoesLive w.this w.that → EchoesLive (node_cuts on o w.this) w.that
   cut-echoes on None r = r
   cut-echoes on (Some text) r = r
 
-  sent-echoes : (on : ℕ) (slot : Slot TextOut) → EchoesLive w.this w.that → EchoesLive (sends_text on slot w.this) w.that
+  sent-echoes : (on : ℕ) (slot : Slot TextOut) → EchoesLive w.this w.that → EchoesLive (node_sends_text on slot w.this) w.that
   sent-echoes on Empty r = cut-echoes on (answer (cut_in on w.this.ends)) r
   sent-echoes on (Ready u) r = r
   sent-echoes on (Travelling u) r = r
   sent-echoes on (Held u) r = r
 
-  heard-text : (on : ℕ) (head : List Bool) (s : Subnet TextOut) → EchoesLive w.this w.that → EchoesLive (text_comes on head s w).this (text_comes on head s w).that
+  heard-text : (on : ℕ) (head : List Bool) (s : MessageTransit TextOut) → EchoesLive w.this w.that → EchoesLive (node_text_comes on head s w).this (node_text_comes on head s w).that
   heard-text on head (Accepted u) r = at-text u (text-echoes w.this w.that x y on head u kept r)
     where
-      same : (u : TextOut) → (hears_text on head u w.this).control ≡ w.this.control
-      same u = cond_both (is_up w.this.host) (takes_text on head u w.this) w.this (λ (o : Node). o.control ≡ w.this.control) (λ _. refl) (λ _. refl)
+      same : (u : TextOut) → (node_hears_text on head u w.this).control ≡ w.this.control
+      same u = cond_both (is_up w.this.host) (node_takes_text on head u w.this) w.this (λ (o : Node). o.control ≡ w.this.control) (λ _. refl) (λ _. refl)
 
-      at-text : (u : TextOut) → Echo (hears_text on head u w.this) w.that x y → EchoesLive (hears_text on head u w.this) w.that
-      at-text u q = subst (λ (v : List Command). Echo (hears_text on head u w.this) w.that v y) (sym (ap line (same u))) q
+      at-text : (u : TextOut) → Echo (node_hears_text on head u w.this) w.that x y → EchoesLive (node_hears_text on head u w.this) w.that
+      at-text u q = subst (λ (v : List Command). Echo (node_hears_text on head u w.this) w.that v y) (sym (ap line (same u))) q
   heard-text on head Free r = r
   heard-text on head Delivered r = r
   heard-text on head Lost r = r
   heard-text on head Dead r = r
 
-  answered-text : (on : ℕ) (slot : Slot TextOut) (s : Subnet TextOut) → EchoesLive w.this w.that → EchoesLive (text_answered on slot s w.this) w.that
+  answered-text : (on : ℕ) (slot : Slot TextOut) (s : MessageTransit TextOut) → EchoesLive w.this w.that → EchoesLive (text_answered on slot s w.this) w.that
   answered-text on (Travelling u) Delivered r =
-      let f : Node = frees on w.this in
+      let f : Node = node_frees on w.this in
       settles-echo (quiet f) f.echoes.awaited w.that.echoes.awaited f.host w.that.host x y (freed-kept w.this w.that x y on kept) (freed-echoes w.this w.that x y on kept r)
   answered-text on (Travelling u) Free r = r
   answered-text on (Travelling u) (Accepted c) r = r
@@ -219,7 +219,7 @@ module _ (w : World) (t : Ever w) where
   answered-text on (Ready u) s r = r
   answered-text on (Held u) s r = r
 
-  answered-control : (slot : Slot (List Command)) (s : Subnet (List Command)) → w.this.control.slot ≡ slot → w.this.control.subnet ≡ s → R w.this.host (on_line slot s) → EchoesLive (control_answered slot s w.this) w.that
+  answered-control : (slot : Slot (List Command)) (s : MessageTransit (List Command)) → w.this.control.slot ≡ slot → w.this.control.subnet ≡ s → R w.this.host (on_line slot s) → EchoesLive (control_answered slot s w.this) w.that
   answered-control (Travelling c) Delivered e f r =
       settles-echo (quiet (record w.this { control = idle })) w.this.echoes.awaited w.that.echoes.awaited w.this.host w.that.host [] y
       (subst (λ (u : List Command). Kept w.this.host w.that.host u y) (ap (λ (slot : Slot (List Command)). on_line slot w.this.control.subnet) e ∙ ap (on_line (Travelling c)) f) kept) r
@@ -231,28 +231,28 @@ module _ (w : World) (t : Ever w) where
   answered-control (Ready c) s e f r = r
   answered-control (Held c) s e f r = r
 
-  heard-message : (s : Subnet (List Command)) → w.that.control.subnet ≡ s → EchoesLive w.this w.that → EchoesLive (message_comes s w).this (message_comes s w).that
+  heard-message : (s : MessageTransit (List Command)) → w.that.control.subnet ≡ s → EchoesLive w.this w.that → EchoesLive (message_comes s w).this (message_comes s w).that
   heard-message (Accepted d) e r =
       let j : Joined t.own t.own' w.this w.that x d = accepted t.own t.own' w.this w.that w.this.control.slot w.that.control.slot w.this.control.subnet w.that.control.subnet d t.holds e in
       let l = heard-line w.that.control.slot w.that.control.subnet d e t.holds.coming in
-      let q : Echo (hears_all d w.this) w.that x [] = all-echoes t.own t.own' w.that x d w.this j (subst (λ (v : List Command). Echo w.this w.that x v) l.0 r) in
-      subst (λ (u : List Command). Echo (hears_all d w.this) w.that u (on_line w.that.control.slot Delivered)) (sym (ap line (hears_all-control d w.this)))
-      (subst (λ (v : List Command). Echo (hears_all d w.this) w.that x v) (sym l.1) q)
+      let q : Echo (node_hears_all d w.this) w.that x [] = all-echoes t.own t.own' w.that x d w.this j (subst (λ (v : List Command). Echo w.this w.that x v) l.0 r) in
+      subst (λ (u : List Command). Echo (node_hears_all d w.this) w.that u (on_line w.that.control.slot Delivered)) (sym (ap line (hears_all-control d w.this)))
+      (subst (λ (v : List Command). Echo (node_hears_all d w.this) w.that x v) (sym l.1) q)
   heard-message Free e r = r
   heard-message Delivered e r = r
   heard-message Lost e r = r
   heard-message Dead e r = r
 
-  abbrev Live : World → Type 0
+  abbrev Live : TwoNodes → Type 0
   Live v = EchoesLive v.this v.that
 
   at-line : (n : Node) → n.control ≡ w.this.control → Echo n w.that x y → EchoesLive n w.that
   at-line n e q = subst (λ (u : List Command). Echo n w.that u y) (sym (ap line e)) q
 
-  step-echoes : (step : Step) → Live w → Live (steps step w)
-  step-echoes Calls_reset r = at-line (calls_reset w.this) (cond_both (is_resetting w.this.host.phase) w.this (cleared (host_resets (quiet w.this) w.this.host) w.this) (λ (o : Node). o.control ≡ w.this.control) (λ _. refl) (λ _. refl)) (resets-echoes w.this w.that x y kept r)
-  step-echoes (Calls pair call) r = at-line (calls pair call w.this) (cond_both (is_up w.this.host) (happens_at pair (called call (is_full w.this.host.phase) w.this.ends) w.this) w.this (λ (o : Node). o.control ≡ w.this.control) (λ _. refl) (λ _. refl)) (calls-echoes w.this w.that x y pair call kept r)
-  step-echoes (Calls_echo byte) r = at-line (calls_echo byte w.this) (cond_both (is_up w.this.host) (echo_called byte w.this) w.this (λ (o : Node). o.control ≡ w.this.control) (λ _. refl) (λ _. refl)) (asks-echoes w.this w.that x y byte kept r)
+  step-echoes : (step : NodeStep) → Live w → Live (node_steps step w)
+  step-echoes Calls_reset r = at-line (node_calls_reset w.this) (cond_both (is_resetting w.this.host.phase) w.this (node_cleared (host_resets (quiet w.this) w.this.host) w.this) (λ (o : Node). o.control ≡ w.this.control) (λ _. refl) (λ _. refl)) (resets-echoes w.this w.that x y kept r)
+  step-echoes (Calls pair call) r = at-line (node_calls pair call w.this) (cond_both (is_up w.this.host) (happens_at pair (called call (is_full w.this.host.phase) w.this.ends) w.this) w.this (λ (o : Node). o.control ≡ w.this.control) (λ _. refl) (λ _. refl)) (calls-echoes w.this w.that x y pair call kept r)
+  step-echoes (Calls_echo byte) r = at-line (node_calls_echo byte w.this) (cond_both (is_up w.this.host) (node_echo_called byte w.this) w.this (λ (o : Node). o.control ≡ w.this.control) (λ _. refl) (λ _. refl)) (asks-echoes w.this w.that x y byte kept r)
   step-echoes Falls r = clears-echo w.that.echoes.awaited (host_falls w.this.host) w.that.host x y refl r.up_too
   step-echoes (Sends i) r = sent-line R (λ j h q. front-echo j w.this.echoes.awaited w.that.echoes.awaited h w.that.host y q) (base w) w.this.control.slot w.this.control.subnet w.this.host.phase.waiting i t.holds.going r
   step-echoes (Sends_text on) r = sent-echoes on (w.this.texts on).slot r
@@ -268,22 +268,22 @@ module _ (w : World) (t : Ever w) where
 
 -- A run.
 
-turned : (w : World) → EchoesLive w.this w.that → EchoesLive w.that w.this
+turned : (w : TwoNodes) → EchoesLive w.this w.that → EchoesLive w.that w.this
 turned w r = echoing-turned w.this.echoes.awaited w.that.echoes.awaited w.this.host w.that.host (line w.this.control) (line w.that.control) r
 
-side-echoes : (side : Side) (step : Step) (w : World) → Ever w → EchoesLive w.this w.that → EchoesLive (at side step w).this (at side step w).that
+side-echoes : (side : Party) (step : NodeStep) (w : TwoNodes) → Ever w → EchoesLive w.this w.that → EchoesLive (node_at side step w).this (node_at side step w).that
 side-echoes This step w t r = step-echoes w t step r
-side-echoes That step w t r = turned (steps step (swap w)) (step-echoes (swap w) (ever-swapped w t) step (turned w r))
+side-echoes That step w t r = turned (node_steps step (nodes_swapped w)) (step-echoes (nodes_swapped w) (ever-swapped w t) step (turned w r))
 
-run-echoes : (es : List Event) (w : World) → Ever w → EchoesLive w.this w.that → EchoesLive (run_from es w).this (run_from es w).that
+run-echoes : (es : List NodeEvent) (w : TwoNodes) → Ever w → EchoesLive w.this w.that → EchoesLive (run_from es w).this (run_from es w).that
 run-echoes [] w t r = r
-run-echoes (e ∷ es) w t r = run-echoes es (at e.side e.step w) (after_step e w t) (side-echoes e.side e.step w t r)
+run-echoes (e ∷ es) w t r = run-echoes es (node_at e.side e.step w) (after_step e w t) (side-echoes e.side e.step w t r)
 
-pub ever-echoes : (es : List Event) → EchoesLive (run es).this (run es).that
+pub ever-echoes : (es : List NodeEvent) → EchoesLive (run es).this (run es).that
 ever-echoes es = run-echoes es start (ever []) (clears-echo false start.this.host start.that.host [] [] refl (λ e. absurd (both_ways false refl e)))
 
 -- where nothing is underway between two that are up, none is awaited
-pub none-awaited : (w : World) → EchoesLive w.this w.that → line w.this.control ++ w.this.host.phase.waiting ≡ [] → line w.that.control ++ w.that.host.phase.waiting ≡ [] → is_up w.this.host ≡ true → is_up w.that.host ≡ true → w.this.echoes.awaited ≡ false
+pub none-awaited : (w : TwoNodes) → EchoesLive w.this w.that → line w.this.control ++ w.this.host.phase.waiting ≡ [] → line w.that.control ++ w.that.host.phase.waiting ≡ [] → is_up w.this.host ≡ true → is_up w.that.host ≡ true → w.this.echoes.awaited ≡ false
 none-awaited w r e f u v = false_from_ne_true w.this.echoes.awaited (λ s.
     let a = up_alive w.that.host (rrps (line w.this.control ++ w.this.host.phase.waiting)) v in
     let i : 0 < 0 + ecos (live w.that.host.phase.wait (line w.this.control ++ w.this.host.phase.waiting)) + erps (live w.this.host.phase.wait (line w.that.control ++ w.that.host.phase.waiting)) = r.there s a in

@@ -5,9 +5,9 @@ use Rattle.std.proofs.lemmas.Bool.{both_ways, and_parts, cond_both}
 use Rattle.std.proofs.lemmas.List.{take-append-drop}
 use Rattle.ncp_terms.specs.declared.command.Command.{Command}
 use Rattle.ncp_terms.specs.declared.command.Command.TheVariants.{Rst, Rrp, Eco, Erp}
-use Rattle.ncp_model.specs.Phase.{Phase, is_rst, is_rrp, is_other, answers, asks, hears_rrp, has_place, queued}
+use Rattle.ncp_model.specs.Phase.{Phase, is_rst, is_rrp, is_other, phase_answers, phase_asks, hears_rrp, has_place, queued}
 use Rattle.ncp_model.proofs.ResetLists.{bit, rsts, rrps, rrps-append}
-use Rattle.ncp_proof_resets.specs.Resets.{Host, is_up, host_settles, host_falls, host_makes, host_makes_all}
+use Rattle.ncp_proof_resets.specs.Resets.{ResetHost, is_up, host_settles, host_falls, host_makes, host_makes_all}
 use Rattle.ncp_proof_resets.proofs.ResetKept.{Kept, answering, making}
 use Rattle.ncp_proof_headline.proofs.Lives.{live, alive, fronts_other, behind_other, live_more, owed}
 use Rattle.ncp_proof_headline.proofs.HostsJoined.{AllOther, up_alive, up_waits, not_up_wait, not_alive}
@@ -38,11 +38,11 @@ erps-append [] v = omega arith
 erps-append (c ∷ u) v = omega (arith, erps-append u v)
 
 -- h awaits an echo from k, where x and y are on the lines, and p more of them are about to be made
-abbrev pub Awaits : ℕ → Bool → Host → Host → List Command → List Command → Type 0
+abbrev pub Awaits : ℕ → Bool → ResetHost → ResetHost → List Command → List Command → Type 0
 Awaits p a h k x y =
     a ≡ true → alive k (rrps (x ++ h.phase.waiting)) ≡ true → 0 < p + ecos (live k.phase.wait (x ++ h.phase.waiting)) + erps (live h.phase.wait (y ++ k.phase.waiting))
 
-abbrev pub Echoing : ℕ → ℕ → Bool → Bool → Host → Host → List Command → List Command → Type 0
+abbrev pub Echoing : ℕ → ℕ → Bool → Bool → ResetHost → ResetHost → List Command → List Command → Type 0
 Echoing p q a b h k x y = record {
   up : a ≡ true → is_up h ≡ true;
   up_too : b ≡ true → is_up k ≡ true;
@@ -50,14 +50,14 @@ Echoing p q a b h k x y = record {
   back : Awaits q b k h y x;
 }
 
-pub echoing-turned : (a b : Bool) (h k : Host) (x y : List Command) → Echoing 0 0 a b h k x y → Echoing 0 0 b a k h y x
+pub echoing-turned : (a b : Bool) (h k : ResetHost) (x y : List Command) → Echoing 0 0 a b h k x y → Echoing 0 0 b a k h y x
 echoing-turned a b h k x y r = record { up = r.up_too; up_too = r.up; there = r.back; back = r.there }
 
-abbrev with_phase : Host → Phase → Host
+abbrev with_phase : ResetHost → Phase → ResetHost
 with_phase h p = record h { phase = p }
 
 -- A host that is cleared awaits none, and is not alive.
-pub clears-echo : (b : Bool) (h k : Host) (x y : List Command) → not (h.phase.down || h.phase.want || h.phase.owe) ≡ false → (b ≡ true → is_up k ≡ true) → Echoing 0 0 false b h k x y
+pub clears-echo : (b : Bool) (h k : ResetHost) (x y : List Command) → not (h.phase.down || h.phase.want || h.phase.owe) ≡ false → (b ≡ true → is_up k ≡ true) → Echoing 0 0 false b h k x y
 clears-echo b h k x y d f = record {
   up = λ e. absurd (both_ways false refl e);
   up_too = f;
@@ -70,17 +70,17 @@ clears-echo b h k x y d f = record {
 
 -- Settling: whoever owes an RRP or wants an RST is not up, nor is he that waits for it.
 
-owes-not-up : (h : Host) → h.phase.owe ≡ true → is_up h ≡ false
+owes-not-up : (h : ResetHost) → h.phase.owe ≡ true → is_up h ≡ false
 owes-not-up h e = grind arith
 
-wants-not-up : (h : Host) → h.phase.want ≡ true → is_up h ≡ false
+wants-not-up : (h : ResetHost) → h.phase.want ≡ true → is_up h ≡ false
 wants-not-up h e = grind arith
 
-waits-dead : (h : Host) (c : ℕ) → h.phase.wait ≡ true → c ≡ 0 → alive h c ≡ false
+waits-dead : (h : ResetHost) (c : ℕ) → h.phase.wait ≡ true → c ≡ 0 → alive h c ≡ false
 waits-dead h c e z = grind (arith, e, z)
 
-module _ (a b : Bool) (h k : Host) (x y : List Command) where
-  answers-echo : Kept h k x y → Echoing 0 0 a b h k x y → Echoing 0 0 a b (with_phase h (answers h.phase)) k x y
+module _ (a b : Bool) (h k : ResetHost) (x y : List Command) where
+  answers-echo : Kept h k x y → Echoing 0 0 a b h k x y → Echoing 0 0 a b (with_phase h (phase_answers h.phase)) k x y
   answers-echo p r = cond_both h.phase.owe new h.phase (λ (q : Phase). Echoing 0 0 a b (with_phase h q) k x y) made (λ _. r)
     where
       new : Phase
@@ -97,7 +97,7 @@ module _ (a b : Bool) (h k : Host) (x y : List Command) where
             back = λ s. absurd (both_ways (is_up k) m (r.up_too s));
           }
 
-  asks-echo : Kept h k x y → Echoing 0 0 a b h k x y → Echoing 0 0 a b (with_phase h (asks h.phase)) k x y
+  asks-echo : Kept h k x y → Echoing 0 0 a b h k x y → Echoing 0 0 a b (with_phase h (phase_asks h.phase)) k x y
   asks-echo p r = cond_both h.phase.want new h.phase (λ (q : Phase). Echoing 0 0 a b (with_phase h q) k x y) made (λ _. r)
     where
       new : Phase
@@ -116,12 +116,12 @@ module _ (a b : Bool) (h k : Host) (x y : List Command) where
             back = λ s g. absurd (both_ways (alive (with_phase h new) (rrps (y ++ k.phase.waiting))) (waits-dead (with_phase h new) (rrps (y ++ k.phase.waiting)) refl z) g);
           }
 
-pub settles-echo : (quiet a b : Bool) (h k : Host) (x y : List Command) → Kept h k x y → Echoing 0 0 a b h k x y → Echoing 0 0 a b (host_settles quiet h) k x y
-settles-echo true a b h k x y p r = asks-echo a b (with_phase h (answers h.phase)) k x y (answering h k x y p) (answers-echo a b h k x y p r)
+pub settles-echo : (quiet a b : Bool) (h k : ResetHost) (x y : List Command) → Kept h k x y → Echoing 0 0 a b h k x y → Echoing 0 0 a b (host_settles quiet h) k x y
+settles-echo true a b h k x y p r = asks-echo a b (with_phase h (phase_answers h.phase)) k x y (answering h k x y p) (answers-echo a b h k x y p r)
 settles-echo false a b h k x y p r = r
 
 -- The RRP comes: who waits for it awaits no echo.
-pub rrp-echo : (a b : Bool) (h k : Host) (x y : List Command) → Kept h k x (Rrp ∷ y) → Echoing 0 0 a b h k x (Rrp ∷ y) → Echoing 0 0 a b (with_phase h (hears_rrp h.phase)) k x y
+pub rrp-echo : (a b : Bool) (h k : ResetHost) (x y : List Command) → Kept h k x (Rrp ∷ y) → Echoing 0 0 a b h k x (Rrp ∷ y) → Echoing 0 0 a b (with_phase h (hears_rrp h.phase)) k x y
 rrp-echo a b h k x y p r = record {
   up = λ s. absurd (both_ways (is_up h) (not_up_wait h waits) (r.up s));
   up_too = r.up_too;
@@ -141,7 +141,7 @@ rrps-other : (c : Command) (u : List Command) → is_other c ≡ true → rrps (
 rrps-other c u o = grind arith
 
 -- a host that is not up drops it
-pub drops-echo : (a b : Bool) (h k : Host) (x y : List Command) (c : Command) → is_other c ≡ true → is_up h ≡ false → Echoing 0 0 a b h k x (c ∷ y) → Echoing 0 0 a b h k x y
+pub drops-echo : (a b : Bool) (h k : ResetHost) (x y : List Command) (c : Command) → is_other c ≡ true → is_up h ≡ false → Echoing 0 0 a b h k x (c ∷ y) → Echoing 0 0 a b h k x y
 drops-echo a b h k x y c o d r = record {
   up = r.up;
   up_too = r.up_too;
@@ -153,11 +153,11 @@ drops-echo a b h k x y c o d r = record {
     go true e g i = subst (λ (l : List Command). 0 < 0 + ecos l + erps (live k.phase.wait (x ++ h.phase.waiting))) (behind_other c (y ++ k.phase.waiting) o) i
     go false e g i = absurd (both_ways (alive h (rrps (y ++ k.phase.waiting))) (not_alive h (rrps (y ++ k.phase.waiting)) d e) g)
 
-abbrev pub came : Command → Host → Host
+abbrev pub came : Command → ResetHost → ResetHost
 came c h = record h { came = h.came ++ c ∷ [] }
 
 -- one that is up hears it: an ERP ends the echo, and an ECO is about to be answered
-pub comes-echo : (a b : Bool) (h k : Host) (x y : List Command) (c : Command) → is_other c ≡ true → is_up h ≡ true → Echoing 0 0 a b h k x (c ∷ y) → Echoing 0 (bit (is_eco c)) (not (is_erp c) && a) b (came c h) k x y
+pub comes-echo : (a b : Bool) (h k : ResetHost) (x y : List Command) (c : Command) → is_other c ≡ true → is_up h ≡ true → Echoing 0 0 a b h k x (c ∷ y) → Echoing 0 (bit (is_eco c)) (not (is_erp c) && a) b (came c h) k x y
 comes-echo a b h k x y c o u r = record {
   up = λ s. r.up (and_parts (not (is_erp c)) a s).1;
   up_too = r.up_too;
@@ -183,11 +183,11 @@ comes-echo a b h k x y c o u r = record {
 
 -- Commands are made. A host that goes down in the midst of it awaits nothing.
 
-abbrev pub Made : Bool → Bool → Host → Host → List Command → List Command → Type 0
+abbrev pub Made : Bool → Bool → ResetHost → ResetHost → List Command → List Command → Type 0
 Made a b h k x y = Echoing 0 0 (is_up h && a) b h k x y
 
-module _ (a b : Bool) (h k : Host) (x y : List Command) (c : Command) (o : is_other c ≡ true) (u : is_up h ≡ true) (p : Kept h k x y) (r : Echoing (bit (is_eco c)) (bit (is_erp c)) a b h k x y) where
-  abbrev more : Host
+module _ (a b : Bool) (h k : ResetHost) (x y : List Command) (c : Command) (o : is_other c ≡ true) (u : is_up h ≡ true) (p : Kept h k x y) (r : Echoing (bit (is_eco c)) (bit (is_erp c)) a b h k x y) where
+  abbrev more : ResetHost
   more = record h { phase = queued c h.phase; made = h.made ++ c ∷ [] }
 
   count : rrps (x ++ (h.phase.waiting ++ c ∷ [])) ≡ rrps (x ++ h.phase.waiting)
@@ -212,18 +212,18 @@ module _ (a b : Bool) (h k : Host) (x y : List Command) (c : Command) (o : is_ot
   pub makes-echo : Made a b (host_makes c h) k x y
   makes-echo =
       let first : host_makes c h ≡ (if has_place h.phase then more else host_falls h) = rw (u, o) refl in
-      subst (λ (g : Host). Made a b g k x y) (sym first)
-      (cond_both (has_place h.phase) more (host_falls h) (λ (g : Host). Made a b g k x y)
+      subst (λ (g : ResetHost). Made a b g k x y) (sym first)
+      (cond_both (has_place h.phase) more (host_falls h) (λ (g : ResetHost). Made a b g k x y)
       (λ _. subst (λ (t : Bool). Echoing 0 0 (t && a) b more k x y) (sym u) queues)
       (λ _. clears-echo b (host_falls h) k x y refl r.up_too))
 
 -- any others, one after another
-pub all-make-echo : (cs : List Command) (a b : Bool) (h k : Host) (x y : List Command) → AllOther cs → Kept h k x y → Made a b h k x y → Made a b (host_makes_all cs h) k x y
+pub all-make-echo : (cs : List Command) (a b : Bool) (h k : ResetHost) (x y : List Command) → AllOther cs → Kept h k x y → Made a b h k x y → Made a b (host_makes_all cs h) k x y
 all-make-echo [] a b h k x y o p r = r
 all-make-echo (c ∷ cs) a b h k x y o p r = all-make-echo cs a b (host_makes c h) k x y o.1 (making h k x y c p) (go (is_up h) refl)
   where
     go : (t : Bool) → is_up h ≡ t → Made a b (host_makes c h) k x y
-    go false u = let same : host_makes c h ≡ h = rw u refl in subst (λ (g : Host). Made a b g k x y) (sym same) r
+    go false u = let same : host_makes c h ≡ h = rw u refl in subst (λ (g : ResetHost). Made a b g k x y) (sym same) r
     go true u =
         let q : Echoing 0 0 a b h k x y = subst (λ (t : Bool). Echoing 0 0 (t && a) b h k x y) u r in
         makes-echo a b h k x y c o.0 u p
@@ -235,7 +235,7 @@ all-make-echo (c ∷ cs) a b h k x y o p r = all-make-echo cs a b (host_makes c 
         })
 
 -- The front of what waits goes onto the empty line.
-pub front-echo : (n : ℕ) (a b : Bool) (h k : Host) (y : List Command) → Echoing 0 0 a b h k [] y → Echoing 0 0 a b (record h { phase = record h.phase { waiting = drop n h.phase.waiting } }) k (take n h.phase.waiting) y
+pub front-echo : (n : ℕ) (a b : Bool) (h k : ResetHost) (y : List Command) → Echoing 0 0 a b h k [] y → Echoing 0 0 a b (record h { phase = record h.phase { waiting = drop n h.phase.waiting } }) k (take n h.phase.waiting) y
 front-echo n a b h k y r = record {
   up = r.up;
   up_too = r.up_too;

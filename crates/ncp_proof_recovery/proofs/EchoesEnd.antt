@@ -2,7 +2,7 @@
 use Rattle.std.proofs.Common.{◌≡◌, Bool, true, false, List, refl, sym, ap, ◌∙◌, subst}
 use Rattle.ncp_model.specs.Phase.{up}
 use Rattle.ncp_model.specs.Peers.{Peer}
-use Rattle.ncp_proof_machine.specs.Hosts.{Event, World, swap, run, peer_of}
+use Rattle.ncp_proof_machine.specs.Hosts.{NodeEvent, TwoNodes, nodes_swapped, run, peer_of}
 use Rattle.ncp_host.specs.PeerState.{PeerState}
 use Rattle.ncp_transcript_two.specs.declared.note.Note.{Note}
 use Rattle.ncp_transcript_two.specs.Between.{Hosts}
@@ -10,7 +10,7 @@ use Rattle.ncp_transcript_two.specs.Transcript.{IsTranscript}
 use Rattle.ncp_transcript_two.specs.Seen.{seen}
 use Rattle.ncp_transcript_two.proofs.Headlines.{of-model}
 use Rattle.ncp_proof_headline.proofs.HostsHeld.{Ever, ever, ever-swapped}
-use Rattle.ncp_proof_progress.specs.Idle.{IsSettled}
+use Rattle.ncp_proof_progress.specs.Idle.{IsSettledInModel}
 use Rattle.ncp_proof_progress.proofs.Settled.{ever-idle}
 use Rattle.ncp_proof_progress.proofs.AtRest.{none-going, none-coming}
 use Rattle.ncp_proof_settling.proofs.OfModel.{settled-of}
@@ -19,16 +19,16 @@ use Rattle.ncp_proof_recovery.proofs.Lines.{line}
 use Rattle.ncp_proof_recovery.proofs.EchoUnderway.{echoing-turned}
 use Rattle.ncp_proof_recovery.proofs.EchoSteps.{EchoesLive, ever-echoes, none-awaited}
 
-pub settled-echoes : (es : List Event) → IsSettled (run es) → NoneAwaits (run es)
+pub settled-echoes : (es : List NodeEvent) → IsSettledInModel (run es) → NoneAwaits (run es)
 settled-echoes es s u v =
-    let w : World = run es in
+    let w : TwoNodes = run es in
     let t : Ever w = ever es in
     let i = ever-idle es s in
     let r : EchoesLive w.this w.that = ever-echoes es in
     let q : EchoesLive w.that w.this = echoing-turned w.this.echoes.awaited w.that.echoes.awaited w.this.host w.that.host (line w.this.control) (line w.that.control) r in
     let going = none-going w t i.0 i.1 in
     let coming = none-coming w t i.0 i.1 in
-    (none-awaited w r going coming u v, none-awaited (swap w) q coming going v u)
+    (none-awaited w r going coming u v, none-awaited (nodes_swapped w) q coming going v u)
 
 pub transcript-echoes : (ns : List Note) (w : Hosts) → IsTranscript ns w → EchoesAreAnswered ns w
 transcript-echoes ns w t s u v =

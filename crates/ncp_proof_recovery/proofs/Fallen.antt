@@ -4,19 +4,19 @@ use Rattle.ncp_slot.specs.Slot.{ready_message}
 use Rattle.ncp_model.specs.Act.{answer}
 use Rattle.ncp_model.specs.Ends.{cut_in}
 use Rattle.ncp_proof_resets.specs.Delivery.{Empty}
-use Rattle.ncp_proof_resets.specs.Resets.{Side, This, That}
-use Rattle.ncp_proof_machine.specs.Hosts.{World, Falls, Step, Sends, Sends_text, Wakes, all_empty, run}
+use Rattle.ncp_proof_resets.specs.Resets.{Party, This, That}
+use Rattle.ncp_proof_machine.specs.Hosts.{TwoNodes, Falls, NodeStep, Sends, Sends_text, Wakes, all_empty, run}
 use Rattle.ncp_proof_machine.specs.HostRuns.{by, comes_up}
 use Rattle.ncp_proof_machine.specs.Moving.{put_if_any, as_text}
 use Rattle.ncp_proof_machine.proofs.Standing.{nothing_out}
 use Rattle.ncp_proof_progress.specs.HostsWork.{moved_at, held_texts, one_if_any}
-use Rattle.ncp_proof_progress.specs.Idle.{IsSettled}
+use Rattle.ncp_proof_progress.specs.Idle.{IsSettledInModel}
 use Rattle.ncp_proof_recovery.specs.Recovery.{HaveRecovered}
 
-abbrev again : World
+abbrev again : TwoNodes
 again = run (comes_up This ++ by That Falls ∷ comes_up This)
 
-still : (side : Side) (step : Step) → moved_at side step again ≡ 0
+still : (side : Party) (step : NodeStep) → moved_at side step again ≡ 0
 unfolding held_texts all_empty
 still This (Sends n) = refl
 still That (Sends n) = refl
@@ -27,7 +27,7 @@ still That Wakes = refl
 still This step = refl
 still That step = refl
 
-pub fallen-settled : IsSettled again
+pub fallen-settled : IsSettledInModel again
 fallen-settled side step l = still side step
 
 pub fallen-recovered : HaveRecovered again

@@ -4,15 +4,15 @@ use Rattle.std.proofs.lemmas.Bool.{both_ways}
 use Rattle.ncp_terms.specs.declared.command.Command.{Command}
 use Rattle.ncp_model.specs.Phase.{is_resetting}
 use Rattle.ncp_model.proofs.ResetLists.{rsts}
-use Rattle.ncp_proof_resets.specs.Resets.{Side, This, That, is_up}
-use Rattle.ncp_proof_machine.specs.Hosts.{Node, World, swap, Event, Calls_reset, at, run_from, run, start}
+use Rattle.ncp_proof_resets.specs.Resets.{Party, This, That, is_up}
+use Rattle.ncp_proof_machine.specs.Hosts.{Node, TwoNodes, nodes_swapped, NodeEvent, Calls_reset, node_at, run_from, run, start}
 use Rattle.ncp_proof_machine.specs.HostRuns.{by}
 use Rattle.ncp_proof_headline.proofs.HostsHeld.{Ever, ever, ever-swapped}
-use Rattle.ncp_proof_progress.specs.Idle.{IsSettled, IsIdle}
+use Rattle.ncp_proof_progress.specs.Idle.{IsSettledInModel, IsIdle}
 use Rattle.ncp_proof_progress.specs.Finished.{IsAtRest, IsFinished}
 use Rattle.ncp_proof_progress.proofs.PairsFinished.{ever-finished}
 use Rattle.ncp_proof_progress.proofs.AtRest.{none-going}
-use Rattle.ncp_proof_recovery.specs.Recovery.{IsQuiet, IsFresh, HaveRecovered, host_at}
+use Rattle.ncp_proof_recovery.specs.Recovery.{IsUndisturbed, IsFresh, HaveRecovered, node_of_party}
 use Rattle.ncp_proof_recovery.proofs.Lines.{line}
 use Rattle.ncp_proof_recovery.proofs.Anew.{Asked, Rises}
 use Rattle.ncp_proof_recovery.proofs.Recovering.{Bare, Asking, Begun, Recovers, run-recovers, reset-recovers}
@@ -34,24 +34,24 @@ rises-up n r d =
 fresh : (n : Node) → IsAtRest n → Rises n.host → Bare n → IsFresh n
 fresh n r d b = record { up = rises-up n r d; ends = b.0; echo = b.1 }
 
-recovered : (w : World) → Ever w → IsAtRest w.this → IsAtRest w.that → Asking w.this ⊎ Begun w.this w.that → HaveRecovered w
+recovered : (w : TwoNodes) → Ever w → IsAtRest w.this → IsAtRest w.that → Asking w.this ⊎ Begun w.this w.that → HaveRecovered w
 recovered w t i j (inl p) = absurd (no-asked w.this i.idle (none-going w t i.idle j.idle) p.0)
 recovered w t i j (inr b) = (fresh w.this i b.0.this b.1, fresh w.that j b.0.that b.2)
 
-pub side-recovered : (asker : Side) (w : World) → Ever w → IsAtRest w.this → IsAtRest w.that → Recovers asker w → HaveRecovered w
+pub side-recovered : (asker : Party) (w : TwoNodes) → Ever w → IsAtRest w.this → IsAtRest w.that → Recovers asker w → HaveRecovered w
 side-recovered This w t i j p = recovered w t i j p
-side-recovered That w t i j p = let r = recovered (swap w) (ever-swapped w t) j i p in (r.1, r.0)
+side-recovered That w t i j p = let r = recovered (nodes_swapped w) (ever-swapped w t) j i p in (r.1, r.0)
 
-run-more : (es fs : List Event) (w : World) → run_from (es ++ fs) w ≡ run_from fs (run_from es w)
+run-more : (es fs : List NodeEvent) (w : TwoNodes) → run_from (es ++ fs) w ≡ run_from fs (run_from es w)
 run-more [] fs w = refl
-run-more (e ∷ es) fs w = run-more es fs (at e.side e.step w)
+run-more (e ∷ es) fs w = run-more es fs (node_at e.side e.step w)
 
-pub ever-recovered : (asker : Side) (before quiet : List Event) → is_resetting (host_at asker (run before)).host.phase ≡ false → IsQuiet quiet
+pub ever-recovered : (asker : Party) (before quiet : List NodeEvent) → is_resetting (node_of_party asker (run before)).host.phase ≡ false → IsUndisturbed quiet
     → let w = run (before ++ by asker Calls_reset ∷ quiet) in
-    IsSettled w → HaveRecovered w
+    IsSettledInModel w → HaveRecovered w
 ever-recovered asker before quiet e q s =
-    let es : List Event = before ++ by asker Calls_reset ∷ quiet in
-    let b : World = at asker Calls_reset (run before) in
+    let es : List NodeEvent = before ++ by asker Calls_reset ∷ quiet in
+    let b : TwoNodes = node_at asker Calls_reset (run before) in
     let same : run es ≡ run_from quiet b = run-more before (by asker Calls_reset ∷ quiet) start in
     let one : run (before ++ by asker Calls_reset ∷ []) ≡ b = run-more before (by asker Calls_reset ∷ []) start in
     let r : Recovers asker (run_from quiet b) = run-recovers asker quiet b (subst Ever one (ever (before ++ by asker Calls_reset ∷ []))) q (reset-recovers asker (run before) e) in

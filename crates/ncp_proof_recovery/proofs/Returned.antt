@@ -12,20 +12,19 @@ use Rattle.ncp_model.specs.Peers.{Peer}
 use Rattle.ncp_model.proofs.ResetLists.{rrps}
 use Rattle.ncp_proof_watch.specs.Histories.{Watched}
 use Rattle.ncp_proof_resets.specs.Resets.{is_up}
-use Rattle.ncp_proof_sharing.specs.Sharing.{Shared, Tagged, only, at}
-use Rattle.ncp_proof_machine.specs.Hosts.{Event, World, swap, run, peer_of}
-use Rattle.ncp_transcript_two.specs.World as worlds
+use Rattle.ncp_proof_sharing.specs.Sharing.{Shared, Tagged, only, connection_at}
+use Rattle.ncp_proof_machine.specs.Hosts.{NodeEvent, TwoNodes, nodes_swapped, run, peer_of}
 use Rattle.ncp_transcript_two.specs.declared.note.Note.{Note}
 use Rattle.ncp_transcript_two.specs.Between.{Hosts}
 use Rattle.ncp_transcript_two.specs.Transcript.{IsTranscript}
 use Rattle.ncp_transcript_two.specs.Seen.{seen}
 use Rattle.ncp_transcript_two.proofs.Headlines.{of-model}
-use Rattle.ncp_proof_headline.specs.Tied.{watched}
+use Rattle.ncp_proof_headline.specs.Tied.{watched_at}
 use Rattle.ncp_proof_headline.proofs.Lives.{live, fronts}
 use Rattle.ncp_proof_headline.proofs.Ties.{commands_of, turn_all}
 use Rattle.ncp_proof_headline.proofs.HostsJoined.{lives, up_alive, up_waits}
 use Rattle.ncp_proof_headline.proofs.HostsHeld.{Ever, ever, ever-swapped, x, y}
-use Rattle.ncp_proof_progress.specs.Idle.{IsSettled, IsIdle}
+use Rattle.ncp_proof_progress.specs.Idle.{IsSettledInModel, IsIdle}
 use Rattle.ncp_proof_progress.proofs.Settled.{ever-idle}
 use Rattle.ncp_proof_progress.proofs.AtRest.{none-going, none-coming, sends-live}
 use Rattle.ncp_proof_settling.proofs.OfModel.{settled-of}
@@ -37,7 +36,7 @@ none-tagged : (cs : List Tagged) → commands_of cs ≡ [] → cs ≡ []
 none-tagged [] e = refl
 none-tagged (c ∷ cs) e = absurd (cc e)
 
-module _ (w : World) (t : Ever w) (i : IsIdle w.this) (j : IsIdle w.that) (u : is_up w.this.host ≡ true) (v : is_up w.that.host ≡ true) where
+module _ (w : TwoNodes) (t : Ever w) (i : IsIdle w.this) (j : IsIdle w.that) (u : is_up w.this.host ≡ true) (v : is_up w.that.host ≡ true) where
   abbrev g : Shared
   g = t.holds.joined.ties.g
 
@@ -83,12 +82,12 @@ module _ (w : World) (t : Ever w) (i : IsIdle w.this) (j : IsIdle w.that) (u : i
       answered : f.recall ≡ true → 0 < 0
       answered c = let k = here c gf ge refl in omega (arith, k)
 
-pub settled-returned : (es : List Event) → IsSettled (run es) → AllReturned (run es)
+pub settled-returned : (es : List NodeEvent) → IsSettledInModel (run es) → AllReturned (run es)
 settled-returned es s u v =
-    let w : World = run es in
+    let w : TwoNodes = run es in
     let t : Ever w = ever es in
     let i = ever-idle es s in
-    (returned w t i.0 i.1 u v, returned (swap w) (ever-swapped w t) i.1 i.0 v u)
+    (returned w t i.0 i.1 u v, returned (nodes_swapped w) (ever-swapped w t) i.1 i.0 v u)
 
 as-seen : (p q : Peer) (m n : Ends) (pair : Pair) → p.ends ≡ m → q.ends ≡ n → NoneIsCalledBack (get m pair) (get n (turned pair)) → NoneIsCalledBack (get p.ends pair) (get q.ends (turned pair))
 as-seen p q m n pair a b k =
@@ -98,7 +97,7 @@ as-seen p q m n pair a b k =
 pub transcript-returned : (ns : List Note) (w : Hosts) → IsTranscript ns w → GvbsAreAnswered ns w
 transcript-returned ns w t s u v =
     let m = of-model ns w t in
-    let k : World = run m.0 in
+    let k : TwoNodes = run m.0 in
     let a = ap (λ (p : Peer). up p.phase) m.1.this.peer in
     let b = ap (λ (p : Peer). up p.phase) m.1.that.peer in
     let c = ap (λ (p : Peer). p.ends) m.1.this.peer in

@@ -7,7 +7,7 @@ use Rattle.ncp_model.specs.Pairs.{sends, turned}
 use Rattle.ncp_model.specs.End.{End, is_going}
 use Rattle.ncp_model.specs.Phase.{up}
 use Rattle.ncp_proof_resets.specs.Resets.{is_up}
-use Rattle.ncp_proof_machine.specs.Hosts as hosts
+use Rattle.ncp_proof_machine.specs.Hosts.{TwoNodes, nodes_swapped}
 use Rattle.ncp_transcript_two.specs.World.{World, swap}
 use Rattle.ncp_transcript_two.specs.declared.note.Note.{Note}
 use Rattle.ncp_transcript_two.specs.Between.{Hosts}
@@ -20,12 +20,12 @@ abbrev pub NoneIsCalledBack : Option End → Option End → Type 0
 NoneIsCalledBack s r = (e f : End) → s ≡ Some e → r ≡ Some f → is_going e ≡ false → is_going f ≡ false → f.recall ≡ false
 
 -- of each pair, from this host to that one
-abbrev pub NoneCallsBack : hosts.World → Type 0
+abbrev pub NoneCallsBack : TwoNodes → Type 0
 NoneCallsBack w = (pair : Pair) → sends pair ≡ true → NoneIsCalledBack (get w.this.ends pair) (get w.that.ends (turned pair))
 
 -- either way, between two of the model that are up
-abbrev pub AllReturned : hosts.World → Type 0
-AllReturned w = is_up w.this.host ≡ true → is_up w.that.host ≡ true → NoneCallsBack w × NoneCallsBack (hosts.swap w)
+abbrev pub AllReturned : TwoNodes → Type 0
+AllReturned w = is_up w.this.host ≡ true → is_up w.that.host ≡ true → NoneCallsBack w × NoneCallsBack (nodes_swapped w)
 
 -- and of a transcript
 abbrev pub NoneCallsBackThen : World → Type 0

@@ -2,7 +2,7 @@
 use Rattle.std.specs.Prelude.{◌≡◌, true, false, List}
 use Rattle.ncp_model.specs.Phase.{up}
 use Rattle.ncp_proof_resets.specs.Resets.{is_up}
-use Rattle.ncp_proof_machine.specs.Hosts as hosts
+use Rattle.ncp_proof_machine.specs.Hosts.{TwoNodes}
 use Rattle.ncp_transcript_two.specs.World.{World}
 use Rattle.ncp_transcript_two.specs.declared.note.Note.{Note}
 use Rattle.ncp_transcript_two.specs.Between.{Hosts}
@@ -10,7 +10,7 @@ use Rattle.ncp_transcript_two.specs.Seen.{seen}
 use Rattle.ncp_proof_settling.specs.Settled.{IsSettled}
 
 -- of two hosts of the model
-abbrev pub NoneAwaits : hosts.World → Type 0
+abbrev pub NoneAwaits : TwoNodes → Type 0
 NoneAwaits w = is_up w.this.host ≡ true → is_up w.that.host ≡ true → (w.this.echoes.awaited ≡ false) × (w.that.echoes.awaited ≡ false)
 
 -- of a transcript

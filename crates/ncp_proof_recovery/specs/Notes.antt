@@ -3,26 +3,25 @@ use Rattle.std.specs.Prelude.{◌≡◌, ℕ, Bool, true, false, List, [], ◌�
 use Rattle.ncp_model.specs.Ends.{no_ends}
 use Rattle.ncp_model.specs.Phase.{up}
 use Rattle.ncp_host.specs.PeerState.{PeerState}
-use Rattle.ncp_transcript.specs.declared.call.Call.TheVariants as calls
-use Rattle.ncp_transcript.specs.declared.note.HostNote.TheVariants as of_host
+use Rattle.ncp_transcript.specs.declared.call.Call.{Call}
+use Rattle.ncp_transcript.specs.declared.note.HostNote.{HostNote}
 use Rattle.ncp_transcript_two.specs.World.{World, Asks, Asks_echo, Asks_reset, Told, Called}
 use Rattle.ncp_transcript_two.specs.declared.side.Side.{Side}
 use Rattle.ncp_transcript_two.specs.declared.note.Note.{Note}
-use Rattle.ncp_transcript_two.specs.declared.note.Note.TheVariants as notes
 use Rattle.ncp_transcript_two.specs.Between.{Hosts}
 use Rattle.ncp_transcript_two.specs.Seen.{seen, told_of}
 use Rattle.ncp_proof_settling.specs.Settled.{IsSettled}
 
 -- a call that was done, other than one for what is held; a call that was refused tells nothing
-abbrev pub is_call : Told → Bool
-is_call (Called (Asks pair call) reply) = true
-is_call (Called (Asks_echo byte) reply) = true
-is_call (Called Asks_reset reply) = true
-is_call told = false
+abbrev pub is_done_call : Told → Bool
+is_done_call (Called (Asks pair call) reply) = true
+is_done_call (Called (Asks_echo byte) reply) = true
+is_done_call (Called Asks_reset reply) = true
+is_done_call told = false
 
 abbrev pub tells_call : Option Told → Bool
 tells_call None = false
-tells_call (Some told) = is_call told
+tells_call (Some told) = is_done_call told
 
 -- no user asked for anything but what is held
 abbrev pub NothingIsAsked : List Note → Type 0
@@ -31,7 +30,7 @@ NothingIsAsked (note ∷ rest) = (tells_call (told_of note) ≡ false) × Nothin
 
 -- the note of a reset that was accepted
 abbrev pub reset_done : Side → ℕ → Note
-reset_done side peer = notes.Called side (of_host.Done (calls.Reset peer))
+reset_done side peer = Note.Called side (HostNote.Done (Call.Reset peer))
 
 -- what a host has of its peer: they are up, there are no ends, and no echo is awaited
 pub record IsNew (s : PeerState) : Type 0 where

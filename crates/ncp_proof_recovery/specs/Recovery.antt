@@ -2,12 +2,12 @@
 -- more.
 use Rattle.std.specs.Prelude.{◌≡◌, Bool, true, false, List, [], ◌∷◌}
 use Rattle.ncp_model.specs.Ends.{no_ends}
-use Rattle.ncp_proof_resets.specs.Resets.{Side, This, That, is_up}
-use Rattle.ncp_proof_machine.specs.Hosts.{Node, World, Step, Calls_reset, Calls, Calls_echo, Falls, Event}
+use Rattle.ncp_proof_resets.specs.Resets.{Party, This, That, is_up}
+use Rattle.ncp_proof_machine.specs.Hosts.{Node, TwoNodes, NodeStep, Calls_reset, Calls, Calls_echo, Falls, NodeEvent}
 
 -- what does not come about by messages and answers alone: a call of a user, other than one for what is held; and a host
 -- that goes down of itself, which no host of a transcript does
-abbrev pub disturbs : Step → Bool
+abbrev pub disturbs : NodeStep → Bool
 disturbs Calls_reset = true
 disturbs (Calls pair call) = true
 disturbs (Calls_echo byte) = true
@@ -15,18 +15,18 @@ disturbs Falls = true
 disturbs step = false
 
 -- a schedule that nothing disturbs
-abbrev pub IsQuiet : List Event → Type 0
-IsQuiet [] = Unit {0}
-IsQuiet (e ∷ es) = (disturbs e.step ≡ false) × IsQuiet es
+abbrev pub IsUndisturbed : List NodeEvent → Type 0
+IsUndisturbed [] = Unit {0}
+IsUndisturbed (e ∷ es) = (disturbs e.step ≡ false) × IsUndisturbed es
 
 -- the host of a side
-abbrev pub host_at : Side → World → Node
-host_at This w = w.this
-host_at That w = w.that
+abbrev pub node_of_party : Party → TwoNodes → Node
+node_of_party This w = w.this
+node_of_party That w = w.that
 
 -- a host that is up with its peer, has no ends and awaits no echo: nothing of an earlier life is there
 abbrev pub IsFresh : Node → Type 0
 IsFresh n = record { up : is_up n.host ≡ true; ends : n.ends ≡ no_ends; echo : n.echoes.awaited ≡ false }
 
-abbrev pub HaveRecovered : World → Type 0
+abbrev pub HaveRecovered : TwoNodes → Type 0
 HaveRecovered w = IsFresh w.this × IsFresh w.that

@@ -1,11 +1,11 @@
 //! A GVB is answered.
 ghost use Rattle.std.specs.Prelude.{List};
-ghost use Rattle.ncp_proof_machine.specs.Hosts.{Event, run};
-ghost use Rattle.ncp_proof_progress.specs.Idle.{IsSettled};
+ghost use Rattle.ncp_proof_machine.specs.Hosts.{NodeEvent, run};
+ghost use Rattle.ncp_proof_progress.specs.Idle.{IsSettledInModel};
 ghost use Rattle.ncp_transcript_two.specs.declared.note.Note.{Note};
 ghost use Rattle.ncp_transcript_two.specs.Between.{Hosts};
 ghost use Rattle.ncp_transcript_two.specs.Transcript.{IsTranscript};
-ghost use Rattle.ncp_transcript_many.specs.declared.many_note.ManyNote.{ManyNote as Noted};
+ghost use Rattle.ncp_transcript_many.specs.declared.many_note.ManyNote.{ManyNote};
 ghost use Rattle.ncp_transcript_many.specs.Crowd.{Crowd};
 ghost use Rattle.ncp_transcript_many.specs.ManyTranscript.{IsManyTranscript};
 ghost use Rattle.ncp_transcript_many.specs.Pairs.{ForEachTwo};
@@ -15,7 +15,7 @@ ghost use Rattle.ncp_proof_recovery.specs.CallingBack.{AllReturned, GvbsAreAnswe
 /// of its connection is on its way out. So it is after every schedule of the model's two hosts (`ever`), after every
 /// transcript of two (`two`), and of each two of two to eight (`many`).
 pub fn calls_back_are_answered()
-    ensures ever { (events : List Event) → IsSettled (run events) → AllReturned (run events) }
+    ensures ever { (events : List NodeEvent) → IsSettledInModel (run events) → AllReturned (run events) }
     ensures two { (notes : List Note) (w : Hosts) → IsTranscript notes w → GvbsAreAnswered notes w }
-    ensures many { (notes : List Noted) (m : Crowd) → IsManyTranscript notes m → ForEachTwo GvbsAreAnswered notes m }
+    ensures many { (notes : List ManyNote) (m : Crowd) → IsManyTranscript notes m → ForEachTwo GvbsAreAnswered notes m }
 {}

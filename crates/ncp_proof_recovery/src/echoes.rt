@@ -1,12 +1,12 @@
 //! An echo is answered.
 ghost use Rattle.std.specs.Prelude.{◌≡◌, true, List};
-ghost use Rattle.ncp_proof_machine.specs.Hosts.{Event, run};
+ghost use Rattle.ncp_proof_machine.specs.Hosts.{NodeEvent, run};
 ghost use Rattle.ncp_proof_machine.specs.HostRuns.{echo_asks};
-ghost use Rattle.ncp_proof_progress.specs.Idle.{IsSettled};
+ghost use Rattle.ncp_proof_progress.specs.Idle.{IsSettledInModel};
 ghost use Rattle.ncp_transcript_two.specs.declared.note.Note.{Note};
 ghost use Rattle.ncp_transcript_two.specs.Between.{Hosts};
 ghost use Rattle.ncp_transcript_two.specs.Transcript.{IsTranscript};
-ghost use Rattle.ncp_transcript_many.specs.declared.many_note.ManyNote.{ManyNote as Noted};
+ghost use Rattle.ncp_transcript_many.specs.declared.many_note.ManyNote.{ManyNote};
 ghost use Rattle.ncp_transcript_many.specs.Crowd.{Crowd};
 ghost use Rattle.ncp_transcript_many.specs.ManyTranscript.{IsManyTranscript};
 ghost use Rattle.ncp_transcript_many.specs.Pairs.{ForEachTwo};
@@ -16,8 +16,8 @@ ghost use Rattle.ncp_proof_recovery.specs.Echoes.{NoneAwaits, EchoesAreAnswered}
 /// schedule of the model's two hosts (`ever`), after every transcript of two (`two`), and of each two of two to eight
 /// (`many`). Where an ECO has just been made one is awaited (`asked`).
 pub fn echoes_are_answered()
-    ensures ever { (events : List Event) → IsSettled (run events) → NoneAwaits (run events) }
+    ensures ever { (events : List NodeEvent) → IsSettledInModel (run events) → NoneAwaits (run events) }
     ensures asked { NoneAwaits (run echo_asks) → ⊥ }
     ensures two { (notes : List Note) (w : Hosts) → IsTranscript notes w → EchoesAreAnswered notes w }
-    ensures many { (notes : List Noted) (m : Crowd) → IsManyTranscript notes m → ForEachTwo EchoesAreAnswered notes m }
+    ensures many { (notes : List ManyNote) (m : Crowd) → IsManyTranscript notes m → ForEachTwo EchoesAreAnswered notes m }
 {}

@@ -3,7 +3,7 @@ ghost use Rattle.std.specs.Prelude.{List};
 ghost use Rattle.ncp_transcript_two.specs.declared.note.Note.{Note};
 ghost use Rattle.ncp_transcript_two.specs.Between.{Hosts};
 ghost use Rattle.ncp_transcript_two.specs.Transcript.{IsTranscript};
-ghost use Rattle.ncp_transcript_many.specs.declared.many_note.ManyNote.{ManyNote as Noted};
+ghost use Rattle.ncp_transcript_many.specs.declared.many_note.ManyNote.{ManyNote};
 ghost use Rattle.ncp_transcript_many.specs.Crowd.{Crowd};
 ghost use Rattle.ncp_transcript_many.specs.ManyTranscript.{IsManyTranscript};
 ghost use Rattle.ncp_transcript_many.specs.Pairs.{ForEachTwo};
@@ -15,5 +15,5 @@ ghost use Rattle.ncp_proof_recovery.specs.Notes.{ResetRecovers};
 /// hosts it is so of each two (`many`), whatever happens at and between the others.
 pub fn resets_recover()
     ensures two { (notes : List Note) (w : Hosts) → IsTranscript notes w → ResetRecovers notes w }
-    ensures many { (notes : List Noted) (m : Crowd) → IsManyTranscript notes m → ForEachTwo ResetRecovers notes m }
+    ensures many { (notes : List ManyNote) (m : Crowd) → IsManyTranscript notes m → ForEachTwo ResetRecovers notes m }
 {}

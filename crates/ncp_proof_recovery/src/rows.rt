@@ -14,15 +14,15 @@ ghost use Rattle.ncp_transcript_two.specs.declared.side.Side.{Side};
 ghost use Rattle.ncp_transcript_two.specs.declared.note.Note.{Note};
 ghost use Rattle.ncp_proof_recovery.specs.CallingBack.{NoneIsCalledBack};
 ghost use Rattle.ncp_proof_recovery.specs.Notes.{NothingIsAsked, reset_done, IsNew};
-ghost use Rattle.ncp_proof_recovery.specs.Recovery.{IsQuiet, IsFresh};
+ghost use Rattle.ncp_proof_recovery.specs.Recovery.{IsUndisturbed, IsFresh};
 
 /// Messages that go out and come, and what is held and woken, come about without a user; a call does not, nor does a
 /// reset, nor a host that goes down of itself.
 pub fn what_is_quiet()
-    ensures moves { IsQuiet (by This (Sends 0) ∷ by That Hears ∷ by This Wakes ∷ []) }
-    ensures call { IsQuiet (by That (Calls outward Interrupt) ∷ []) → ⊥ }
-    ensures reset { IsQuiet (comes_up This) → ⊥ }
-    ensures falls { IsQuiet (by This (Sends 0) ∷ by That Falls ∷ []) → ⊥ }
+    ensures moves { IsUndisturbed (by This (Sends 0) ∷ by That Hears ∷ by This Wakes ∷ []) }
+    ensures call { IsUndisturbed (by That (Calls outward Interrupt) ∷ []) → ⊥ }
+    ensures reset { IsUndisturbed (comes_up This) → ⊥ }
+    ensures falls { IsUndisturbed (by This (Sends 0) ∷ by That Falls ∷ []) → ⊥ }
 {}
 
 /// A note of a call that was done tells that something was asked for; one that was refused, one for what is held, and what the

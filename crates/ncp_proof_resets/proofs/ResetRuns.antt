@@ -5,14 +5,14 @@ use Rattle.std.proofs.Common.{◌≡◌, ℕ, ◌+◌, Bool, true, false, if◌t
 use Rattle.std.proofs.lemmas.List.{take-append-drop}
 use Rattle.ncp_terms.specs.declared.command.Command.{Command}
 use Rattle.ncp_terms.specs.declared.command.Command.TheVariants.{Rst, Rrp}
-use Rattle.ncp_model.specs.Phase.{Phase, up, makes, makes_all, hears, Reaction}
-use Rattle.ncp_proof_resets.specs.Resets.{Host, is_up, host_resets, host_settles, host_falls, host_makes, host_makes_all, host_hears_other, host_hears, on_line, underway, World, swap, Step, Resets, Makes, Falls, Settles, Sends, Hears, Loses, Dies, Is_answered, Wakes, sends, comes, steps, Side, This, That, Event, at, run_from, run, start, Agrees, NothingFollows, Silent}
-use Rattle.ncp_proof_resets.specs.Delivery.{Slot, Empty, Ready, Travelling, Held, Subnet, Free, Accepted, Delivered, Lost, Dead, undelivered, answered, woken}
+use Rattle.ncp_model.specs.Phase.{Phase, up, phase_makes, makes_all, phase_hears, Reaction}
+use Rattle.ncp_proof_resets.specs.Resets.{ResetHost, is_up, host_resets, host_settles, host_falls, host_makes, host_makes_all, host_hears_other, host_hears, on_line, commands_underway, ResetWorld, resets_swapped, ResetStep, Resets, Makes, Falls, Settles, Sends, Hears, Loses, Dies, Is_answered, Wakes, reset_sends, reset_comes, reset_steps, Party, This, That, ResetEvent, reset_at, reset_run_from, reset_run, reset_start, Agrees, NothingFollows, Silent}
+use Rattle.ncp_proof_resets.specs.Delivery.{Slot, Empty, Ready, Travelling, Held, MessageTransit, Free, Accepted, Delivered, Lost, Dead, undelivered, link_answered, woken}
 use Rattle.ncp_model.proofs.ResetLists.{others, purged, others-drop, others-append, purged_none, arrives_on, after_rst}
 use Rattle.ncp_proof_resets.proofs.ResetKept.{Way, Kept, turned, falling, resetting, making, hearing_all, settling}
 
 -- the slot travels while the subnet holds its message
-abbrev pub Tied : Slot (List Command) → Subnet (List Command) → Type 0
+abbrev pub Tied : Slot (List Command) → MessageTransit (List Command) → Type 0
 Tied Empty Free = Unit {0}
 Tied (Ready m) Free = Unit {0}
 Tied (Held m) Free = Unit {0}
@@ -23,31 +23,31 @@ Tied (Travelling m) Dead = Unit {0}
 Tied slot subnet = ⊥
 
 -- of a world in parts: this host, that host, and the slot and the subnet of the links that go and come
-abbrev pub HoldsOf : Host → Host → Slot (List Command) → Subnet (List Command) → Slot (List Command) → Subnet (List Command) → Type 0
+abbrev pub HoldsOf : ResetHost → ResetHost → Slot (List Command) → MessageTransit (List Command) → Slot (List Command) → MessageTransit (List Command) → Type 0
 HoldsOf h k s t s' t' = record { going : Tied s t; coming : Tied s' t'; kept : Kept h k (on_line s t) (on_line s' t') }
 
-abbrev pub Holds : World → Type 0
+abbrev pub Holds : ResetWorld → Type 0
 Holds w = HoldsOf w.this w.that w.going.slot w.going.subnet w.coming.slot w.coming.subnet
 
-pub swapped : (w : World) → Holds w → Holds (swap w)
+pub swapped : (w : ResetWorld) → Holds w → Holds (resets_swapped w)
 swapped w p =
     record { going = p.coming; coming = p.going; kept = turned w.this w.that (on_line w.going.slot w.going.subnet) (on_line w.coming.slot w.coming.subnet) p.kept }
 
 -- the front of what waits goes onto the empty line
-pub fronting : (h k : Host) (y : List Command) (n : ℕ) → Kept h k [] y → Kept (record h { phase = record h.phase { waiting = drop n h.phase.waiting } }) k (take n h.phase.waiting) y
+pub fronting : (h k : ResetHost) (y : List Command) (n : ℕ) → Kept h k [] y → Kept (record h { phase = record h.phase { waiting = drop n h.phase.waiting } }) k (take n h.phase.waiting) y
 fronting h k y n p = grind (arith, take-append-drop, others-drop)
 
-abbrev x : World → List Command
+abbrev x : ResetWorld → List Command
 x w = on_line w.going.slot w.going.subnet
 
-abbrev y : World → List Command
+abbrev y : ResetWorld → List Command
 y w = on_line w.coming.slot w.coming.subnet
 
 -- a step of this host alone
-at_host : (w : World) (h : Host) → Holds w → Kept h w.that (on_line w.going.slot w.going.subnet) (on_line w.coming.slot w.coming.subnet) → Holds (record w { this = h })
+at_host : (w : ResetWorld) (h : ResetHost) → Holds w → Kept h w.that (on_line w.going.slot w.going.subnet) (on_line w.coming.slot w.coming.subnet) → Holds (record w { this = h })
 at_host w h p q = record { going = p.going; coming = p.coming; kept = q }
 
-sending : (h k : Host) (s : Slot (List Command)) (t : Subnet (List Command)) (s' : Slot (List Command)) (t' : Subnet (List Command)) (q : List Command) (n : ℕ) → HoldsOf h k s t s' t' → Holds (sends s q n (record { this = h; that = k; going = record { slot = s; subnet = t }; coming = record { slot = s'; subnet = t' } }))
+sending : (h k : ResetHost) (s : Slot (List Command)) (t : MessageTransit (List Command)) (s' : Slot (List Command)) (t' : MessageTransit (List Command)) (q : List Command) (n : ℕ) → HoldsOf h k s t s' t' → Holds (reset_sends s q n (record { this = h; that = k; going = record { slot = s; subnet = t }; coming = record { slot = s'; subnet = t' } }))
 sending h k (Ready m) Free s' t' q n p = record { going = refl; coming = p.coming; kept = p.kept }
 sending h k (Travelling m) t s' t' q n p = p
 sending h k (Held m) t s' t' q n p = p
@@ -55,7 +55,7 @@ sending h k Empty t s' t' [] n p = p
 sending h k Empty Free s' t' (c ∷ cs) n p = record { going = refl; coming = p.coming; kept = fronting h k (on_line s' t') (n + 1) p.kept }
 sending h k s t s' t' q n p = absurd p.going
 
-coming : (h k : Host) (s : Slot (List Command)) (t : Subnet (List Command)) (s' : Slot (List Command)) (t' : Subnet (List Command)) (rs : List Reaction) → HoldsOf h k s t s' t' → Holds (comes t' rs (record { this = h; that = k; going = record { slot = s; subnet = t }; coming = record { slot = s'; subnet = t' } }))
+coming : (h k : ResetHost) (s : Slot (List Command)) (t : MessageTransit (List Command)) (s' : Slot (List Command)) (t' : MessageTransit (List Command)) (rs : List Reaction) → HoldsOf h k s t s' t' → Holds (reset_comes t' rs (record { this = h; that = k; going = record { slot = s; subnet = t }; coming = record { slot = s'; subnet = t' } }))
 coming h k s t (Travelling m) (Accepted c) rs p = record { going = p.going; coming = tt; kept = hearing_all h k (on_line s t) c rs p.kept }
 coming h k s t Empty (Accepted c) rs p = absurd p.coming
 coming h k s t (Ready m) (Accepted c) rs p = absurd p.coming
@@ -65,7 +65,7 @@ coming h k s t s' Delivered rs p = p
 coming h k s t s' Lost rs p = p
 coming h k s t s' Dead rs p = p
 
-losing : (h k : Host) (s : Slot (List Command)) (t : Subnet (List Command)) (s' : Slot (List Command)) (t' : Subnet (List Command)) → HoldsOf h k s t s' t' → HoldsOf h k s (undelivered Lost t) s' t'
+losing : (h k : ResetHost) (s : Slot (List Command)) (t : MessageTransit (List Command)) (s' : Slot (List Command)) (t' : MessageTransit (List Command)) → HoldsOf h k s t s' t' → HoldsOf h k s (undelivered Lost t) s' t'
 losing h k (Travelling m) (Accepted c) s' t' p = record { going = tt; coming = p.coming; kept = subst (λ x. Kept h k x (on_line s' t')) p.going p.kept }
 losing h k Empty (Accepted c) s' t' p = absurd p.going
 losing h k (Ready m) (Accepted c) s' t' p = absurd p.going
@@ -75,7 +75,7 @@ losing h k s Delivered s' t' p = p
 losing h k s Lost s' t' p = p
 losing h k s Dead s' t' p = p
 
-dying : (h k : Host) (s : Slot (List Command)) (t : Subnet (List Command)) (s' : Slot (List Command)) (t' : Subnet (List Command)) → HoldsOf h k s t s' t' → HoldsOf h k s (undelivered Dead t) s' t'
+dying : (h k : ResetHost) (s : Slot (List Command)) (t : MessageTransit (List Command)) (s' : Slot (List Command)) (t' : MessageTransit (List Command)) → HoldsOf h k s t s' t' → HoldsOf h k s (undelivered Dead t) s' t'
 dying h k (Travelling m) (Accepted c) s' t' p = record { going = tt; coming = p.coming; kept = subst (λ x. Kept h k x (on_line s' t')) p.going p.kept }
 dying h k Empty (Accepted c) s' t' p = absurd p.going
 dying h k (Ready m) (Accepted c) s' t' p = absurd p.going
@@ -85,7 +85,7 @@ dying h k s Delivered s' t' p = p
 dying h k s Lost s' t' p = p
 dying h k s Dead s' t' p = p
 
-waking : (h k : Host) (s : Slot (List Command)) (t : Subnet (List Command)) (s' : Slot (List Command)) (t' : Subnet (List Command)) → HoldsOf h k s t s' t' → HoldsOf h k (woken s) t s' t'
+waking : (h k : ResetHost) (s : Slot (List Command)) (t : MessageTransit (List Command)) (s' : Slot (List Command)) (t' : MessageTransit (List Command)) → HoldsOf h k s t s' t' → HoldsOf h k (woken s) t s' t'
 waking h k (Held m) Free s' t' p = record { going = tt; coming = p.coming; kept = p.kept }
 waking h k (Held m) (Accepted c) s' t' p = absurd p.going
 waking h k (Held m) Delivered s' t' p = absurd p.going
@@ -95,13 +95,13 @@ waking h k Empty t s' t' p = p
 waking h k (Ready m) t s' t' p = p
 waking h k (Travelling m) t s' t' p = p
 
-answering : (h k : Host) (s : Slot (List Command)) (t : Subnet (List Command)) (s' : Slot (List Command)) (t' : Subnet (List Command)) → HoldsOf h k s t s' t' → HoldsOf h k (answered s t).slot (answered s t).subnet s' t'
+answering : (h k : ResetHost) (s : Slot (List Command)) (t : MessageTransit (List Command)) (s' : Slot (List Command)) (t' : MessageTransit (List Command)) → HoldsOf h k s t s' t' → HoldsOf h k (link_answered s t).slot (link_answered s t).subnet s' t'
 answering h k (Travelling m) Delivered s' t' p = record { going = tt; coming = p.coming; kept = p.kept }
 answering h k (Travelling m) Lost s' t' p = record { going = tt; coming = p.coming; kept = p.kept }
 answering h k (Travelling m) Dead s' t' p = record { going = tt; coming = p.coming; kept = p.kept }
 answering h k s t s' t' p = p
 
-stepping : (step : Step) (w : World) → Holds w → Holds (steps step w)
+stepping : (step : ResetStep) (w : ResetWorld) → Holds w → Holds (reset_steps step w)
 stepping (Resets quiet) w p = at_host w (host_resets quiet w.this) p (resetting w.this w.that (x w) (y w) quiet p.kept)
 stepping (Makes c) w p = at_host w (host_makes c w.this) p (making w.this w.that (x w) (y w) c p.kept)
 stepping Falls w p = at_host w (host_falls w.this) p (falling w.this w.that (x w) (y w) p.kept)
@@ -113,32 +113,32 @@ stepping Dies w p = dying w.this w.that w.going.slot w.going.subnet w.coming.slo
 stepping Wakes w p = waking w.this w.that w.going.slot w.going.subnet w.coming.slot w.coming.subnet p
 stepping Is_answered w p = answering w.this w.that w.going.slot w.going.subnet w.coming.slot w.coming.subnet p
 
-happening : (side : Side) (step : Step) (w : World) → Holds w → Holds (at side step w)
+happening : (side : Party) (step : ResetStep) (w : ResetWorld) → Holds w → Holds (reset_at side step w)
 happening This step w p = stepping step w p
-happening That step w p = swapped (steps step (swap w)) (stepping step (swap w) (swapped w p))
+happening That step w p = swapped (reset_steps step (resets_swapped w)) (stepping step (resets_swapped w) (swapped w p))
 
-running : (es : List Event) (w : World) → Holds w → Holds (run_from es w)
+running : (es : List ResetEvent) (w : ResetWorld) → Holds w → Holds (reset_run_from es w)
 running [] w p = p
-running (e ∷ es) w p = running es (at e.side e.step w) (happening e.side e.step w p)
+running (e ∷ es) w p = running es (reset_at e.side e.step w) (happening e.side e.step w p)
 
-pub starting : Holds start
+pub starting : Holds reset_start
 starting = grind arith
 
-pub holding : (es : List Event) → Holds (run es)
-holding es = running es start starting
+pub holding : (es : List ResetEvent) → Holds (reset_run es)
+holding es = running es reset_start starting
 
-pub agreeing : (h k : Host) (u v : List Command) → is_up h ≡ true → is_up k ≡ true → Way h k u v → Way k h v u → (purged u ≡ []) × (k.came ++ others u ≡ h.made)
+pub agreeing : (h k : ResetHost) (u v : List Command) → is_up h ≡ true → is_up k ≡ true → Way h k u v → Way k h v u → (purged u ≡ []) × (k.came ++ others u ≡ h.made)
 agreeing h k u v e f p q = grind (arith, purged_none, arrives_on)
 
-pub agrees : (es : List Event) → is_up (run es).this ≡ true → is_up (run es).that ≡ true → Agrees (run es).this (run es).going (run es).that
+pub agrees : (es : List ResetEvent) → is_up (reset_run es).this ≡ true → is_up (reset_run es).that ≡ true → Agrees (reset_run es).this (reset_run es).going (reset_run es).that
 agrees es e f =
     let p = holding es in
-    agreeing (run es).this (run es).that (underway (run es).this (run es).going) (underway (run es).that (run es).coming) e f p.kept.there p.kept.here
+    agreeing (reset_run es).this (reset_run es).that (commands_underway (reset_run es).this (reset_run es).going) (commands_underway (reset_run es).that (reset_run es).coming) e f p.kept.there p.kept.here
 
-pub agrees_back : (es : List Event) → is_up (run es).this ≡ true → is_up (run es).that ≡ true → Agrees (run es).that (run es).coming (run es).this
+pub agrees_back : (es : List ResetEvent) → is_up (reset_run es).this ≡ true → is_up (reset_run es).that ≡ true → Agrees (reset_run es).that (reset_run es).coming (reset_run es).this
 agrees_back es e f =
     let p = holding es in
-    agreeing (run es).that (run es).this (underway (run es).that (run es).coming) (underway (run es).this (run es).going) f e p.kept.here p.kept.there
+    agreeing (reset_run es).that (reset_run es).this (commands_underway (reset_run es).that (reset_run es).coming) (commands_underway (reset_run es).this (reset_run es).going) f e p.kept.here p.kept.there
 
 -- nothing but an RRP stands behind an RST
 
@@ -154,18 +154,18 @@ behind_rst (c ∷ before) after u s e =
     nil_back [] l e = e
     nil_back (x ∷ c) l e = cc
 
-pub follows : (es : List Event) → NothingFollows (run es).this (run es).going
-follows es before after s = behind_rst before after (underway (run es).this (run es).going) s (holding es).kept.there.still
+pub follows : (es : List ResetEvent) → NothingFollows (reset_run es).this (reset_run es).going
+follows es before after s = behind_rst before after (commands_underway (reset_run es).this (reset_run es).going) s (holding es).kept.there.still
 
-pub follows_back : (es : List Event) → NothingFollows (run es).that (run es).coming
-follows_back es before after s = behind_rst before after (underway (run es).that (run es).coming) s (holding es).kept.here.still
+pub follows_back : (es : List ResetEvent) → NothingFollows (reset_run es).that (reset_run es).coming
+follows_back es before after s = behind_rst before after (commands_underway (reset_run es).that (reset_run es).coming) s (holding es).kept.here.still
 
 -- a host that is not up has made nothing and heard nothing, and lets no other wait
 
-pub silent : (es : List Event) → is_up (run es).this ≡ false → Silent (run es).this
+pub silent : (es : List ResetEvent) → is_up (reset_run es).this ≡ false → Silent (reset_run es).this
 silent es e = let p = holding es in (p.kept.this.made e, p.kept.this.came e, p.kept.this.waiting e)
 
-pub silent_back : (es : List Event) → is_up (run es).that ≡ false → Silent (run es).that
+pub silent_back : (es : List ResetEvent) → is_up (reset_run es).that ≡ false → Silent (reset_run es).that
 silent_back es e = let p = holding es in (p.kept.that.made e, p.kept.that.came e, p.kept.that.waiting e)
 
 -- the histories only watch
@@ -174,23 +174,23 @@ through_if : {A B : Type 0} → (f : A → B) (b : Bool) (x y : A) (x' y' : B) �
 through_if f true x y x' y' p q = p
 through_if f false x y x' y' p q = q
 
-pub phase-makes : (c : Command) (h : Host) → (host_makes c h).phase ≡ makes c h.phase
+pub phase-makes : (c : Command) (h : ResetHost) → (host_makes c h).phase ≡ phase_makes c h.phase
 phase-makes c h = grind arith
 
-pub phase-makes_all : (cs : List Command) (h : Host) → (host_makes_all cs h).phase ≡ makes_all cs h.phase
+pub phase-makes_all : (cs : List Command) (h : ResetHost) → (host_makes_all cs h).phase ≡ makes_all cs h.phase
 phase-makes_all [] h = refl
 phase-makes_all (c ∷ cs) h = phase-makes_all cs (host_makes c h) ∙ ap (makes_all cs) (phase-makes c h)
 
-abbrev phase_of : Host → Phase
+abbrev phase_of : ResetHost → Phase
 phase_of h = h.phase
 
-pub phase-hears_other : (c : Command) (r : Reaction) (h : Host) → (host_hears_other c r h).phase ≡ (if up h.phase then (if r.full then (host_falls h).phase else makes_all r.replies h.phase) else h.phase)
+pub phase-hears_other : (c : Command) (r : Reaction) (h : ResetHost) → (host_hears_other c r h).phase ≡ (if up h.phase then (if r.full then (host_falls h).phase else makes_all r.replies h.phase) else h.phase)
 phase-hears_other c r h =
-    let m : Host = record h { came = h.came ++ c ∷ [] } in
+    let m : ResetHost = record h { came = h.came ++ c ∷ [] } in
     through_if phase_of (up h.phase) (if r.full then host_falls h else host_makes_all r.replies m) h (if r.full then (host_falls h).phase else makes_all r.replies h.phase) h.phase
     (through_if phase_of r.full (host_falls h) (host_makes_all r.replies m) (host_falls h).phase (makes_all r.replies h.phase) refl (phase-makes_all r.replies m)) refl
 
-pub phase-hears : (c : Command) (r : Reaction) (h : Host) → (host_hears c r h).phase ≡ hears c r h.phase
+pub phase-hears : (c : Command) (r : Reaction) (h : ResetHost) → (host_hears c r h).phase ≡ phase_hears c r h.phase
 phase-hears Rst r h = refl
 phase-hears Rrp r h = refl
 phase-hears c r h = phase-hears_other c r h

@@ -3,23 +3,22 @@
 -- is the subnet's.
 use Rattle.std.specs.Prelude.{Option, None, Some}
 use Rattle.ncp_terms.specs.declared.answer.Answer.{Answer}
-use Rattle.ncp_terms.specs.declared.answer.Answer.TheVariants as answers
 pub use Rattle.ncp_slot.specs.declared.slot.Slot.{Slot}
 pub use Rattle.ncp_slot.specs.declared.slot.Slot.TheVariants.{Empty, Ready, Travelling, Held}
-use Rattle.ncp_slot.specs.Slot as slots
+use Rattle.ncp_slot.specs.Slot.{answered, handed_out}
 pub use Rattle.ncp_slot.specs.Slot.{woken}
 
 -- what the subnet holds of a message
-pub data Subnet (M : Type 0) : Type 0 where
-  Free : Subnet M
-  Accepted : (m : M) → Subnet M
-  Delivered : Subnet M
-  Lost : Subnet M
-  Dead : Subnet M
+pub data MessageTransit (M : Type 0) : Type 0 where
+  Free : MessageTransit M
+  Accepted : (m : M) → MessageTransit M
+  Delivered : MessageTransit M
+  Lost : MessageTransit M
+  Dead : MessageTransit M
 
 pub record Link (M : Type 0) : Type 0 where
   pub slot : Slot M
-  pub subnet : Subnet M
+  pub subnet : MessageTransit M
 
 -- nothing is on the link
 abbrev pub idle : {M : Type 0} → Link M
@@ -27,35 +26,35 @@ idle = record { slot = Empty; subnet = Free }
 
 -- a message that is ready goes out, and the subnet accepts it
 abbrev pub out : {M : Type 0} → M → Link M
-out m = record { slot = slots.handed_out (Ready m); subnet = Accepted m }
+out m = record { slot = handed_out (Ready m); subnet = Accepted m }
 
 -- a message that has not come is lost, or finds its destination dead
-abbrev pub undelivered : {M : Type 0} → Subnet M → Subnet M → Subnet M
+abbrev pub undelivered : {M : Type 0} → MessageTransit M → MessageTransit M → MessageTransit M
 undelivered as_what (Accepted m) = as_what
 undelivered as_what subnet = subnet
 
 -- what the subnet answers: nothing while it has the message
-abbrev pub answer_of : {M : Type 0} → Subnet M → Option Answer
-answer_of Delivered = Some answers.Rfnm
-answer_of Lost = Some answers.Incomplete
-answer_of Dead = Some answers.Dead
-answer_of subnet = None
+abbrev pub answer_of_transit : {M : Type 0} → MessageTransit M → Option Answer
+answer_of_transit Delivered = Some Answer.Rfnm
+answer_of_transit Lost = Some Answer.Incomplete
+answer_of_transit Dead = Some Answer.Dead
+answer_of_transit subnet = None
 
 -- an answer comes to the host whose message went out, and the subnet has done with it
-abbrev pub told : {M : Type 0} → Slot M → Option Answer → Subnet M → Link M
-told (Travelling m) (Some answer) subnet = record { slot = slots.answered answer (Travelling m); subnet = Free }
-told slot answer subnet = record { slot = slot; subnet = subnet }
+abbrev pub answer_arrives : {M : Type 0} → Slot M → Option Answer → MessageTransit M → Link M
+answer_arrives (Travelling m) (Some answer) subnet = record { slot = answered answer (Travelling m); subnet = Free }
+answer_arrives slot answer subnet = record { slot = slot; subnet = subnet }
 
-abbrev pub answered : {M : Type 0} → Slot M → Subnet M → Link M
-answered slot subnet = told slot (answer_of subnet) subnet
+abbrev pub link_answered : {M : Type 0} → Slot M → MessageTransit M → Link M
+link_answered slot subnet = answer_arrives slot (answer_of_transit subnet) subnet
 
 -- the message of a link that has not come, wherever it is
-abbrev pub not_come : {M : Type 0} → Slot M → Subnet M → Option M
-not_come Empty subnet = None
-not_come (Ready m) subnet = Some m
-not_come (Held m) subnet = Some m
-not_come (Travelling m) Free = None
-not_come (Travelling m) (Accepted c) = Some c
-not_come (Travelling m) Delivered = None
-not_come (Travelling m) Lost = Some m
-not_come (Travelling m) Dead = Some m
+abbrev pub message_not_come : {M : Type 0} → Slot M → MessageTransit M → Option M
+message_not_come Empty subnet = None
+message_not_come (Ready m) subnet = Some m
+message_not_come (Held m) subnet = Some m
+message_not_come (Travelling m) Free = None
+message_not_come (Travelling m) (Accepted c) = Some c
+message_not_come (Travelling m) Delivered = None
+message_not_come (Travelling m) Lost = Some m
+message_not_come (Travelling m) Dead = Some m

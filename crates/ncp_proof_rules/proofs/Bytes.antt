@@ -6,8 +6,7 @@ use Rattle.ncp_model.specs.declared.limits.TheConstants.{MAX_TEXT}
 use Rattle.ncp_model.specs.End.{End, or_new}
 use Rattle.ncp_model.specs.Calls.{bits_to_take}
 use Rattle.ncp_model.specs.Texts.{bytes_to_send}
-use Rattle.ncp_model.specs.Happenings.{happens}
-use Rattle.ncp_model.specs.Happenings as all
+use Rattle.ncp_model.specs.Happenings.{happens, Happening, Outcome}
 
 -- below two numbers is below the lower one
 below : (a b c : ℕ) → a ≤ b → a ≤ c → a ≤ min b c
@@ -31,7 +30,7 @@ whole-taken bytes e s =
     let many : ℕ = min (length e.stored / e.size) (MAX_TEXT / e.size) in
     (min bytes many, refl, omega arith)
 
-pub front-sent : (pair : Pair) (before : Option End) (of_size : ℕ) (text : List Bool) → (happens pair all.Text_goes_out before).outcome ≡ all.Sent of_size text
+pub front-sent : (pair : Pair) (before : Option End) (of_size : ℕ) (text : List Bool) → (happens pair Happening.Text_goes_out before).outcome ≡ Outcome.Sent of_size text
     → (of_size ≡ (or_new before).size) × (text ≡ take (bytes_to_send (or_new before) * (or_new before).size) (or_new before).stored)
 front-sent pair None n text h = absurd (cc h)
 front-sent pair (Some e) n text h = (grind (arith, h), grind (arith, h))

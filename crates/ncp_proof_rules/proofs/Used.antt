@@ -9,21 +9,20 @@ use Rattle.ncp_model.specs.declared.limits.TheConstants.{GIVE_BACK_PARTS}
 use Rattle.ncp_model.specs.Amounts.{back}
 use Rattle.ncp_model.specs.End.{End}
 use Rattle.ncp_model.specs.Texts.{bytes_to_send}
-use Rattle.ncp_model.specs.Happenings.{happens}
-use Rattle.ncp_model.specs.Happenings as all
+use Rattle.ncp_model.specs.Happenings.{happens, Happening, Outcome}
 
 pub back-at_most : (counter fraction : ℕ) → back counter fraction ≤ counter
 unfolding back
 back-at_most counter fraction = min-le_left counter (div_ceil (counter * fraction) GIVE_BACK_PARTS)
 
-pub gvb-takes : (pair : Pair) (on of_messages of_bits : ℕ) (x e : End) → (happens pair (all.Gvb_comes on of_messages of_bits) (Some x)).outcome ≡ all.Accepted → (happens pair (all.Gvb_comes on of_messages of_bits) (Some x)).after ≡ Some e
-    → (e.messages + back x.messages of_messages ≡ x.messages) × (e.bits + back x.bits of_bits ≡ x.bits) × ((happens pair (all.Gvb_comes on of_messages of_bits) (Some x)).made ≡ Ret on (back x.messages of_messages) (back x.bits of_bits) ∷ [])
+pub gvb-takes : (pair : Pair) (on of_messages of_bits : ℕ) (x e : End) → (happens pair (Happening.Gvb_comes on of_messages of_bits) (Some x)).outcome ≡ Outcome.Accepted → (happens pair (Happening.Gvb_comes on of_messages of_bits) (Some x)).after ≡ Some e
+    → (e.messages + back x.messages of_messages ≡ x.messages) × (e.bits + back x.bits of_bits ≡ x.bits) × ((happens pair (Happening.Gvb_comes on of_messages of_bits) (Some x)).made ≡ Ret on (back x.messages of_messages) (back x.bits of_bits) ∷ [])
 gvb-takes pair on m b x e o h =
     let f : back x.messages m ≤ x.messages = back-at_most x.messages m in
     let g : back x.bits b ≤ x.bits = back-at_most x.bits b in
     (grind (arith, o, h, f), grind (arith, o, h, g), grind (arith, o))
 
-pub cut-takes : (pair : Pair) (of_size : ℕ) (text : List Bool) (x e : End) → (happens pair all.Text_goes_out (Some x)).outcome ≡ all.Sent of_size text → (happens pair all.Text_goes_out (Some x)).after ≡ Some e
+pub cut-takes : (pair : Pair) (of_size : ℕ) (text : List Bool) (x e : End) → (happens pair Happening.Text_goes_out (Some x)).outcome ≡ Outcome.Sent of_size text → (happens pair Happening.Text_goes_out (Some x)).after ≡ Some e
     → (e.messages + 1 ≡ x.messages) × (e.bits + length text ≡ x.bits) × (text ++ e.stored ≡ x.stored) × (e.busy ≡ true)
 cut-takes pair n text x e o h =
     let w : bytes_to_send x * x.size ≤ length x.stored = grind arith in

@@ -6,14 +6,14 @@ use Rattle.ncp_model.specs.Act.{Becomes}
 use Rattle.ncp_model.specs.Calls.{take_held}
 use Rattle.ncp_model.specs.Texts.{cut}
 use Rattle.ncp_model.specs.Happenings.{happens, Gives, Accepted}
-use Rattle.ncp_model.specs.Rows.{outward, inward, sized, counted, with_stored, sent_one}
+use Rattle.ncp_model.specs.Rows.{outward, inward, sized, with_counters, with_stored, sent_one}
 
 -- an end of that byte size with these bits stored; and with so much allocated
 abbrev pub bytes_stored : ℕ → List Bool → End
 bytes_stored of_size bits_there = with_stored bits_there (sized of_size)
 
 abbrev pub bytes_waiting : ℕ → List Bool → ℕ → ℕ → End
-bytes_waiting of_size bits_there of_messages of_bits = counted of_messages of_bits (bytes_stored of_size bits_there)
+bytes_waiting of_size bits_there of_messages of_bits = with_counters of_messages of_bits (bytes_stored of_size bits_there)
 
 -- so many bytes are taken from an end, which becomes another: these bits come out
 abbrev pub TakenFrom : ℕ → End → End → List Bool → Type 0

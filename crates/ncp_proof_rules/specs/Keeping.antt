@@ -6,7 +6,6 @@ use Rattle.ncp_model.specs.declared.pair.Pair.{Pair}
 use Rattle.ncp_model.specs.End.{End, or_new}
 use Rattle.ncp_model.specs.Texts.{Rfnm}
 use Rattle.ncp_model.specs.Happenings.{Happening, happens}
-use Rattle.ncp_model.specs.Happenings as all
 
 -- Whatever happens at an end: where one is there afterwards, this holds of what happened, of the end as it
 -- was, and as it is. An end that was not there counts as a new one.
@@ -68,37 +67,37 @@ text_back now was = record was { leaving = now.leaving; left = now.left; stored 
 
 -- a GVB is called for; a RET answers it (NIC 8246, GVB and RET)
 abbrev pub calls_back : Happening → Bool
-calls_back (all.Calls_back of_messages of_bits full) = true
+calls_back (Happening.Calls_back of_messages of_bits full) = true
 calls_back what = false
 
 abbrev pub is_ret : Happening → Bool
-is_ret (all.Ret_comes on of_messages of_bits) = true
+is_ret (Happening.Ret_comes on of_messages of_bits) = true
 is_ret what = false
 
 -- an interrupt comes (NIC 8246, INR and INS)
 abbrev pub is_interrupt : Happening → Bool
-is_interrupt (all.Inr_comes on) = true
-is_interrupt (all.Ins_comes on) = true
+is_interrupt (Happening.Inr_comes on) = true
+is_interrupt (Happening.Ins_comes on) = true
 is_interrupt what = false
 
 -- a text goes out; it was taken (BBN 1822, RFNM)
 abbrev pub is_sending : Happening → Bool
-is_sending all.Text_goes_out = true
+is_sending Happening.Text_goes_out = true
 is_sending what = false
 
 abbrev pub frees_the_sender : Happening → Bool
-frees_the_sender (all.Is_answered Rfnm) = true
+frees_the_sender (Happening.Is_answered Rfnm) = true
 frees_the_sender what = false
 
 -- the numbers grow by ALL that is made or comes, fall by GVB and RET, and by texts (NIC 8246,
 -- allocation)
 abbrev pub counts : Happening → Bool
-counts (all.Allocates of_messages of_bits full) = true
-counts (all.All_comes on of_messages of_bits) = true
-counts (all.Gvb_comes on of_messages of_bits) = true
-counts (all.Ret_comes on of_messages of_bits) = true
-counts (all.Text_comes head of_size text) = true
-counts all.Text_goes_out = true
+counts (Happening.Allocates of_messages of_bits full) = true
+counts (Happening.All_comes on of_messages of_bits) = true
+counts (Happening.Gvb_comes on of_messages of_bits) = true
+counts (Happening.Ret_comes on of_messages of_bits) = true
+counts (Happening.Text_comes head of_size text) = true
+counts Happening.Text_goes_out = true
 counts what = false
 
 -- a CLS that is made
@@ -108,7 +107,7 @@ is_cls c = false
 
 -- a clearing makes none
 abbrev pub is_clearing : Happening → Bool
-is_clearing all.Is_cleared = true
+is_clearing Happening.Is_cleared = true
 is_clearing what = false
 
 -- the end's CLS was made, or it ended by that

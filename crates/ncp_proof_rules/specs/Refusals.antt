@@ -15,7 +15,6 @@ use Rattle.ncp_model.specs.End.{End, or_new}
 use Rattle.ncp_model.specs.Act.{text_error}
 use Rattle.ncp_model.specs.Faults.{fault_number}
 use Rattle.ncp_model.specs.Happenings.{Happening, Outcome, Happened, happens}
-use Rattle.ncp_model.specs.Happenings as all
 
 -- The words of the tables. An end that is not there counts as a new one.
 
@@ -28,8 +27,8 @@ was_heard before = (or_new before).heard
 abbrev pub is_leaving_or_left : Option End → Bool
 is_leaving_or_left before = (or_new before).leaving || (or_new before).left
 
-abbrev pub room_of : Option End → ℕ
-room_of before = (or_new before).room
+abbrev pub room_before : Option End → ℕ
+room_before before = (or_new before).room
 
 abbrev pub byte_size_of : Option End → ℕ
 byte_size_of before = (or_new before).size
@@ -52,12 +51,12 @@ is_receiver pair = is_receive pair.local && is_send pair.remote
 
 -- The calls: the first reason that holds is the refusal.
 
-abbrev pub first_of : List (CallFault × Bool) → Option CallFault
-first_of [] = None
-first_of (reason ∷ more) = if reason.1 then Some reason.0 else first_of more
+abbrev pub first_refusal : List (CallFault × Bool) → Option CallFault
+first_refusal [] = None
+first_refusal (reason ∷ more) = if reason.1 then Some reason.0 else first_refusal more
 
 abbrev pub reasons : Pair → Happening → Option End → List (CallFault × Bool)
-reasons pair (all.Asks_to_send of_size with_room own full) before =
+reasons pair (Happening.Asks_to_send of_size with_room own full) before =
     (BadSex, not (is_sender pair))
     ∷ (BadSize, of_size == 0)
     ∷ (BadRoom, nat_lt with_room 1 || nat_lt MAX_ROOM with_room)
@@ -66,7 +65,7 @@ reasons pair (all.Asks_to_send of_size with_room own full) before =
     ∷ (TableFull, nat_le MAX_OWN own)
     ∷ (QueueFull, full)
     ∷ []
-reasons pair (all.Asks_to_receive with_room on own full) before =
+reasons pair (Happening.Asks_to_receive with_room on own full) before =
     (BadSex, not (is_receiver pair))
     ∷ (BadRoom, nat_lt with_room 1 || nat_lt MAX_ROOM with_room)
     ∷ (AlreadyAsked, was_asked before && not (is_leaving_or_left before))
@@ -74,35 +73,35 @@ reasons pair (all.Asks_to_receive with_room on own full) before =
     ∷ (TableFull, nat_le MAX_OWN own)
     ∷ (QueueFull, full)
     ∷ []
-reasons pair (all.Closes full) before =
+reasons pair (Happening.Closes full) before =
     (NoEntry, is_none before)
     ∷ (Closing, (or_new before).left || (or_new before).leaving && is_sender pair)
     ∷ (QueueFull, full)
     ∷ []
-reasons pair (all.Gives text) before =
+reasons pair (Happening.Gives text) before =
     (NoEntry, is_none before)
     ∷ (Closing, is_leaving_or_left before)
     ∷ (NotOpen, not (was_asked before) || not (was_heard before))
     ∷ (WrongEnd, not (is_sender pair))
     ∷ (NotWhole, nat_lt 0 (length text % byte_size_of before))
-    ∷ (NoRoom, nat_lt (room_of before) (stored_bits before + length text))
+    ∷ (NoRoom, nat_lt (room_before before) (stored_bits before + length text))
     ∷ []
-reasons pair (all.Takes bytes) before =
+reasons pair (Happening.Takes bytes) before =
     (NoEntry, is_none before)
     ∷ (Closing, (or_new before).left)
     ∷ (NotOpen, not (or_new before).opened)
     ∷ (WrongEnd, not (is_receiver pair))
     ∷ []
-reasons pair (all.Allocates of_messages of_bits full) before =
+reasons pair (Happening.Allocates of_messages of_bits full) before =
     (NoEntry, is_none before)
     ∷ (Closing, is_leaving_or_left before)
     ∷ (NotOpen, not (was_asked before) || not (was_heard before))
     ∷ (WrongEnd, not (is_receiver pair))
-    ∷ (TooMuch, nat_lt (room_of before) (counted_bits before + stored_bits before + of_bits))
+    ∷ (TooMuch, nat_lt (room_before before) (counted_bits before + stored_bits before + of_bits))
     ∷ (TooMuch, nat_lt MAX_MESSAGES (counted_messages before + of_messages))
     ∷ (QueueFull, full)
     ∷ []
-reasons pair (all.Calls_back of_messages of_bits full) before =
+reasons pair (Happening.Calls_back of_messages of_bits full) before =
     (NoEntry, is_none before)
     ∷ (Closing, is_leaving_or_left before)
     ∷ (NotOpen, not (was_asked before) || not (was_heard before))
@@ -110,7 +109,7 @@ reasons pair (all.Calls_back of_messages of_bits full) before =
     ∷ (Busy, (or_new before).recall)
     ∷ (QueueFull, full)
     ∷ []
-reasons pair (all.Interrupts full) before =
+reasons pair (Happening.Interrupts full) before =
     (NoEntry, is_none before)
     ∷ (Closing, is_leaving_or_left before)
     ∷ (NotOpen, not (was_asked before) || not (was_heard before))
@@ -120,12 +119,12 @@ reasons pair what before = []
 
 -- what a call was refused for
 abbrev pub refusal_of : Outcome → Option CallFault
-refusal_of (all.Refused fault) = Some fault
+refusal_of (Outcome.Refused fault) = Some fault
 refusal_of outcome = None
 
 -- a call is refused for the first of its reasons that holds, and accepted where none does
 abbrev pub IsRefusedFirst : Happening → Type 0
-IsRefusedFirst call = (pair : Pair) (before : Option End) → refusal_of (happens pair call before).outcome ≡ first_of (reasons pair call before)
+IsRefusedFirst call = (pair : Pair) (before : Option End) → refusal_of (happens pair call before).outcome ≡ first_refusal (reasons pair call before)
 
 -- whether the numbers of the refusals rise
 abbrev pub rises : ℕ → List ℕ → Bool
@@ -144,17 +143,17 @@ first_that [] otherwise = otherwise
 first_that (test ∷ more) otherwise = if test.0 then test.1 else first_that more otherwise
 
 abbrev pub wrong : Command → Outcome
-wrong command = all.Erred (error_of ERRONEOUS_PARAMETERS command)
+wrong command = Outcome.Erred (error_of ERRONEOUS_PARAMETERS command)
 
 -- a command that names a link, at the end to which the link leads
 abbrev pub on_a_link : Command → Option End → List (Bool × Outcome) → List (Bool × Outcome)
 on_a_link command before more =
-    (is_leaving_or_left before, all.Late)
-    ∷ (not (or_new before).opened, all.Erred (error_of SOCKET_NOT_CONNECTED command))
+    (is_leaving_or_left before, Outcome.Late)
+    ∷ (not (or_new before).opened, Outcome.Erred (error_of SOCKET_NOT_CONNECTED command))
     ∷ more
 
 abbrev pub cases : Pair → Happening → Option End → List (Bool × Outcome)
-cases pair (all.Rts_comes on taken by_peer) before =
+cases pair (Happening.Rts_comes on taken by_peer) before =
     let bad = wrong (Rts pair.remote pair.local on) in
     (not (is_receive pair.remote), bad)
     ∷ (not (is_send pair.local), bad)
@@ -162,59 +161,59 @@ cases pair (all.Rts_comes on taken by_peer) before =
     ∷ (nat_lt LAST_LINK on, bad)
     ∷ (was_heard before, bad)
     ∷ (taken, bad)
-    ∷ (is_none before && nat_le MAX_BY_PEER by_peer, all.Full)
+    ∷ (is_none before && nat_le MAX_BY_PEER by_peer, Outcome.Full)
     ∷ []
-cases pair (all.Str_comes of_size by_peer) before =
+cases pair (Happening.Str_comes of_size by_peer) before =
     let bad = wrong (Str pair.remote pair.local of_size) in
     (not (is_send pair.remote), bad)
     ∷ (not (is_receive pair.local), bad)
     ∷ (of_size == 0, bad)
     ∷ (was_heard before, bad)
-    ∷ (is_none before && nat_le MAX_BY_PEER by_peer, all.Full)
+    ∷ (is_none before && nat_le MAX_BY_PEER by_peer, Outcome.Full)
     ∷ []
-cases pair all.Cls_comes before =
+cases pair Happening.Cls_comes before =
     let command = Cls pair.remote pair.local in
     (not (is_sender pair || is_receiver pair), wrong command)
-    ∷ (is_none before, all.Erred (error_of NONEXISTENT_SOCKET command))
+    ∷ (is_none before, Outcome.Erred (error_of NONEXISTENT_SOCKET command))
     ∷ ((or_new before).cls, wrong command)
     ∷ []
-cases pair (all.All_comes on of_messages of_bits) before =
+cases pair (Happening.All_comes on of_messages of_bits) before =
     on_a_link (All on of_messages of_bits) before
     ((nat_lt MAX_MESSAGES (counted_messages before + of_messages), wrong (All on of_messages of_bits))
     ∷ (nat_lt MAX_AMOUNT (counted_bits before + of_bits), wrong (All on of_messages of_bits))
     ∷ [])
-cases pair (all.Gvb_comes on of_messages of_bits) before = on_a_link (Gvb on of_messages of_bits) before []
-cases pair (all.Ret_comes on of_messages of_bits) before =
+cases pair (Happening.Gvb_comes on of_messages of_bits) before = on_a_link (Gvb on of_messages of_bits) before []
+cases pair (Happening.Ret_comes on of_messages of_bits) before =
     on_a_link (Ret on of_messages of_bits) before
     ((nat_lt (counted_messages before) of_messages, wrong (Ret on of_messages of_bits))
     ∷ (nat_lt (counted_bits before) of_bits, wrong (Ret on of_messages of_bits))
     ∷ [])
-cases pair (all.Inr_comes on) before = on_a_link (Inr on) before []
-cases pair (all.Ins_comes on) before = on_a_link (Ins on) before []
-cases pair (all.Text_comes head of_size text) before =
-    (is_leaving_or_left before, all.Late)
-    ∷ (not (or_new before).opened, all.NotOpen)
-    ∷ (not (of_size == byte_size_of before), all.WrongSize)
-    ∷ (counted_messages before == 0, all.Over)
-    ∷ (nat_lt (counted_bits before) (length text), all.Over)
+cases pair (Happening.Inr_comes on) before = on_a_link (Inr on) before []
+cases pair (Happening.Ins_comes on) before = on_a_link (Ins on) before []
+cases pair (Happening.Text_comes head of_size text) before =
+    (is_leaving_or_left before, Outcome.Late)
+    ∷ (not (or_new before).opened, Outcome.NotOpen)
+    ∷ (not (of_size == byte_size_of before), Outcome.WrongSize)
+    ∷ (counted_messages before == 0, Outcome.Over)
+    ∷ (nat_lt (counted_bits before) (length text), Outcome.Over)
     ∷ []
 cases pair what before = []
 
 -- what changes nothing
-abbrev pub is_refusal : Outcome → Bool
-is_refusal (all.Refused fault) = true
-is_refusal (all.Erred error) = true
-is_refusal all.Late = true
-is_refusal all.Full = true
-is_refusal all.WrongSize = true
-is_refusal all.Over = true
-is_refusal all.NotOpen = true
-is_refusal outcome = false
+abbrev pub is_refused_outcome : Outcome → Bool
+is_refused_outcome (Outcome.Refused fault) = true
+is_refused_outcome (Outcome.Erred error) = true
+is_refused_outcome Outcome.Late = true
+is_refused_outcome Outcome.Full = true
+is_refused_outcome Outcome.WrongSize = true
+is_refused_outcome Outcome.Over = true
+is_refused_outcome Outcome.NotOpen = true
+is_refused_outcome outcome = false
 
 -- what is made all the same: the ERR that the outcome is, and the ERR for a text that finds no open end
 abbrev pub made_by_refusal : Happening → Outcome → List Command
-made_by_refusal what (all.Erred error) = error ∷ []
-made_by_refusal (all.Text_comes head of_size text) all.NotOpen = text_error head text ∷ []
+made_by_refusal what (Outcome.Erred error) = error ∷ []
+made_by_refusal (Happening.Text_comes head of_size text) Outcome.NotOpen = text_error head text ∷ []
 made_by_refusal what outcome = []
 
 -- what comes meets the first of its cases that holds, and else has the effect that is named
@@ -225,4 +224,4 @@ MeetsFirst what otherwise =
 -- whatever is refused: this holds of it, of the end before it, or that there is none, and of what it comes to
 abbrev pub WheneverRefused : (Happening → Option End → Happened → Type 0) → Type 0
 WheneverRefused holds =
-    (pair : Pair) (what : Happening) (before : Option End) → is_refusal (happens pair what before).outcome ≡ true → holds what before (happens pair what before)
+    (pair : Pair) (what : Happening) (before : Option End) → is_refused_outcome (happens pair what before).outcome ≡ true → holds what before (happens pair what before)

@@ -4,8 +4,7 @@ ghost use Rattle.std.specs.Prelude.{◌≡◌, ℕ, Bool, true, false, ◌+◌, 
 ghost use Rattle.ncp_model.specs.Pairs.{sends, receives};
 ghost use Rattle.ncp_model.specs.Amounts.{back};
 ghost use Rattle.ncp_model.specs.End.{End};
-ghost use Rattle.ncp_model.specs.Happenings.{happens};
-ghost use Rattle.ncp_model.specs.Happenings as all;
+ghost use Rattle.ncp_model.specs.Happenings.{happens, Happening, Outcome};
 ghost use Rattle.ncp_proof_rules.specs.Conserved.{OfEachGrant, OfEachAll, OfEachGvb, OfEachRet, OfEachTextIn, OfEachTextOut, OfEachTaking, OfEachRecall};
 
 use ncp_model::Pair;
@@ -43,14 +42,14 @@ pub fn texts_take_what_they_use()
     ensures goes_out { OfEachTextOut (λ text was now. text ++ now.stored ≡ was.stored) }
     ensures busy { OfEachTextOut (λ text was now. now.busy ≡ true) }
     ensures taken { OfEachTaking (λ text was now. text ++ now.stored ≡ was.stored) }
-    ensures last { (pair : Pair) (bytes : ℕ) (text : List Bool) (x : End) → (happens pair (all.Takes bytes) (Some x)).outcome ≡ all.Took_out text → (happens pair (all.Takes bytes) (Some x)).made ≡ Command.Cls pair.local pair.remote ∷ [] → text ≡ x.stored }
+    ensures last { (pair : Pair) (bytes : ℕ) (text : List Bool) (x : End) → (happens pair (Happening.Takes bytes) (Some x)).outcome ≡ Outcome.Took_out text → (happens pair (Happening.Takes bytes) (Some x)).made ≡ Command.Cls pair.local pair.remote ∷ [] → text ≡ x.stored }
 {}
 
 /// What a call on an open connection makes names the link of its end: an INS from a sender, an INR from
 /// a receiver.
 pub fn calls_name_the_link_of_their_end()
     ensures calls_back { OfEachRecall (λ messages bits was made. made ≡ Command.Gvb was.link messages bits ∷ []) }
-    ensures recalls { (pair : Pair) (of_messages of_bits : ℕ) (full : Bool) (x e : End) → (happens pair (all.Calls_back of_messages of_bits full) (Some x)).outcome ≡ all.Accepted → (happens pair (all.Calls_back of_messages of_bits full) (Some x)).after ≡ Some e → e.recall ≡ true }
-    ensures sender { (pair : Pair) (full : Bool) (x : End) → sends pair ≡ true → (happens pair (all.Interrupts full) (Some x)).outcome ≡ all.Accepted → (happens pair (all.Interrupts full) (Some x)).made ≡ Command.Ins x.link ∷ [] }
-    ensures receiver { (pair : Pair) (full : Bool) (x : End) → receives pair ≡ true → (happens pair (all.Interrupts full) (Some x)).outcome ≡ all.Accepted → (happens pair (all.Interrupts full) (Some x)).made ≡ Command.Inr x.link ∷ [] }
+    ensures recalls { (pair : Pair) (of_messages of_bits : ℕ) (full : Bool) (x e : End) → (happens pair (Happening.Calls_back of_messages of_bits full) (Some x)).outcome ≡ Outcome.Accepted → (happens pair (Happening.Calls_back of_messages of_bits full) (Some x)).after ≡ Some e → e.recall ≡ true }
+    ensures sender { (pair : Pair) (full : Bool) (x : End) → sends pair ≡ true → (happens pair (Happening.Interrupts full) (Some x)).outcome ≡ Outcome.Accepted → (happens pair (Happening.Interrupts full) (Some x)).made ≡ Command.Ins x.link ∷ [] }
+    ensures receiver { (pair : Pair) (full : Bool) (x : End) → receives pair ≡ true → (happens pair (Happening.Interrupts full) (Some x)).outcome ≡ Outcome.Accepted → (happens pair (Happening.Interrupts full) (Some x)).made ≡ Command.Inr x.link ∷ [] }
 {}

@@ -1,6 +1,6 @@
 //! Echoes: each ECO that comes is answered, and nothing that answers one is.
 ghost use Rattle.std.specs.Prelude.{◌≡◌, ℕ, Bool, true, false, ◌++◌, ◌<◌, ◌≤◌, List, [], ◌∷◌, length};
-ghost use Rattle.ncp_terms.specs.declared.command.Command.{Command as Order};
+ghost use Rattle.ncp_terms.specs.declared.command.Command.{Command};
 ghost use Rattle.ncp_model.specs.Peers.{Peer, hears, falls};
 ghost use Rattle.ncp_model.specs.Phase.{Phase, up};
 

@@ -4,7 +4,6 @@ ghost use Rattle.std.specs.List.{list_any};
 ghost use Rattle.ncp_model.specs.Pairs.{sends};
 ghost use Rattle.ncp_model.specs.End.{End};
 ghost use Rattle.ncp_model.specs.Happenings.{Happening, happens};
-ghost use Rattle.ncp_model.specs.Happenings as all;
 ghost use Rattle.ncp_proof_rules.specs.Keeping.{is_cls, is_clearing, frees_the_sender, was_left};
 
 use ncp_model::Pair;

@@ -8,7 +8,6 @@ use Rattle.ncp_leader.specs.declared.fault.MessageFault.{MessageFault}
 use Rattle.ncp_leader.specs.Leader.{leader_in}
 use Rattle.ncp_leader.specs.Message.{Message, message_in}
 use Rattle.ncp_terms.specs.declared.command.Command.{Command}
-use Rattle.ncp_terms.specs.declared.command.Command.TheVariants as commands
 use Rattle.ncp_terms.specs.declared.fault.CommandFault.{CommandFault}
 use Rattle.ncp_control.specs.Reading.{commands_in, fault_in}
 use Rattle.ncp_slot.specs.declared.slot.Slot.TheVariants.{Empty, Ready, Travelling, Held}
@@ -20,26 +19,24 @@ use Rattle.ncp_model.specs.declared.pair.Pair.{Pair}
 use Rattle.ncp_model.specs.Pairs.{same, pair_cmp}
 use Rattle.ncp_model.specs.End.{End}
 use Rattle.ncp_model.specs.Act.{Act, end_after}
-use Rattle.ncp_model.specs.Texts as texts
+use Rattle.ncp_model.specs.Texts
 use Rattle.ncp_model.specs.Texts.{hear_text}
 use Rattle.ncp_model.specs.Ends.{Ends, uses_link, hears_link, pair_of, receiver_on, sender_on, leads_to, hear, text_in, cut_in, answered_in, map_after, map_after_at, no_ends, put}
 use Rattle.ncp_model.specs.Happenings.{Happening, Text_comes, Text_goes_out, Is_answered, happens}
 use Rattle.ncp_model.specs.Leading.{suits, comes}
 use Rattle.ncp_model.specs.Phase.{Phase, up, is_resetting, resets}
 use Rattle.ncp_model.specs.Sending.{is_full}
-use Rattle.ncp_model.specs.Peers.{Peer, Ask_to_send, Ask_to_receive, Close, Give, Take, Allocate, Call_back, Interrupt, kept, called, happened_at}
-use Rattle.ncp_model.specs.Peers as peers
+use Rattle.ncp_model.specs.Peers.{Peer, Ask_to_send, Ask_to_receive, Close, Give, Take, Allocate, Call_back, Interrupt, kept, called, happened_at, PairCall, calls, calls_echo, calls_reset, calls_up, cuts, echo_called, frees, frees_up, hears, hears_fault, hears_other, hears_text, makes, peer_sends, takes_text}
+use Rattle.ncp_model.specs.Peers
 use Rattle.ncp_model.proofs.EndsAfter.{after-at, after-elsewhere}
 use Rattle.ncp_model.proofs.LinksLead.{led, command-led, cut-led, answered-led, hearer-sends, user-receives, suits-led}
 use Rattle.ncp_host.specs.Counting.{one_more}
 use Rattle.ncp_host.specs.PeerState.{PeerState, new_state, control_link, is_answered, answer_taken, answer_comes, frees_on, after_answer}
-use Rattle.ncp_host.specs.Hearing.{control_size, control_after, text_after, is_wrong_link, hears, hears_all, hears_last, message_after}
+use Rattle.ncp_host.specs.Hearing.{control_size, state_after_control, state_after_text, is_wrong_link, state_hears, state_hears_all, hears_last, message_after}
 use Rattle.ncp_host.specs.Output.{after_made, after_by}
 use Rattle.ncp_host.specs.Calls.{sockets}
 use Rattle.ncp_transcript.specs.declared.call.Call.{Call}
-use Rattle.ncp_transcript.specs.declared.call.Call.TheVariants as calls_of
 use Rattle.ncp_transcript.specs.declared.note.HostNote.{HostNote}
-use Rattle.ncp_transcript.specs.declared.note.HostNote.TheVariants as notes
 use Rattle.ncp_proof_runs.specs.Peers.{called_for, bits_for, out_for, note_for, notes_for}
 use Rattle.ncp_proof_runs.specs.Acts.{Acted, was_cleared, act_at, gone_down, acts_called, acts_echoed, acts_reset, acts_of_call, acts_heard_up, acts_heard, acts_heard_all, acts_of_fault, acts_of_control, acts_of_text, acts_of_message, acts_of_bits, acts_of_new, acts_of_output, acts_of_out, acts_of_freeing, acts_of_answer, acts_answered, acts_by, acts_from, AreActs}
 use Rattle.ncp_proof_runs.proofs.BooksOfRuns.{same_pair, another, put_here, put_there, called-suits, comes-led}
@@ -81,51 +78,51 @@ module _ (pair : Pair) where
 
   -- A call.
 
-  call-acts : (p : Pair) (call : peers.Call) (s : PeerState) → AreActs pair (get s.peer.ends pair) (acts_called pair p call s) (get (peers.calls p call s.peer).ends pair)
+  call-acts : (p : Pair) (call : PairCall) (s : PeerState) → AreActs pair (get s.peer.ends pair) (acts_called pair p call s) (get (calls p call s.peer).ends pair)
   call-acts p call s = go (up s.peer.phase)
     where
       did : AreActs pair (get s.peer.ends pair) (act_at pair (Some p) (Some (called call (is_full s.peer.phase) s.peer.ends)) s.peer.ends) (get (put s.peer.ends p (happened_at p call s.peer).after) pair)
       did = moves s.peer.ends (put s.peer.ends p (happened_at p call s.peer).after) p (called call (is_full s.peer.phase) s.peer.ends) (called-suits pair p call (is_full s.peer.phase) s.peer.ends)
           (put_here pair s.peer.ends p (happened_at p call s.peer).after) (put_there pair s.peer.ends p (happened_at p call s.peer).after)
 
-      go : (b : Bool) → AreActs pair (get s.peer.ends pair) (if b then act_at pair (Some p) (Some (called call (is_full s.peer.phase) s.peer.ends)) s.peer.ends ++ gone_down (peers.calls_up p call s.peer).phase else []) (get (if b then peers.calls_up p call s.peer else s.peer).ends pair)
-      go true = joined-acts (act_at pair (Some p) (Some (called call (is_full s.peer.phase) s.peer.ends)) s.peer.ends) (gone_down (peers.calls_up p call s.peer).phase) _ _ _ did (down (peers.calls_up p call s.peer).phase (put s.peer.ends p (happened_at p call s.peer).after))
+      go : (b : Bool) → AreActs pair (get s.peer.ends pair) (if b then act_at pair (Some p) (Some (called call (is_full s.peer.phase) s.peer.ends)) s.peer.ends ++ gone_down (calls_up p call s.peer).phase else []) (get (if b then calls_up p call s.peer else s.peer).ends pair)
+      go true = joined-acts (act_at pair (Some p) (Some (called call (is_full s.peer.phase) s.peer.ends)) s.peer.ends) (gone_down (calls_up p call s.peer).phase) _ _ _ did (down (calls_up p call s.peer).phase (put s.peer.ends p (happened_at p call s.peer).after))
       go false = refl
 
-  reset-acts : (s : PeerState) → AreActs pair (get s.peer.ends pair) (acts_reset s) (get (peers.calls_reset (is_quiet s.slots) s.peer).ends pair)
+  reset-acts : (s : PeerState) → AreActs pair (get s.peer.ends pair) (acts_reset s) (get (calls_reset (is_quiet s.slots) s.peer).ends pair)
   reset-acts s = go (is_resetting s.peer.phase)
     where
-      go : (b : Bool) → AreActs pair (get s.peer.ends pair) (if b then [] else was_cleared ∷ []) (get (if b then s.peer else peers.cleared (resets (is_quiet s.slots) s.peer.phase) s.peer).ends pair)
+      go : (b : Bool) → AreActs pair (get s.peer.ends pair) (if b then [] else was_cleared ∷ []) (get (if b then s.peer else Peers.cleared (resets (is_quiet s.slots) s.peer.phase) s.peer).ends pair)
       go true = refl
       go false = cleared (get s.peer.ends pair)
 
-  echo-acts : (byte : ℕ) (s : PeerState) → AreActs pair (get s.peer.ends pair) (acts_echoed byte s) (get (peers.calls_echo byte s.peer).ends pair)
+  echo-acts : (byte : ℕ) (s : PeerState) → AreActs pair (get s.peer.ends pair) (acts_echoed byte s) (get (calls_echo byte s.peer).ends pair)
   echo-acts byte s = go (up s.peer.phase)
     where
-      go : (b : Bool) → AreActs pair (get s.peer.ends pair) (if b then gone_down (peers.echo_called byte s.peer).phase else []) (get (if b then peers.echo_called byte s.peer else s.peer).ends pair)
-      go true = down (peers.echo_called byte s.peer).phase s.peer.ends
+      go : (b : Bool) → AreActs pair (get s.peer.ends pair) (if b then gone_down (echo_called byte s.peer).phase else []) (get (if b then echo_called byte s.peer else s.peer).ends pair)
+      go true = down (echo_called byte s.peer).phase s.peer.ends
       go false = refl
 
   done-acts : (call : Call) (s : PeerState) → AreActs pair (get s.peer.ends pair) (acts_of_call pair call s) (get (called_for call s).peer.ends pair)
-  done-acts (calls_of.Reset peer) s = reset-acts s
-  done-acts (calls_of.AskSend peer local remote size room) s = call-acts (sockets local remote) (Ask_to_send size room) s
-  done-acts (calls_of.AskReceive peer local remote room) s = call-acts (sockets local remote) (Ask_to_receive room) s
-  done-acts (calls_of.Give peer p text) s = call-acts p (Give text) s
-  done-acts (calls_of.Take peer p bytes) s = call-acts p (Take bytes) s
-  done-acts (calls_of.Allocate peer p messages bits) s = call-acts p (Allocate messages bits) s
-  done-acts (calls_of.CallBack peer p fm fb) s = call-acts p (Call_back fm fb) s
-  done-acts (calls_of.Interrupt peer p) s = call-acts p Interrupt s
-  done-acts (calls_of.Echo peer byte) s = echo-acts byte s
-  done-acts (calls_of.Close peer p) s = call-acts p Close s
-  done-acts (calls_of.Wake peer) s = refl
-  done-acts (calls_of.State peer p) s = refl
-  done-acts (calls_of.Phase peer) s = refl
-  done-acts (calls_of.Echoed peer) s = refl
-  done-acts (calls_of.Errors peer) s = refl
-  done-acts (calls_of.Counts peer) s = refl
-  done-acts (calls_of.Waiting peer place) s = refl
-  done-acts (calls_of.Kept peer link) s = refl
-  done-acts calls_of.Ignored s = refl
+  done-acts (Call.Reset peer) s = reset-acts s
+  done-acts (Call.AskSend peer local remote size room) s = call-acts (sockets local remote) (Ask_to_send size room) s
+  done-acts (Call.AskReceive peer local remote room) s = call-acts (sockets local remote) (Ask_to_receive room) s
+  done-acts (Call.Give peer p text) s = call-acts p (Give text) s
+  done-acts (Call.Take peer p bytes) s = call-acts p (Take bytes) s
+  done-acts (Call.Allocate peer p messages bits) s = call-acts p (Allocate messages bits) s
+  done-acts (Call.CallBack peer p fm fb) s = call-acts p (Call_back fm fb) s
+  done-acts (Call.Interrupt peer p) s = call-acts p Interrupt s
+  done-acts (Call.Echo peer byte) s = echo-acts byte s
+  done-acts (Call.Close peer p) s = call-acts p Close s
+  done-acts (Call.Wake peer) s = refl
+  done-acts (Call.State peer p) s = refl
+  done-acts (Call.Phase peer) s = refl
+  done-acts (Call.Echoed peer) s = refl
+  done-acts (Call.Errors peer) s = refl
+  done-acts (Call.Counts peer) s = refl
+  done-acts (Call.Waiting peer place) s = refl
+  done-acts (Call.Kept peer link) s = refl
+  done-acts Call.Ignored s = refl
 
   -- A command that comes.
 
@@ -139,53 +136,53 @@ module _ (pair : Pair) where
           let l = command-led m c p what e f in
           moves m (map_after m p (hear c m)) p what (suits-led p what (get m p) l.0) (after-at m p (hear c m) ∙ sym (ap (λ h. h.after) l.1)) (λ q n. after-elsewhere m p q (hear c m) n)
 
-  other-acts : (quiet : Bool) (c : Command) (p : Peer) → AreActs pair (get p.ends pair) (if up p.phase then acts_heard_up quiet pair c p else []) (get (if up p.phase then peers.hears_other quiet c p else p).ends pair)
+  other-acts : (quiet : Bool) (c : Command) (p : Peer) → AreActs pair (get p.ends pair) (if up p.phase then acts_heard_up quiet pair c p else []) (get (if up p.phase then hears_other quiet c p else p).ends pair)
   other-acts quiet c p = go (up p.phase)
     where
-      go : (b : Bool) → AreActs pair (get p.ends pair) (if b then acts_heard_up quiet pair c p else []) (get (if b then peers.hears_other quiet c p else p).ends pair)
-      go true = joined-acts (act_at pair (leads_to c p.ends) (comes c p.ends) p.ends) (gone_down (peers.hears_other quiet c p).phase) _ _ _ (command-moves c p.ends) (down (peers.hears_other quiet c p).phase (map_after_at p.ends (leads_to c p.ends) (hear c p.ends)))
+      go : (b : Bool) → AreActs pair (get p.ends pair) (if b then acts_heard_up quiet pair c p else []) (get (if b then hears_other quiet c p else p).ends pair)
+      go true = joined-acts (act_at pair (leads_to c p.ends) (comes c p.ends) p.ends) (gone_down (hears_other quiet c p).phase) _ _ _ (command-moves c p.ends) (down (hears_other quiet c p).phase (map_after_at p.ends (leads_to c p.ends) (hear c p.ends)))
       go false = refl
 
-  heard-acts : (quiet : Bool) (c : Command) (p : Peer) → AreActs pair (get p.ends pair) (acts_heard quiet pair c p) (get (peers.hears quiet c p).ends pair)
-  heard-acts quiet commands.Rst p = cleared (get p.ends pair)
-  heard-acts quiet commands.Rrp p = refl
+  heard-acts : (quiet : Bool) (c : Command) (p : Peer) → AreActs pair (get p.ends pair) (acts_heard quiet pair c p) (get (hears quiet c p).ends pair)
+  heard-acts quiet Command.Rst p = cleared (get p.ends pair)
+  heard-acts quiet Command.Rrp p = refl
   heard-acts quiet c p = other-acts quiet c p
 
-  all-acts : (cs : List Command) (s : PeerState) → AreActs pair (get s.peer.ends pair) (acts_heard_all pair cs s) (get (hears_all cs s).peer.ends pair)
+  all-acts : (cs : List Command) (s : PeerState) → AreActs pair (get s.peer.ends pair) (acts_heard_all pair cs s) (get (state_hears_all cs s).peer.ends pair)
   all-acts [] s = refl
-  all-acts (c ∷ cs) s = joined-acts (acts_heard (is_quiet s.slots) pair c s.peer) (acts_heard_all pair cs (hears c s)) _ _ _ (heard-acts (is_quiet s.slots) c s.peer) (all-acts cs (hears c s))
+  all-acts (c ∷ cs) s = joined-acts (acts_heard (is_quiet s.slots) pair c s.peer) (acts_heard_all pair cs (state_hears c s)) _ _ _ (heard-acts (is_quiet s.slots) c s.peer) (all-acts cs (state_hears c s))
 
   fault-acts : (fault : Option CommandFault) (s : PeerState) → AreActs pair (get s.peer.ends pair) (acts_of_fault fault s.peer) (get (hears_last fault s).peer.ends pair)
   fault-acts None s = refl
   fault-acts (Some fault) s = go (up s.peer.phase) refl
     where
       made : Peer
-      made = peers.makes (commands.Err fault.code fault.bytes ∷ []) s.peer
+      made = makes (Command.Err fault.code fault.bytes ∷ []) s.peer
 
-      go : (b : Bool) → up s.peer.phase ≡ b → AreActs pair (get s.peer.ends pair) (if b then gone_down (peers.hears_fault fault s.peer).phase else []) (get (peers.hears_fault fault s.peer).ends pair)
+      go : (b : Bool) → up s.peer.phase ≡ b → AreActs pair (get s.peer.ends pair) (if b then gone_down (hears_fault fault s.peer).phase else []) (get (hears_fault fault s.peer).ends pair)
       go b e =
           subst (λ (p : Peer). AreActs pair (get s.peer.ends pair) (if b then gone_down p.phase else []) (get p.ends pair))
-          (ap (λ (x : Bool). if x then peers.makes (commands.Err fault.code fault.bytes ∷ []) s.peer else s.peer) (sym e)) (by b)
+          (ap (λ (x : Bool). if x then makes (Command.Err fault.code fault.bytes ∷ []) s.peer else s.peer) (sym e)) (by b)
         where
-          by : (x : Bool) → AreActs pair (get s.peer.ends pair) (if x then gone_down (if x then peers.makes (commands.Err fault.code fault.bytes ∷ []) s.peer else s.peer).phase else []) (get (if x then peers.makes (commands.Err fault.code fault.bytes ∷ []) s.peer else s.peer).ends pair)
-          by true = down (peers.makes (commands.Err fault.code fault.bytes ∷ []) s.peer).phase s.peer.ends
+          by : (x : Bool) → AreActs pair (get s.peer.ends pair) (if x then gone_down (if x then makes (Command.Err fault.code fault.bytes ∷ []) s.peer else s.peer).phase else []) (get (if x then makes (Command.Err fault.code fault.bytes ∷ []) s.peer else s.peer).ends pair)
+          by true = down (makes (Command.Err fault.code fault.bytes ∷ []) s.peer).phase s.peer.ends
           by false = refl
 
-  control-acts : (m : Message) (s : PeerState) → AreActs pair (get s.peer.ends pair) (if m.size == control_size then acts_of_control pair m s else []) (get (control_after m s).peer.ends pair)
+  control-acts : (m : Message) (s : PeerState) → AreActs pair (get s.peer.ends pair) (if m.size == control_size then acts_of_control pair m s else []) (get (state_after_control m s).peer.ends pair)
   control-acts m s = go (m.size == control_size)
     where
       cs : List Command
       cs = commands_in (bytes_of m.text)
 
-      go : (b : Bool) → AreActs pair (get s.peer.ends pair) (if b then acts_of_control pair m s else []) (get (if b then hears_last (fault_in (bytes_of m.text)) (hears_all (commands_in (bytes_of m.text)) s) else record s { counts = record s.counts { wrong_size = one_more s.counts.wrong_size } }).peer.ends pair)
+      go : (b : Bool) → AreActs pair (get s.peer.ends pair) (if b then acts_of_control pair m s else []) (get (if b then hears_last (fault_in (bytes_of m.text)) (state_hears_all (commands_in (bytes_of m.text)) s) else record s { counts = record s.counts { wrong_size = one_more s.counts.wrong_size } }).peer.ends pair)
       go true =
-          joined-acts (acts_heard_all pair (commands_in (bytes_of m.text)) s) (acts_of_fault (fault_in (bytes_of m.text)) (hears_all (commands_in (bytes_of m.text)) s).peer) _ _ _
-          (all-acts (commands_in (bytes_of m.text)) s) (fault-acts (fault_in (bytes_of m.text)) (hears_all (commands_in (bytes_of m.text)) s))
+          joined-acts (acts_heard_all pair (commands_in (bytes_of m.text)) s) (acts_of_fault (fault_in (bytes_of m.text)) (state_hears_all (commands_in (bytes_of m.text)) s).peer) _ _ _
+          (all-acts (commands_in (bytes_of m.text)) s) (fault-acts (fault_in (bytes_of m.text)) (state_hears_all (commands_in (bytes_of m.text)) s))
       go false = refl
 
   -- A text that comes.
 
-  text-acts : (on : ℕ) (head : List Bool) (m : Message) (p : Peer) → AreActs pair (get p.ends pair) (acts_of_text pair on head m p) (get (peers.hears_text on head m.size m.text p).ends pair)
+  text-acts : (on : ℕ) (head : List Bool) (m : Message) (p : Peer) → AreActs pair (get p.ends pair) (acts_of_text pair on head m p) (get (hears_text on head m.size m.text p).ends pair)
   text-acts on head m p = go (up p.phase)
     where
       did : AreActs pair (get p.ends pair) (act_at pair (pair_of (receiver_on on p.ends)) (Some (Text_comes head m.size m.text)) p.ends) (get (map_after_at p.ends (pair_of (receiver_on on p.ends)) (text_in on m.size m.text p.ends)) pair)
@@ -193,10 +190,10 @@ module _ (pair : Pair) where
           act-moves p.ends (pair_of (receiver_on on p.ends)) (Text_comes head m.size m.text) (text_in on m.size m.text p.ends)
           (λ q e. let l = led (uses_link on) p.ends q e in (user-receives on q (get p.ends q) l.1, ap (λ o. end_after (get p.ends q) (hear_text m.size m.text o)) l.0))
 
-      go : (b : Bool) → AreActs pair (get p.ends pair) (if b then act_at pair (pair_of (receiver_on on p.ends)) (Some (Text_comes head m.size m.text)) p.ends ++ gone_down (peers.takes_text on head m.size m.text p).phase else []) (get (if b then peers.takes_text on head m.size m.text p else p).ends pair)
+      go : (b : Bool) → AreActs pair (get p.ends pair) (if b then act_at pair (pair_of (receiver_on on p.ends)) (Some (Text_comes head m.size m.text)) p.ends ++ gone_down (takes_text on head m.size m.text p).phase else []) (get (if b then takes_text on head m.size m.text p else p).ends pair)
       go true =
-          joined-acts (act_at pair (pair_of (receiver_on on p.ends)) (Some (Text_comes head m.size m.text)) p.ends) (gone_down (peers.takes_text on head m.size m.text p).phase) _ _ _ did
-          (down (peers.takes_text on head m.size m.text p).phase (map_after_at p.ends (pair_of (receiver_on on p.ends)) (text_in on m.size m.text p.ends)))
+          joined-acts (act_at pair (pair_of (receiver_on on p.ends)) (Some (Text_comes head m.size m.text)) p.ends) (gone_down (takes_text on head m.size m.text p).phase) _ _ _ did
+          (down (takes_text on head m.size m.text p).phase (map_after_at p.ends (pair_of (receiver_on on p.ends)) (text_in on m.size m.text p.ends)))
       go false = refl
 
   message-acts : (on : ℕ) (bits : List Bool) (o : Result Message MessageFault) (s : PeerState) → AreActs pair (get s.peer.ends pair) (acts_of_message pair on bits o s) (get (message_after on bits o s).peer.ends pair)
@@ -204,7 +201,7 @@ module _ (pair : Pair) where
   message-acts on bits (Ok m) s = go (is_wrong_link on) (on == control_link)
     where
       go : (a b : Bool) → AreActs pair (get s.peer.ends pair) (if a then [] else if b then (if m.size == control_size then acts_of_control pair m s else []) else acts_of_text pair on (take 72 bits) m s.peer)
-          (get (if a then record s { counts = record s.counts { wrong_link = one_more s.counts.wrong_link } } else if b then control_after m s else text_after on (take 72 bits) m s).peer.ends pair)
+          (get (if a then record s { counts = record s.counts { wrong_link = one_more s.counts.wrong_link } } else if b then state_after_control m s else state_after_text on (take 72 bits) m s).peer.ends pair)
       go true b = refl
       go false true = control-acts m s
       go false false = text-acts on (take 72 bits) m s.peer
@@ -218,7 +215,7 @@ module _ (pair : Pair) where
   new-acts : (on : ℕ) (p : Peer) → AreActs pair (get p.ends pair) (acts_of_new pair on p) (get (after_made on p).ends pair)
   new-acts on p = go (on == control_link)
     where
-      go : (b : Bool) → AreActs pair (get p.ends pair) (if b then [] else act_at pair (pair_of (sender_on on p.ends)) (Some Text_goes_out) p.ends) (get (if b then peers.sends p else peers.cuts on p).ends pair)
+      go : (b : Bool) → AreActs pair (get p.ends pair) (if b then [] else act_at pair (pair_of (sender_on on p.ends)) (Some Text_goes_out) p.ends) (get (if b then peer_sends p else cuts on p).ends pair)
       go true = refl
       go false =
           act-moves p.ends (pair_of (sender_on on p.ends)) Text_goes_out (cut_in on p.ends)
@@ -234,24 +231,24 @@ module _ (pair : Pair) where
   out-acts (Err short) message s = refl
   out-acts (Ok leader) message s = output-acts leader.link (slot_at s.slots leader.link) s.peer
 
-  freeing-acts : (on : ℕ) (p : Peer) → AreActs pair (get p.ends pair) (acts_of_freeing pair on p) (get (peers.frees on p).ends pair)
+  freeing-acts : (on : ℕ) (p : Peer) → AreActs pair (get p.ends pair) (acts_of_freeing pair on p) (get (frees on p).ends pair)
   freeing-acts on p = go (up p.phase)
     where
-      did : AreActs pair (get p.ends pair) (act_at pair (pair_of (sender_on on p.ends)) (Some (Is_answered texts.Rfnm)) p.ends) (get (map_after_at p.ends (pair_of (sender_on on p.ends)) (answered_in on texts.Rfnm p.ends)) pair)
+      did : AreActs pair (get p.ends pair) (act_at pair (pair_of (sender_on on p.ends)) (Some (Is_answered Texts.Rfnm)) p.ends) (get (map_after_at p.ends (pair_of (sender_on on p.ends)) (answered_in on Texts.Rfnm p.ends)) pair)
       did =
-          act-moves p.ends (pair_of (sender_on on p.ends)) (Is_answered texts.Rfnm) (answered_in on texts.Rfnm p.ends)
-          (λ q e. (hearer-sends on q (get p.ends q) (led (hears_link on) p.ends q e).1, ap (λ h. h.after) (answered-led p.ends on texts.Rfnm q e).1))
+          act-moves p.ends (pair_of (sender_on on p.ends)) (Is_answered Texts.Rfnm) (answered_in on Texts.Rfnm p.ends)
+          (λ q e. (hearer-sends on q (get p.ends q) (led (hears_link on) p.ends q e).1, ap (λ h. h.after) (answered-led p.ends on Texts.Rfnm q e).1))
 
-      go : (b : Bool) → AreActs pair (get p.ends pair) (if b then act_at pair (pair_of (sender_on on p.ends)) (Some (Is_answered texts.Rfnm)) p.ends ++ gone_down (peers.frees_up on p).phase else []) (get (if b then peers.frees_up on p else p).ends pair)
+      go : (b : Bool) → AreActs pair (get p.ends pair) (if b then act_at pair (pair_of (sender_on on p.ends)) (Some (Is_answered Texts.Rfnm)) p.ends ++ gone_down (frees_up on p).phase else []) (get (if b then frees_up on p else p).ends pair)
       go true =
-          joined-acts (act_at pair (pair_of (sender_on on p.ends)) (Some (Is_answered texts.Rfnm)) p.ends) (gone_down (peers.frees_up on p).phase) _ _ _ did
-          (down (peers.frees_up on p).phase (map_after_at p.ends (pair_of (sender_on on p.ends)) (answered_in on texts.Rfnm p.ends)))
+          joined-acts (act_at pair (pair_of (sender_on on p.ends)) (Some (Is_answered Texts.Rfnm)) p.ends) (gone_down (frees_up on p).phase) _ _ _ did
+          (down (frees_up on p).phase (map_after_at p.ends (pair_of (sender_on on p.ends)) (answered_in on Texts.Rfnm p.ends)))
       go false = refl
 
   taken-acts : (on : ℕ) (p : Peer) → AreActs pair (get p.ends pair) (if on == control_link then [] else acts_of_freeing pair on p) (get (frees_on on p).ends pair)
   taken-acts on p = go (on == control_link)
     where
-      go : (b : Bool) → AreActs pair (get p.ends pair) (if b then [] else acts_of_freeing pair on p) (get (if b then p else peers.frees on p).ends pair)
+      go : (b : Bool) → AreActs pair (get p.ends pair) (if b then [] else acts_of_freeing pair on p) (get (if b then p else frees on p).ends pair)
       go true = refl
       go false = freeing-acts on p
 
@@ -268,21 +265,21 @@ module _ (pair : Pair) where
       go false = refl
 
   note-acts : (note : HostNote) (s : PeerState) → AreActs pair (get s.peer.ends pair) (acts_by pair note s) (get (note_for note s).peer.ends pair)
-  note-acts (notes.Refused call fault) s = refl
-  note-acts (notes.Done call) s = done-acts call s
-  note-acts (notes.Took peer p bytes text) s = call-acts p (Take bytes) s
-  note-acts (notes.State peer p told) s = refl
-  note-acts (notes.Phase peer flags) s = refl
-  note-acts (notes.Echoed peer byte) s = refl
-  note-acts (notes.Errors peer errors) s = refl
-  note-acts (notes.Counts peer counts) s = refl
-  note-acts (notes.Waiting peer place command) s = refl
-  note-acts (notes.Kept peer link message) s = refl
-  note-acts (notes.Ignored ignored) s = refl
-  note-acts (notes.Out message) s = out-acts (leader_in message) message s
-  note-acts notes.Nothing s = refl
-  note-acts (notes.In message told) s = bits-acts (leader_in message) message s
-  note-acts (notes.Answered peer link how told) s = answered-acts link how s
+  note-acts (HostNote.Refused call fault) s = refl
+  note-acts (HostNote.Done call) s = done-acts call s
+  note-acts (HostNote.Took peer p bytes text) s = call-acts p (Take bytes) s
+  note-acts (HostNote.State peer p told) s = refl
+  note-acts (HostNote.Phase peer flags) s = refl
+  note-acts (HostNote.Echoed peer byte) s = refl
+  note-acts (HostNote.Errors peer errors) s = refl
+  note-acts (HostNote.Counts peer counts) s = refl
+  note-acts (HostNote.Waiting peer place command) s = refl
+  note-acts (HostNote.Kept peer link message) s = refl
+  note-acts (HostNote.Ignored ignored) s = refl
+  note-acts (HostNote.Out message) s = out-acts (leader_in message) message s
+  note-acts HostNote.Nothing s = refl
+  note-acts (HostNote.In message told) s = bits-acts (leader_in message) message s
+  note-acts (HostNote.Answered peer link how told) s = answered-acts link how s
 
   pub run-acts : (all : List HostNote) (s : PeerState) → AreActs pair (get s.peer.ends pair) (acts_from pair all s) (get (notes_for all s).peer.ends pair)
   run-acts [] s = refl

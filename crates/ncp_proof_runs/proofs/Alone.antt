@@ -6,7 +6,7 @@ use Rattle.ncp_leader.specs.declared.leader.Short.{Short}
 use Rattle.ncp_leader.specs.Leader.{leader_in}
 use Rattle.ncp_model.specs.declared.pair.Pair.{Pair}
 use Rattle.ncp_model.specs.Phase.{reset_answer}
-use Rattle.ncp_model.specs.Peers.{Call as Pair_call, Ask_to_send, Ask_to_receive, Close, Give, Take, Allocate, Call_back, Interrupt, comes_of, reply, reply_of_take, reply_of_echo}
+use Rattle.ncp_model.specs.Peers.{PairCall, Ask_to_send, Ask_to_receive, Close, Give, Take, Allocate, Call_back, Interrupt, comes_of, reply, reply_of_take, reply_of_echo}
 use Rattle.ncp_conn.specs.Records.{record_in}
 use Rattle.ncp_host.specs.PeerState.{PeerState}
 use Rattle.ncp_host.specs.Hearing.{regular, is_kind}
@@ -14,18 +14,16 @@ use Rattle.ncp_host.specs.Output.{next_of}
 use Rattle.ncp_host.specs.Host.{Host, state_in, state_of, numbers_of, is_one_of, new_host, if_known}
 use Rattle.ncp_host.specs.Calls.{record_answer, flags_of, waiting_at, kept_for, sockets}
 use Rattle.ncp_host.specs.Arrivals.{received_from, received_with}
-use Rattle.ncp_host.specs.declared.received.Received.TheVariants as told_of
+use Rattle.ncp_host.specs.declared.received.Received.{Received}
 use Rattle.ncp_host.specs.Turns.{message_in_turn, first_message, next_output}
 use Rattle.ncp_transcript.specs.declared.call.Call.{Call}
-use Rattle.ncp_transcript.specs.declared.call.Call.TheVariants as calls_of
 use Rattle.ncp_transcript.specs.declared.note.HostNote.{HostNote}
-use Rattle.ncp_transcript.specs.declared.note.HostNote.TheVariants as notes
 use Rattle.ncp_transcript.specs.Notes.{done_or_refused, told_or_refused}
 use Rattle.ncp_transcript.specs.Answers.{answer_to}
 use Rattle.ncp_transcript.specs.After.{after_note}
 use Rattle.ncp_transcript.specs.Noting.{is_answer, if_peer, answer_with, IsWant}
-use Rattle.ncp_transcript.specs.Runs.{answer_told, IsSaid, IsRun}
-use Rattle.ncp_proof_runs.specs.Peers.{FromBeginning, peer_of_call, peer_of_leader, is_number, names, notes_of, note_for}
+use Rattle.ncp_transcript.specs.Runs.{answer_told, IsHostSaid, IsHostRun}
+use Rattle.ncp_proof_runs.specs.Peers.{FromBeginning, peer_of_call, peer_of_leader, is_this_number, names, notes_of_peer, note_for}
 use Rattle.ncp_proof_runs.proofs.States.{done, message_cons}
 use Rattle.ncp_proof_runs.proofs.HostRuns.{Holds, some_same, out-turn, out-leader, note-state}
 use Rattle.ncp_proof_runs.proofs.EachPeer.{holds-after, new-holds, new-state}
@@ -38,42 +36,42 @@ same-at h g n peer e q =
 
 -- Calls answer the same.
 
-pair-same : (c : Call) (pair : Pair) (call : Pair_call) (o p : Option PeerState) → o ≡ p → done_or_refused c (if_known o (λ s. reply (comes_of pair call s.peer))) ≡ done_or_refused c (if_known p (λ s. reply (comes_of pair call s.peer)))
+pair-same : (c : Call) (pair : Pair) (call : PairCall) (o p : Option PeerState) → o ≡ p → done_or_refused c (if_known o (λ s. reply (comes_of pair call s.peer))) ≡ done_or_refused c (if_known p (λ s. reply (comes_of pair call s.peer)))
 pair-same c pair call o p e = ap (λ (x : Option PeerState). done_or_refused c (if_known x (λ s. reply (comes_of pair call s.peer)))) e
 
-pub answer-same : (call : Call) (h g : Host) (n : ℕ) → state_of h n ≡ state_of g n → is_number n (peer_of_call call) ≡ true → answer_to call h ≡ answer_to call g
-answer-same (calls_of.Reset peer) h g n e q = ap (λ (x : Option PeerState). done_or_refused (calls_of.Reset peer) (if_known x (λ s. reset_answer s.peer.phase))) (same-at h g n peer e q)
-answer-same (calls_of.AskSend peer local remote size room) h g n e q = pair-same (calls_of.AskSend peer local remote size room) (sockets local remote) (Ask_to_send size room) (state_of h peer) (state_of g peer) (same-at h g n peer e q)
-answer-same (calls_of.AskReceive peer local remote room) h g n e q = pair-same (calls_of.AskReceive peer local remote room) (sockets local remote) (Ask_to_receive room) (state_of h peer) (state_of g peer) (same-at h g n peer e q)
-answer-same (calls_of.Give peer pair text) h g n e q = pair-same (calls_of.Give peer pair text) pair (Give text) (state_of h peer) (state_of g peer) (same-at h g n peer e q)
-answer-same (calls_of.Take peer pair bytes) h g n e q = ap (λ (x : Option PeerState). told_or_refused (calls_of.Take peer pair bytes) (notes.Took peer pair bytes) (if_known x (λ s. reply_of_take (comes_of pair (Take bytes) s.peer)))) (same-at h g n peer e q)
-answer-same (calls_of.Allocate peer pair messages bits) h g n e q = pair-same (calls_of.Allocate peer pair messages bits) pair (Allocate messages bits) (state_of h peer) (state_of g peer) (same-at h g n peer e q)
-answer-same (calls_of.CallBack peer pair fm fb) h g n e q = pair-same (calls_of.CallBack peer pair fm fb) pair (Call_back fm fb) (state_of h peer) (state_of g peer) (same-at h g n peer e q)
-answer-same (calls_of.Interrupt peer pair) h g n e q = pair-same (calls_of.Interrupt peer pair) pair Interrupt (state_of h peer) (state_of g peer) (same-at h g n peer e q)
-answer-same (calls_of.Echo peer byte) h g n e q = ap (λ (x : Option PeerState). done_or_refused (calls_of.Echo peer byte) (if_known x (λ s. reply_of_echo byte s.peer))) (same-at h g n peer e q)
-answer-same (calls_of.Close peer pair) h g n e q = pair-same (calls_of.Close peer pair) pair Close (state_of h peer) (state_of g peer) (same-at h g n peer e q)
-answer-same (calls_of.Wake peer) h g n e q = ap (λ (x : Option PeerState). done_or_refused (calls_of.Wake peer) (if_known x (λ s. Ok tt))) (same-at h g n peer e q)
-answer-same (calls_of.State peer pair) h g n e q = ap (λ (x : Option PeerState). told_or_refused (calls_of.State peer pair) (notes.State peer pair) (if_known x (λ s. record_answer (record_in pair s.peer.ends)))) (same-at h g n peer e q)
-answer-same (calls_of.Phase peer) h g n e q = ap (λ (x : Option PeerState). told_or_refused (calls_of.Phase peer) (notes.Phase peer) (if_known x (λ s. Ok (flags_of s.peer.phase)))) (same-at h g n peer e q)
-answer-same (calls_of.Echoed peer) h g n e q = ap (λ (x : Option PeerState). told_or_refused (calls_of.Echoed peer) (notes.Echoed peer) (if_known x (λ s. Ok s.peer.echoes.echoed))) (same-at h g n peer e q)
-answer-same (calls_of.Errors peer) h g n e q = ap (λ (x : Option PeerState). told_or_refused (calls_of.Errors peer) (notes.Errors peer) (if_known x (λ s. Ok s.peer.echoes.errors))) (same-at h g n peer e q)
-answer-same (calls_of.Counts peer) h g n e q = ap (λ (x : Option PeerState). told_or_refused (calls_of.Counts peer) (notes.Counts peer) (if_known x (λ s. Ok s.counts))) (same-at h g n peer e q)
-answer-same (calls_of.Waiting peer place) h g n e q = ap (λ (x : Option PeerState). notes.Waiting peer place (waiting_at x place)) (same-at h g n peer e q)
-answer-same (calls_of.Kept peer link) h g n e q = ap (λ (x : Option PeerState). notes.Kept peer link (kept_for x link)) (same-at h g n peer e q)
-answer-same calls_of.Ignored h g n e q = absurd (cc)
+pub answer-same : (call : Call) (h g : Host) (n : ℕ) → state_of h n ≡ state_of g n → is_this_number n (peer_of_call call) ≡ true → answer_to call h ≡ answer_to call g
+answer-same (Call.Reset peer) h g n e q = ap (λ (x : Option PeerState). done_or_refused (Call.Reset peer) (if_known x (λ s. reset_answer s.peer.phase))) (same-at h g n peer e q)
+answer-same (Call.AskSend peer local remote size room) h g n e q = pair-same (Call.AskSend peer local remote size room) (sockets local remote) (Ask_to_send size room) (state_of h peer) (state_of g peer) (same-at h g n peer e q)
+answer-same (Call.AskReceive peer local remote room) h g n e q = pair-same (Call.AskReceive peer local remote room) (sockets local remote) (Ask_to_receive room) (state_of h peer) (state_of g peer) (same-at h g n peer e q)
+answer-same (Call.Give peer pair text) h g n e q = pair-same (Call.Give peer pair text) pair (Give text) (state_of h peer) (state_of g peer) (same-at h g n peer e q)
+answer-same (Call.Take peer pair bytes) h g n e q = ap (λ (x : Option PeerState). told_or_refused (Call.Take peer pair bytes) (HostNote.Took peer pair bytes) (if_known x (λ s. reply_of_take (comes_of pair (Take bytes) s.peer)))) (same-at h g n peer e q)
+answer-same (Call.Allocate peer pair messages bits) h g n e q = pair-same (Call.Allocate peer pair messages bits) pair (Allocate messages bits) (state_of h peer) (state_of g peer) (same-at h g n peer e q)
+answer-same (Call.CallBack peer pair fm fb) h g n e q = pair-same (Call.CallBack peer pair fm fb) pair (Call_back fm fb) (state_of h peer) (state_of g peer) (same-at h g n peer e q)
+answer-same (Call.Interrupt peer pair) h g n e q = pair-same (Call.Interrupt peer pair) pair Interrupt (state_of h peer) (state_of g peer) (same-at h g n peer e q)
+answer-same (Call.Echo peer byte) h g n e q = ap (λ (x : Option PeerState). done_or_refused (Call.Echo peer byte) (if_known x (λ s. reply_of_echo byte s.peer))) (same-at h g n peer e q)
+answer-same (Call.Close peer pair) h g n e q = pair-same (Call.Close peer pair) pair Close (state_of h peer) (state_of g peer) (same-at h g n peer e q)
+answer-same (Call.Wake peer) h g n e q = ap (λ (x : Option PeerState). done_or_refused (Call.Wake peer) (if_known x (λ s. Ok tt))) (same-at h g n peer e q)
+answer-same (Call.State peer pair) h g n e q = ap (λ (x : Option PeerState). told_or_refused (Call.State peer pair) (HostNote.State peer pair) (if_known x (λ s. record_answer (record_in pair s.peer.ends)))) (same-at h g n peer e q)
+answer-same (Call.Phase peer) h g n e q = ap (λ (x : Option PeerState). told_or_refused (Call.Phase peer) (HostNote.Phase peer) (if_known x (λ s. Ok (flags_of s.peer.phase)))) (same-at h g n peer e q)
+answer-same (Call.Echoed peer) h g n e q = ap (λ (x : Option PeerState). told_or_refused (Call.Echoed peer) (HostNote.Echoed peer) (if_known x (λ s. Ok s.peer.echoes.echoed))) (same-at h g n peer e q)
+answer-same (Call.Errors peer) h g n e q = ap (λ (x : Option PeerState). told_or_refused (Call.Errors peer) (HostNote.Errors peer) (if_known x (λ s. Ok s.peer.echoes.errors))) (same-at h g n peer e q)
+answer-same (Call.Counts peer) h g n e q = ap (λ (x : Option PeerState). told_or_refused (Call.Counts peer) (HostNote.Counts peer) (if_known x (λ s. Ok s.counts))) (same-at h g n peer e q)
+answer-same (Call.Waiting peer place) h g n e q = ap (λ (x : Option PeerState). HostNote.Waiting peer place (waiting_at x place)) (same-at h g n peer e q)
+answer-same (Call.Kept peer link) h g n e q = ap (λ (x : Option PeerState). HostNote.Kept peer link (kept_for x link)) (same-at h g n peer e q)
+answer-same Call.Ignored h g n e q = absurd (cc)
 
 -- Bits come the same.
 
-host-named : (b : Bool) (host n : ℕ) → is_number n (if b then Some host else None) ≡ true → (host == n) ≡ true
+host-named : (b : Bool) (host n : ℕ) → is_this_number n (if b then Some host else None) ≡ true → (host == n) ≡ true
 host-named true host n q = q
 host-named false host n q = absurd (cc)
 
-bits-same : (r : Result Leader Short) (bits : List Bool) (h g : Host) (n : ℕ) → state_of h n ≡ state_of g n → is_number n (peer_of_leader r) ≡ true → (answer_with r h ≡ answer_with r g) × (received_with r bits h ≡ received_with r bits g)
+bits-same : (r : Result Leader Short) (bits : List Bool) (h g : Host) (n : ℕ) → state_of h n ≡ state_of g n → is_this_number n (peer_of_leader r) ≡ true → (answer_with r h ≡ answer_with r g) × (received_with r bits h ≡ received_with r bits g)
 bits-same (Err short) bits h g n e q = (refl, refl)
 bits-same (Ok leader) bits h g n e q =
     let same = same-at h g n leader.host e (host-named (leader.kind == regular) leader.host n q) in (
       ap (λ (x : Option PeerState). if is_answer leader.kind then if_peer x leader else None) same,
-      ap (λ (x : Option PeerState). if is_kind leader.kind then received_from x leader bits else told_of.Other leader.kind) same,
+      ap (λ (x : Option PeerState). if is_kind leader.kind then received_from x leader bits else Received.Other leader.kind) same,
     )
 
 -- What goes out goes out of the host that has this peer alone.
@@ -86,10 +84,10 @@ one-turn (p ∷ ps) n s out numbers e next =
     let state : p.1 ≡ s = some_same (sym (ap (λ (b : Bool). if b then Some p.1 else state_in ps n) here) ∙ e) in
     message_cons p ps ∙ ap (λ x. first_message x (message_in_turn ps)) (ap (λ (k : ℕ). next_of k p.1) number ∙ ap (λ (x : PeerState). next_of n x) state ∙ next)
 
-out-same : (ns : List ℕ) (h g : Host) (n : ℕ) (message : List Bool) → Holds ns h → Holds (n ∷ []) g → state_of h n ≡ state_of g n → next_output h ≡ Some message → is_number n (peer_of_leader (leader_in message)) ≡ true → next_output g ≡ Some message
+out-same : (ns : List ℕ) (h g : Host) (n : ℕ) (message : List Bool) → Holds ns h → Holds (n ∷ []) g → state_of h n ≡ state_of g n → next_output h ≡ Some message → is_this_number n (peer_of_leader (leader_in message)) ≡ true → next_output g ≡ Some message
 out-same ns h g n message k l e p q =
     let t = out-turn ns h message k p in
-    let named : (t.n == n) ≡ true = sym (ap (λ (r : Result Leader Short). is_number n (peer_of_leader r)) (out-leader ns h message k t)) ∙ q in
+    let named : (t.n == n) ≡ true = sym (ap (λ (r : Result Leader Short). is_this_number n (peer_of_leader r)) (out-leader ns h message k t)) ∙ q in
     let is : t.n ≡ n = eqb-true t.n n named in
     one-turn g.peers n t.s (t.on, message) l.numbers (sym e ∙ ap (state_of h) (sym is) ∙ t.found) (ap (λ (j : ℕ). next_of j t.s) (sym is) ∙ t.next)
 
@@ -98,29 +96,29 @@ out-same ns h g n message k l e p q =
 want-same : (call : Call) (note : HostNote) (h g : Host) → answer_to call h ≡ answer_to call g → IsWant call note h → IsWant call note g
 want-same call note h g e w = record { takes = w.takes; good = sym e ∙ w.good; said = w.said }
 
-said-alone : (ns : List ℕ) (note : HostNote) (h g : Host) (n : ℕ) → Holds ns h → Holds (n ∷ []) g → state_of h n ≡ state_of g n → names n note ≡ true → IsSaid note h → IsSaid note g
-said-alone ns (notes.Refused call fault) h g n k l e q p = elim p [
+said-alone : (ns : List ℕ) (note : HostNote) (h g : Host) (n : ℕ) → Holds ns h → Holds (n ∷ []) g → state_of h n ≡ state_of g n → names n note ≡ true → IsHostSaid note h → IsHostSaid note g
+said-alone ns (HostNote.Refused call fault) h g n k l e q p = elim p [
   | inl by_rules ↦ inl (sym (answer-same call h g n e q) ∙ by_rules)
-  | inr want ↦ inr (want-same call (notes.Refused call fault) h g (answer-same call h g n e q) want)
+  | inr want ↦ inr (want-same call (HostNote.Refused call fault) h g (answer-same call h g n e q) want)
 ]
-said-alone ns (notes.Done call) h g n k l e q p = sym (answer-same call h g n e q) ∙ p
-said-alone ns (notes.Took peer pair bytes text) h g n k l e q p = sym (answer-same (calls_of.Take peer pair bytes) h g n e q) ∙ p
-said-alone ns (notes.State peer pair r) h g n k l e q p = sym (answer-same (calls_of.State peer pair) h g n e q) ∙ p
-said-alone ns (notes.Phase peer flags) h g n k l e q p = sym (answer-same (calls_of.Phase peer) h g n e q) ∙ p
-said-alone ns (notes.Echoed peer byte) h g n k l e q p = sym (answer-same (calls_of.Echoed peer) h g n e q) ∙ p
-said-alone ns (notes.Errors peer errors) h g n k l e q p = sym (answer-same (calls_of.Errors peer) h g n e q) ∙ p
-said-alone ns (notes.Counts peer counts) h g n k l e q p = sym (answer-same (calls_of.Counts peer) h g n e q) ∙ p
-said-alone ns (notes.Waiting peer place command) h g n k l e q p = sym (answer-same (calls_of.Waiting peer place) h g n e q) ∙ p
-said-alone ns (notes.Kept peer link message) h g n k l e q p = sym (answer-same (calls_of.Kept peer link) h g n e q) ∙ p
-said-alone ns (notes.Ignored ignored) h g n k l e q p = absurd (cc)
-said-alone ns (notes.Out message) h g n k l e q p = out-same ns h g n message k l e p q
-said-alone ns notes.Nothing h g n k l e q p = absurd (cc)
-said-alone ns (notes.In message received) h g n k l e q p = let both = bits-same (leader_in message) message h g n e q in (sym both.0 ∙ p.0, sym both.1 ∙ p.1)
-said-alone ns (notes.Answered peer link how received) h g n k l e q p = ap (λ (x : Option PeerState). answer_told x link) (sym (same-at h g n peer e q)) ∙ p
+said-alone ns (HostNote.Done call) h g n k l e q p = sym (answer-same call h g n e q) ∙ p
+said-alone ns (HostNote.Took peer pair bytes text) h g n k l e q p = sym (answer-same (Call.Take peer pair bytes) h g n e q) ∙ p
+said-alone ns (HostNote.State peer pair r) h g n k l e q p = sym (answer-same (Call.State peer pair) h g n e q) ∙ p
+said-alone ns (HostNote.Phase peer flags) h g n k l e q p = sym (answer-same (Call.Phase peer) h g n e q) ∙ p
+said-alone ns (HostNote.Echoed peer byte) h g n k l e q p = sym (answer-same (Call.Echoed peer) h g n e q) ∙ p
+said-alone ns (HostNote.Errors peer errors) h g n k l e q p = sym (answer-same (Call.Errors peer) h g n e q) ∙ p
+said-alone ns (HostNote.Counts peer counts) h g n k l e q p = sym (answer-same (Call.Counts peer) h g n e q) ∙ p
+said-alone ns (HostNote.Waiting peer place command) h g n k l e q p = sym (answer-same (Call.Waiting peer place) h g n e q) ∙ p
+said-alone ns (HostNote.Kept peer link message) h g n k l e q p = sym (answer-same (Call.Kept peer link) h g n e q) ∙ p
+said-alone ns (HostNote.Ignored ignored) h g n k l e q p = absurd (cc)
+said-alone ns (HostNote.Out message) h g n k l e q p = out-same ns h g n message k l e p q
+said-alone ns HostNote.Nothing h g n k l e q p = absurd (cc)
+said-alone ns (HostNote.In message received) h g n k l e q p = let both = bits-same (leader_in message) message h g n e q in (sym both.0 ∙ p.0, sym both.1 ∙ p.1)
+said-alone ns (HostNote.Answered peer link how received) h g n k l e q p = ap (λ (x : Option PeerState). answer_told x link) (sym (same-at h g n peer e q)) ∙ p
 
 -- All of them.
 
-run-alone : (ns : List ℕ) (all : List HostNote) (h g : Host) (n : ℕ) → Holds ns h → Holds (n ∷ []) g → state_of h n ≡ state_of g n → IsRun all h → IsRun (notes_of n all) g
+run-alone : (ns : List ℕ) (all : List HostNote) (h g : Host) (n : ℕ) → Holds ns h → Holds (n ∷ []) g → state_of h n ≡ state_of g n → IsHostRun all h → IsHostRun (notes_of_peer n all) g
 run-alone ns [] h g n k l e p = tt
 run-alone ns (note ∷ rest) h g n k l e p = go (names n note) refl (λ other m same. run-alone ns rest (after_note note h) other n (holds-after ns note h k p.0) m same p.1)
   where
@@ -131,16 +129,16 @@ run-alone ns (note ∷ rest) h g n k l e p = go (names n note) refl (λ other m 
     stays None = refl
     stays (Some s) = refl
 
-    go : (b : Bool) → names n note ≡ b → ((other : Host) → Holds (n ∷ []) other → state_of (after_note note h) n ≡ state_of other n → IsRun (notes_of n rest) other) → IsRun (notes_of n (note ∷ rest)) g
+    go : (b : Bool) → names n note ≡ b → ((other : Host) → Holds (n ∷ []) other → state_of (after_note note h) n ≡ state_of other n → IsHostRun (notes_of_peer n rest) other) → IsHostRun (notes_of_peer n (note ∷ rest)) g
     go true q more =
         let said = said-alone ns note h g n k l e q p.0 in
-        let is : notes_of n (note ∷ rest) ≡ note ∷ notes_of n rest = ap (λ (c : Bool). cond c (note ∷ notes_of n rest) (notes_of n rest)) q in
+        let is : notes_of_peer n (note ∷ rest) ≡ note ∷ notes_of_peer n rest = ap (λ (c : Bool). cond c (note ∷ notes_of_peer n rest) (notes_of_peer n rest)) q in
         let there : state_of (after_note note g) n ≡ done true (note_for note) (state_of g n) = note-state (n ∷ []) note g n l said ∙ ap (λ (c : Bool). done c (note_for note) (state_of g n)) q in
         let same : state_of (after_note note h) n ≡ state_of (after_note note g) n = told true q ∙ ap (done true (note_for note)) e ∙ sym there in
-        subst (λ (xs : List HostNote). IsRun xs g) (sym is) (said, more (after_note note g) (holds-after (n ∷ []) note g l said) same)
+        subst (λ (xs : List HostNote). IsHostRun xs g) (sym is) (said, more (after_note note g) (holds-after (n ∷ []) note g l said) same)
     go false q more =
-        let is : notes_of n (note ∷ rest) ≡ notes_of n rest = ap (λ (c : Bool). cond c (note ∷ notes_of n rest) (notes_of n rest)) q in
-        subst (λ (xs : List HostNote). IsRun xs g) (sym is) (more g l (told false q ∙ stays (state_of h n) ∙ e))
+        let is : notes_of_peer n (note ∷ rest) ≡ notes_of_peer n rest = ap (λ (c : Bool). cond c (note ∷ notes_of_peer n rest) (notes_of_peer n rest)) q in
+        subst (λ (xs : List HostNote). IsHostRun xs g) (sym is) (more g l (told false q ∙ stays (state_of h n) ∙ e))
 
 one-place : (n m : ℕ) → n < 256 → is_one_of m (n ∷ []) ≡ true → m < 256
 one-place n m l e = go (n == m) refl e
@@ -149,7 +147,7 @@ one-place n m l e = go (n == m) refl e
     go true q e = let is : n ≡ m = eqb-true n m q in subst (λ (k : ℕ). k < 256) is l
     go false q e = absurd (cc)
 
-pub alone : (me : ℕ) (ns : List ℕ) (all : List HostNote) (n : ℕ) → FromBeginning me ns all → is_one_of n ns ≡ true → IsRun (notes_of n all) (new_host me (n ∷ []))
+pub alone : (me : ℕ) (ns : List ℕ) (all : List HostNote) (n : ℕ) → FromBeginning me ns all → is_one_of n ns ≡ true → IsHostRun (notes_of_peer n all) (new_host me (n ∷ []))
 alone me ns all n from e =
     run-alone ns all (new_host me ns) (new_host me (n ∷ [])) n
     (new-holds me ns from.distinct from.places)

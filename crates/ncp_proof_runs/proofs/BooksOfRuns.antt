@@ -11,7 +11,6 @@ use Rattle.ncp_leader.specs.declared.fault.MessageFault.{MessageFault}
 use Rattle.ncp_leader.specs.Leader.{leader_in}
 use Rattle.ncp_leader.specs.Message.{Message, message_in}
 use Rattle.ncp_terms.specs.declared.command.Command.{Command}
-use Rattle.ncp_terms.specs.declared.command.Command.TheVariants as commands
 use Rattle.ncp_terms.specs.declared.fault.CommandFault.{CommandFault}
 use Rattle.ncp_control.specs.Reading.{commands_in, fault_in}
 use Rattle.ncp_slot.specs.declared.slot.Slot.TheVariants.{Empty, Ready, Travelling, Held}
@@ -23,15 +22,14 @@ use Rattle.ncp_model.specs.declared.pair.Pair.{Pair}
 use Rattle.ncp_model.specs.Pairs.{same, sends, receives, pair_cmp}
 use Rattle.ncp_model.specs.End.{End}
 use Rattle.ncp_model.specs.Act.{Act, end_after}
-use Rattle.ncp_model.specs.Texts as texts
+use Rattle.ncp_model.specs.Texts
 use Rattle.ncp_model.specs.Ends.{Ends, uses_link, hears_link, pair_of, receiver_on, sender_on, leads_to, hear, text_in, cut_in, answered_in, map_after, map_after_at, no_ends, put}
 use Rattle.ncp_model.specs.Happenings.{Happening, Text_comes, Text_goes_out, Is_answered, happens}
 use Rattle.ncp_model.specs.Texts.{made_by_text, hear_text}
 use Rattle.ncp_model.specs.Leading.{suits, comes}
 use Rattle.ncp_model.specs.Phase.{Phase, up, is_resetting, resets}
 use Rattle.ncp_model.specs.Sending.{is_full}
-use Rattle.ncp_model.specs.Peers.{Peer, Ask_to_send, Ask_to_receive, Close, Give, Take, Allocate, Call_back, Interrupt, kept, called, happened_at}
-use Rattle.ncp_model.specs.Peers as peers
+use Rattle.ncp_model.specs.Peers.{Peer, Ask_to_send, Ask_to_receive, Close, Give, Take, Allocate, Call_back, Interrupt, kept, called, happened_at, PairCall, calls, calls_echo, calls_reset, calls_up, cleared, cuts, echo_called, frees, frees_up, hears, hears_fault, hears_other, hears_text, makes, peer_sends, takes_text}
 use Rattle.ncp_model.proofs.PairOrder.{pairs_exact, pairs_total}
 use Rattle.ncp_model.proofs.EndsAfter.{after-at, after-elsewhere}
 use Rattle.ncp_model.proofs.LinksLead.{itself, led, command-led, cut-led, answered-led, hearer-sends, user-receives, suits-led}
@@ -42,13 +40,11 @@ use Rattle.ncp_proof_watch.proofs.SoundEnds.{one_way, sound-after}
 use Rattle.ncp_proof_watch.proofs.BooksKept.{books-kept}
 use Rattle.ncp_host.specs.Counting.{one_more}
 use Rattle.ncp_host.specs.PeerState.{PeerState, new_state, control_link, is_answered, answer_taken, answer_comes, frees_on, after_answer}
-use Rattle.ncp_host.specs.Hearing.{control_size, control_after, text_after, is_wrong_link, hears, hears_all, hears_last, message_after}
+use Rattle.ncp_host.specs.Hearing.{control_size, state_after_control, state_after_text, is_wrong_link, state_hears, state_hears_all, hears_last, message_after}
 use Rattle.ncp_host.specs.Output.{after_made, after_by}
 use Rattle.ncp_host.specs.Calls.{sockets}
 use Rattle.ncp_transcript.specs.declared.call.Call.{Call}
-use Rattle.ncp_transcript.specs.declared.call.Call.TheVariants as calls_of
 use Rattle.ncp_transcript.specs.declared.note.HostNote.{HostNote}
-use Rattle.ncp_transcript.specs.declared.note.HostNote.TheVariants as notes
 use Rattle.ncp_proof_runs.specs.Peers.{called_for, bits_for, out_for, note_for, notes_for}
 use Rattle.ncp_proof_runs.specs.Histories.{past_then, past_at, past_called, past_heard, past_heard_all, past_text, past_message, past_bits, past_of_call, past_by, past_from}
 
@@ -112,7 +108,7 @@ module _ (pair : Pair) where
   put_there m p None q n = get-remove pairs_total m p q ∙ ap (λ b. cond b None (get m q)) (apart q p n)
   put_there m p (Some e) q n = get-insert pairs_total m p e q ∙ ap (λ b. cond b (Some e) (get m q)) (apart q p n)
 
-  pub called-suits : (p : Pair) (call : peers.Call) (full : Bool) (m : Ends) → suits p (called call full m) ≡ true
+  pub called-suits : (p : Pair) (call : PairCall) (full : Bool) (m : Ends) → suits p (called call full m) ≡ true
   called-suits p (Ask_to_send a b) full m = refl
   called-suits p (Ask_to_receive b) full m = refl
   called-suits p Close full m = refl
@@ -122,7 +118,7 @@ module _ (pair : Pair) where
   called-suits p (Call_back a b) full m = refl
   called-suits p Interrupt full m = refl
 
-  call-kept : (p : Pair) (call : peers.Call) (s : PeerState) (past : Past) → Kept pair s.peer.ends past → Kept pair (peers.calls p call s.peer).ends (past_called pair p call s past)
+  call-kept : (p : Pair) (call : PairCall) (s : PeerState) (past : Past) → Kept pair s.peer.ends past → Kept pair (calls p call s.peer).ends (past_called pair p call s past)
   call-kept p call s past k = go (up s.peer.phase)
     where
       after : Ends
@@ -132,21 +128,21 @@ module _ (pair : Pair) where
       moves = moved s.peer.ends (put s.peer.ends p (happened_at p call s.peer).after) p (called call (is_full s.peer.phase) s.peer.ends) past (called-suits p call (is_full s.peer.phase) s.peer.ends)
           (put_here s.peer.ends p (happened_at p call s.peer).after) (put_there s.peer.ends p (happened_at p call s.peer).after) k
 
-      go : (b : Bool) → Kept pair (if b then peers.calls_up p call s.peer else s.peer).ends (if b then past_at pair (Some p) (Some (called call (is_full s.peer.phase) s.peer.ends)) s.peer.ends past else past)
-      go true = while-up (peers.calls_up p call s.peer).phase (put s.peer.ends p (happened_at p call s.peer).after) _ moves
+      go : (b : Bool) → Kept pair (if b then calls_up p call s.peer else s.peer).ends (if b then past_at pair (Some p) (Some (called call (is_full s.peer.phase) s.peer.ends)) s.peer.ends past else past)
+      go true = while-up (calls_up p call s.peer).phase (put s.peer.ends p (happened_at p call s.peer).after) _ moves
       go false = k
 
   -- A command that comes.
 
   pub comes-led : (c : Command) (m : Ends) (p : Pair) → leads_to c m ≡ Some p → comes c m ≡ None → ⊥
-  comes-led (commands.Rts receive send on) m p e f = absurd (cc)
-  comes-led (commands.Str send receive of_size) m p e f = absurd (cc)
-  comes-led (commands.Cls my your) m p e f = absurd (cc)
-  comes-led (commands.All on a b) m p e f = absurd (cc)
-  comes-led (commands.Gvb on a b) m p e f = absurd (cc)
-  comes-led (commands.Ret on a b) m p e f = absurd (cc)
-  comes-led (commands.Inr on) m p e f = absurd (cc)
-  comes-led (commands.Ins on) m p e f = absurd (cc)
+  comes-led (Command.Rts receive send on) m p e f = absurd (cc)
+  comes-led (Command.Str send receive of_size) m p e f = absurd (cc)
+  comes-led (Command.Cls my your) m p e f = absurd (cc)
+  comes-led (Command.All on a b) m p e f = absurd (cc)
+  comes-led (Command.Gvb on a b) m p e f = absurd (cc)
+  comes-led (Command.Ret on a b) m p e f = absurd (cc)
+  comes-led (Command.Inr on) m p e f = absurd (cc)
+  comes-led (Command.Ins on) m p e f = absurd (cc)
   comes-led c m p e f = absurd (cc)
 
   command-moves : (c : Command) (m : Ends) (past : Past) → Kept pair m past → Kept pair (map_after_at m (leads_to c m) (hear c m)) (past_at pair (leads_to c m) (comes c m) m past)
@@ -159,34 +155,34 @@ module _ (pair : Pair) where
           let l = command-led m c p what e f in
           moved m (map_after m p (hear c m)) p what past (suits-led p what (get m p) l.0) (after-at m p (hear c m) ∙ sym (ap (λ h. h.after) l.1)) (λ q n. after-elsewhere m p q (hear c m) n) k
 
-  other-kept : (quiet : Bool) (c : Command) (p : Peer) (past : Past) → Kept pair p.ends past → Kept pair (if up p.phase then peers.hears_other quiet c p else p).ends (if up p.phase then past_at pair (leads_to c p.ends) (comes c p.ends) p.ends past else past)
+  other-kept : (quiet : Bool) (c : Command) (p : Peer) (past : Past) → Kept pair p.ends past → Kept pair (if up p.phase then hears_other quiet c p else p).ends (if up p.phase then past_at pair (leads_to c p.ends) (comes c p.ends) p.ends past else past)
   other-kept quiet c p past k = go (up p.phase)
     where
-      go : (b : Bool) → Kept pair (if b then peers.hears_other quiet c p else p).ends (if b then past_at pair (leads_to c p.ends) (comes c p.ends) p.ends past else past)
-      go true = while-up (peers.hears_other quiet c p).phase (map_after_at p.ends (leads_to c p.ends) (hear c p.ends)) _ (command-moves c p.ends past k)
+      go : (b : Bool) → Kept pair (if b then hears_other quiet c p else p).ends (if b then past_at pair (leads_to c p.ends) (comes c p.ends) p.ends past else past)
+      go true = while-up (hears_other quiet c p).phase (map_after_at p.ends (leads_to c p.ends) (hear c p.ends)) _ (command-moves c p.ends past k)
       go false = k
 
   either-past : (b : Bool) (m : Ends) (past : Past) → Kept pair m past → Kept pair m (if b then past else past)
   either-past true m past k = k
   either-past false m past k = k
 
-  heard-kept : (quiet : Bool) (c : Command) (p : Peer) (past : Past) → Kept pair p.ends past → Kept pair (peers.hears quiet c p).ends (if up p.phase then past_at pair (leads_to c p.ends) (comes c p.ends) p.ends past else past)
-  heard-kept quiet commands.Rst p past k = none-kept _
-  heard-kept quiet commands.Rrp p past k = either-past (up p.phase) p.ends past k
+  heard-kept : (quiet : Bool) (c : Command) (p : Peer) (past : Past) → Kept pair p.ends past → Kept pair (hears quiet c p).ends (if up p.phase then past_at pair (leads_to c p.ends) (comes c p.ends) p.ends past else past)
+  heard-kept quiet Command.Rst p past k = none-kept _
+  heard-kept quiet Command.Rrp p past k = either-past (up p.phase) p.ends past k
   heard-kept quiet c p past k = other-kept quiet c p past k
 
-  all-kept : (cs : List Command) (s : PeerState) (past : Past) → Kept pair s.peer.ends past → Kept pair (hears_all cs s).peer.ends (past_heard_all pair cs s past)
+  all-kept : (cs : List Command) (s : PeerState) (past : Past) → Kept pair s.peer.ends past → Kept pair (state_hears_all cs s).peer.ends (past_heard_all pair cs s past)
   all-kept [] s past k = k
-  all-kept (c ∷ cs) s past k = all-kept cs (hears c s) (past_heard pair c s past) (heard-kept (is_quiet s.slots) c s.peer past k)
+  all-kept (c ∷ cs) s past k = all-kept cs (state_hears c s) (past_heard pair c s past) (heard-kept (is_quiet s.slots) c s.peer past k)
 
-  fault-kept : (fault : CommandFault) (p : Peer) (past : Past) → Kept pair p.ends past → Kept pair (peers.hears_fault fault p).ends past
+  fault-kept : (fault : CommandFault) (p : Peer) (past : Past) → Kept pair p.ends past → Kept pair (hears_fault fault p).ends past
   fault-kept fault p past k = go (up p.phase)
     where
       made : Peer
-      made = peers.makes (commands.Err fault.code fault.bytes ∷ []) p
+      made = makes (Command.Err fault.code fault.bytes ∷ []) p
 
-      go : (b : Bool) → Kept pair (if b then peers.makes (commands.Err fault.code fault.bytes ∷ []) p else p).ends past
-      go true = while-up (peers.makes (commands.Err fault.code fault.bytes ∷ []) p).phase p.ends past k
+      go : (b : Bool) → Kept pair (if b then makes (Command.Err fault.code fault.bytes ∷ []) p else p).ends past
+      go true = while-up (makes (Command.Err fault.code fault.bytes ∷ []) p).phase p.ends past k
       go false = k
 
   last-kept : (fault : Option CommandFault) (s : PeerState) (past : Past) → Kept pair s.peer.ends past → Kept pair (hears_last fault s).peer.ends past
@@ -208,11 +204,11 @@ module _ (pair : Pair) where
           (λ q n. after-elsewhere m p q (text_in on of_size text m) n) k
 
   text-kept : (on : ℕ) (head : List Bool) (of_size : ℕ) (text : List Bool) (p : Peer) (past : Past) → Kept pair p.ends past
-      → Kept pair (peers.hears_text on head of_size text p).ends (if up p.phase then past_at pair (pair_of (receiver_on on p.ends)) (Some (Text_comes head of_size text)) p.ends past else past)
+      → Kept pair (hears_text on head of_size text p).ends (if up p.phase then past_at pair (pair_of (receiver_on on p.ends)) (Some (Text_comes head of_size text)) p.ends past else past)
   text-kept on head of_size text p past k = go (up p.phase)
     where
-      go : (b : Bool) → Kept pair (if b then peers.takes_text on head of_size text p else p).ends (if b then past_at pair (pair_of (receiver_on on p.ends)) (Some (Text_comes head of_size text)) p.ends past else past)
-      go true = while-up (peers.takes_text on head of_size text p).phase (map_after_at p.ends (pair_of (receiver_on on p.ends)) (text_in on of_size text p.ends)) _ (text-moves on head of_size text p.ends past k)
+      go : (b : Bool) → Kept pair (if b then takes_text on head of_size text p else p).ends (if b then past_at pair (pair_of (receiver_on on p.ends)) (Some (Text_comes head of_size text)) p.ends past else past)
+      go true = while-up (takes_text on head of_size text p).phase (map_after_at p.ends (pair_of (receiver_on on p.ends)) (text_in on of_size text p.ends)) _ (text-moves on head of_size text p.ends past k)
       go false = k
 
   -- A text that goes out, and one that was taken, are of a pair that sends.
@@ -238,27 +234,27 @@ module _ (pair : Pair) where
       go None e = k
       go (Some p) e = by p (same pair p) e refl
 
-  freed : (on : ℕ) (m : Ends) (past : Past) → Kept pair m past → Kept pair (map_after_at m (pair_of (sender_on on m)) (answered_in on texts.Rfnm m)) past
+  freed : (on : ℕ) (m : Ends) (past : Past) → Kept pair m past → Kept pair (map_after_at m (pair_of (sender_on on m)) (answered_in on Texts.Rfnm m)) past
   freed on m past k =
-      sender-moves on m (answered_in on texts.Rfnm m) past
-      (λ p e s. subst (λ (o : Option End). SoundAt p o) (ap (λ h. h.after) (answered-led m on texts.Rfnm p e).1) (sound-after p (Is_answered texts.Rfnm) (get m p) s)) k
+      sender-moves on m (answered_in on Texts.Rfnm m) past
+      (λ p e s. subst (λ (o : Option End). SoundAt p o) (ap (λ h. h.after) (answered-led m on Texts.Rfnm p e).1) (sound-after p (Is_answered Texts.Rfnm) (get m p) s)) k
 
   gone : (on : ℕ) (m : Ends) (past : Past) → Kept pair m past → Kept pair (map_after_at m (pair_of (sender_on on m)) (cut_in on m)) past
   gone on m past k =
       sender-moves on m (cut_in on m) past
       (λ p e s. subst (λ (o : Option End). SoundAt p o) (ap (λ h. h.after) (cut-led m on p e).1) (sound-after p Text_goes_out (get m p) s)) k
 
-  frees-kept : (on : ℕ) (p : Peer) (past : Past) → Kept pair p.ends past → Kept pair (peers.frees on p).ends past
+  frees-kept : (on : ℕ) (p : Peer) (past : Past) → Kept pair p.ends past → Kept pair (frees on p).ends past
   frees-kept on p past k = go (up p.phase)
     where
-      go : (b : Bool) → Kept pair (if b then peers.frees_up on p else p).ends past
-      go true = while-up (peers.frees_up on p).phase (map_after_at p.ends (pair_of (sender_on on p.ends)) (answered_in on texts.Rfnm p.ends)) past (freed on p.ends past k)
+      go : (b : Bool) → Kept pair (if b then frees_up on p else p).ends past
+      go true = while-up (frees_up on p).phase (map_after_at p.ends (pair_of (sender_on on p.ends)) (answered_in on Texts.Rfnm p.ends)) past (freed on p.ends past k)
       go false = k
 
   freed-kept : (on : ℕ) (p : Peer) (past : Past) → Kept pair p.ends past → Kept pair (frees_on on p).ends past
   freed-kept on p past k = go (on == control_link)
     where
-      go : (b : Bool) → Kept pair (if b then p else peers.frees on p).ends past
+      go : (b : Bool) → Kept pair (if b then p else frees on p).ends past
       go true = k
       go false = frees-kept on p past k
 
@@ -277,7 +273,7 @@ module _ (pair : Pair) where
   made-kept : (on : ℕ) (p : Peer) (past : Past) → Kept pair p.ends past → Kept pair (after_made on p).ends past
   made-kept on p past k = go (on == control_link)
     where
-      go : (b : Bool) → Kept pair (if b then peers.sends p else peers.cuts on p).ends past
+      go : (b : Bool) → Kept pair (if b then peer_sends p else cuts on p).ends past
       go true = k
       go false = gone on p.ends past k
 
@@ -297,12 +293,12 @@ module _ (pair : Pair) where
   message-kept on bits (Err fault) s past k = k
   message-kept on bits (Ok m) s past k = go (is_wrong_link on) (on == control_link)
     where
-      control : (b : Bool) → Kept pair (if b then hears_last (fault_in (bytes_of m.text)) (hears_all (commands_in (bytes_of m.text)) s) else record s { counts = record s.counts { wrong_size = one_more s.counts.wrong_size } }).peer.ends
+      control : (b : Bool) → Kept pair (if b then hears_last (fault_in (bytes_of m.text)) (state_hears_all (commands_in (bytes_of m.text)) s) else record s { counts = record s.counts { wrong_size = one_more s.counts.wrong_size } }).peer.ends
           (if b then past_heard_all pair (commands_in (bytes_of m.text)) s past else past)
-      control true = last-kept (fault_in (bytes_of m.text)) (hears_all (commands_in (bytes_of m.text)) s) _ (all-kept (commands_in (bytes_of m.text)) s past k)
+      control true = last-kept (fault_in (bytes_of m.text)) (state_hears_all (commands_in (bytes_of m.text)) s) _ (all-kept (commands_in (bytes_of m.text)) s past k)
       control false = k
 
-      go : (a b : Bool) → Kept pair (if a then record s { counts = record s.counts { wrong_link = one_more s.counts.wrong_link } } else if b then control_after m s else text_after on (take 72 bits) m s).peer.ends
+      go : (a b : Bool) → Kept pair (if a then record s { counts = record s.counts { wrong_link = one_more s.counts.wrong_link } } else if b then state_after_control m s else state_after_text on (take 72 bits) m s).peer.ends
           (if a then past else if b then (if m.size == control_size then past_heard_all pair (commands_in (bytes_of m.text)) s past else past) else past_text pair on (take 72 bits) m s past)
       go true b = k
       go false true = control (m.size == control_size)
@@ -314,57 +310,57 @@ module _ (pair : Pair) where
 
   -- The other calls.
 
-  reset-kept : (quiet : Bool) (p : Peer) (past : Past) → Kept pair p.ends past → Kept pair (peers.calls_reset quiet p).ends past
+  reset-kept : (quiet : Bool) (p : Peer) (past : Past) → Kept pair p.ends past → Kept pair (calls_reset quiet p).ends past
   reset-kept quiet p past k = go (is_resetting p.phase)
     where
-      go : (b : Bool) → Kept pair (if b then p else peers.cleared (resets quiet p.phase) p).ends past
+      go : (b : Bool) → Kept pair (if b then p else cleared (resets quiet p.phase) p).ends past
       go true = k
       go false = none-kept past
 
-  echo-kept : (byte : ℕ) (p : Peer) (past : Past) → Kept pair p.ends past → Kept pair (peers.calls_echo byte p).ends past
+  echo-kept : (byte : ℕ) (p : Peer) (past : Past) → Kept pair p.ends past → Kept pair (calls_echo byte p).ends past
   echo-kept byte p past k = go (up p.phase)
     where
-      go : (b : Bool) → Kept pair (if b then peers.echo_called byte p else p).ends past
-      go true = while-up (peers.echo_called byte p).phase p.ends past k
+      go : (b : Bool) → Kept pair (if b then echo_called byte p else p).ends past
+      go true = while-up (echo_called byte p).phase p.ends past k
       go false = k
 
   done-kept : (call : Call) (s : PeerState) (past : Past) → Kept pair s.peer.ends past → Kept pair (called_for call s).peer.ends (past_of_call pair call s past)
-  done-kept (calls_of.Reset peer) s past k = reset-kept (is_quiet s.slots) s.peer past k
-  done-kept (calls_of.AskSend peer local remote size room) s past k = call-kept (sockets local remote) (Ask_to_send size room) s past k
-  done-kept (calls_of.AskReceive peer local remote room) s past k = call-kept (sockets local remote) (Ask_to_receive room) s past k
-  done-kept (calls_of.Give peer p text) s past k = call-kept p (Give text) s past k
-  done-kept (calls_of.Take peer p bytes) s past k = call-kept p (Take bytes) s past k
-  done-kept (calls_of.Allocate peer p messages bits) s past k = call-kept p (Allocate messages bits) s past k
-  done-kept (calls_of.CallBack peer p fm fb) s past k = call-kept p (Call_back fm fb) s past k
-  done-kept (calls_of.Interrupt peer p) s past k = call-kept p Interrupt s past k
-  done-kept (calls_of.Echo peer byte) s past k = echo-kept byte s.peer past k
-  done-kept (calls_of.Close peer p) s past k = call-kept p Close s past k
-  done-kept (calls_of.Wake peer) s past k = k
-  done-kept (calls_of.State peer p) s past k = k
-  done-kept (calls_of.Phase peer) s past k = k
-  done-kept (calls_of.Echoed peer) s past k = k
-  done-kept (calls_of.Errors peer) s past k = k
-  done-kept (calls_of.Counts peer) s past k = k
-  done-kept (calls_of.Waiting peer place) s past k = k
-  done-kept (calls_of.Kept peer link) s past k = k
-  done-kept calls_of.Ignored s past k = k
+  done-kept (Call.Reset peer) s past k = reset-kept (is_quiet s.slots) s.peer past k
+  done-kept (Call.AskSend peer local remote size room) s past k = call-kept (sockets local remote) (Ask_to_send size room) s past k
+  done-kept (Call.AskReceive peer local remote room) s past k = call-kept (sockets local remote) (Ask_to_receive room) s past k
+  done-kept (Call.Give peer p text) s past k = call-kept p (Give text) s past k
+  done-kept (Call.Take peer p bytes) s past k = call-kept p (Take bytes) s past k
+  done-kept (Call.Allocate peer p messages bits) s past k = call-kept p (Allocate messages bits) s past k
+  done-kept (Call.CallBack peer p fm fb) s past k = call-kept p (Call_back fm fb) s past k
+  done-kept (Call.Interrupt peer p) s past k = call-kept p Interrupt s past k
+  done-kept (Call.Echo peer byte) s past k = echo-kept byte s.peer past k
+  done-kept (Call.Close peer p) s past k = call-kept p Close s past k
+  done-kept (Call.Wake peer) s past k = k
+  done-kept (Call.State peer p) s past k = k
+  done-kept (Call.Phase peer) s past k = k
+  done-kept (Call.Echoed peer) s past k = k
+  done-kept (Call.Errors peer) s past k = k
+  done-kept (Call.Counts peer) s past k = k
+  done-kept (Call.Waiting peer place) s past k = k
+  done-kept (Call.Kept peer link) s past k = k
+  done-kept Call.Ignored s past k = k
 
   note-kept : (note : HostNote) (s : PeerState) (past : Past) → Kept pair s.peer.ends past → Kept pair (note_for note s).peer.ends (past_by pair note s past)
-  note-kept (notes.Refused call fault) s past k = k
-  note-kept (notes.Done call) s past k = done-kept call s past k
-  note-kept (notes.Took peer p bytes text) s past k = call-kept p (Take bytes) s past k
-  note-kept (notes.State peer p told) s past k = k
-  note-kept (notes.Phase peer flags) s past k = k
-  note-kept (notes.Echoed peer byte) s past k = k
-  note-kept (notes.Errors peer errors) s past k = k
-  note-kept (notes.Counts peer counts) s past k = k
-  note-kept (notes.Waiting peer place command) s past k = k
-  note-kept (notes.Kept peer link message) s past k = k
-  note-kept (notes.Ignored ignored) s past k = k
-  note-kept (notes.Out message) s past k = sent-kept (leader_in message) message s past k
-  note-kept notes.Nothing s past k = k
-  note-kept (notes.In message told) s past k = bits-kept (leader_in message) message s past k
-  note-kept (notes.Answered peer link how told) s past k = answers-kept link how s past k
+  note-kept (HostNote.Refused call fault) s past k = k
+  note-kept (HostNote.Done call) s past k = done-kept call s past k
+  note-kept (HostNote.Took peer p bytes text) s past k = call-kept p (Take bytes) s past k
+  note-kept (HostNote.State peer p told) s past k = k
+  note-kept (HostNote.Phase peer flags) s past k = k
+  note-kept (HostNote.Echoed peer byte) s past k = k
+  note-kept (HostNote.Errors peer errors) s past k = k
+  note-kept (HostNote.Counts peer counts) s past k = k
+  note-kept (HostNote.Waiting peer place command) s past k = k
+  note-kept (HostNote.Kept peer link message) s past k = k
+  note-kept (HostNote.Ignored ignored) s past k = k
+  note-kept (HostNote.Out message) s past k = sent-kept (leader_in message) message s past k
+  note-kept HostNote.Nothing s past k = k
+  note-kept (HostNote.In message told) s past k = bits-kept (leader_in message) message s past k
+  note-kept (HostNote.Answered peer link how told) s past k = answers-kept link how s past k
 
   pub run-kept : (all : List HostNote) (s : PeerState) (past : Past) → Kept pair s.peer.ends past → Kept pair (notes_for all s).peer.ends (past_from pair all s past)
   run-kept [] s past k = k

@@ -7,7 +7,6 @@ use Rattle.ncp_leader.specs.declared.fault.MessageFault.{MessageFault}
 use Rattle.ncp_leader.specs.Leader.{leader_in}
 use Rattle.ncp_leader.specs.Message.{Message, message_in}
 use Rattle.ncp_terms.specs.declared.command.Command.{Command}
-use Rattle.ncp_terms.specs.declared.command.Command.TheVariants as commands
 use Rattle.ncp_terms.specs.declared.fault.CommandFault.{CommandFault}
 use Rattle.ncp_control.specs.Reading.{commands_in, fault_in}
 use Rattle.ncp_terms.specs.declared.answer.Answer.{Answer}
@@ -15,7 +14,6 @@ use Rattle.ncp_model.specs.declared.pair.Pair.{Pair}
 use Rattle.ncp_model.specs.declared.outcomes.Heard.{Heard}
 use Rattle.ncp_model.specs.declared.outcomes.Heard.TheVariants.{Nothing, Reply, Late, Full}
 use Rattle.ncp_model.specs.declared.outcomes.Took.{Took}
-use Rattle.ncp_model.specs.declared.outcomes.Took.TheVariants as took_of
 use Rattle.ncp_model.specs.declared.limits.TheConstants.{MAX_COUNT, MAX_BY_PEER, MAX_MESSAGES, MAX_AMOUNT}
 use Rattle.ncp_model.specs.Pairs.{sends, receives, is_proper}
 use Rattle.ncp_model.specs.End.{End, or_new}
@@ -29,19 +27,16 @@ use Rattle.ncp_model.specs.Phase.{up}
 use Rattle.ncp_model.specs.Peers.{Peer}
 use Rattle.ncp_host.specs.declared.counts.Counts.{Counts}
 use Rattle.ncp_host.specs.declared.received.Received.{Received}
-use Rattle.ncp_host.specs.declared.received.Received.TheVariants as told_of
 use Rattle.ncp_host.specs.Counting.{one_more, one_more_if, no_counts, is_late, counts_while_up, counts_after, counts_after_fault, counts_of_text}
 use Rattle.ncp_host.specs.PeerState.{PeerState, new_state, control_link, is_answered, answer_taken, answer_comes}
-use Rattle.ncp_host.specs.Hearing.{control_size, control_after, text_after, is_wrong_link, took, hears, hears_all, hears_last, message_after, message_received, answer_received}
+use Rattle.ncp_host.specs.Hearing.{control_size, state_after_control, state_after_text, is_wrong_link, took, state_hears, state_hears_all, hears_last, message_after, message_received, answer_received}
 use Rattle.ncp_host.specs.Host.{state_of, new_host}
 use Rattle.ncp_transcript.specs.declared.call.Call.{Call}
-use Rattle.ncp_transcript.specs.declared.call.Call.TheVariants as calls_of
 use Rattle.ncp_transcript.specs.declared.note.HostNote.{HostNote}
-use Rattle.ncp_transcript.specs.declared.note.HostNote.TheVariants as notes
 use Rattle.ncp_transcript.specs.After.{after_notes}
-use Rattle.ncp_proof_runs.specs.Peers.{FromBeginning, notes_of, called_for, bits_for, out_for, note_for, notes_for}
-use Rattle.ncp_proof_runs.specs.Echoing.{EchoHistory, no_echo, while_up, echo_heard, commands_read, commands_of, echo_by, echoes_told}
-use Rattle.ncp_proof_runs.specs.Counted.{one_if, counted_as, end_named, is_late_end, counted_up, counted_heard, counted_heard_all, fault_read, counted_fault, counted_by, counted_from, counted_of, counts_told}
+use Rattle.ncp_proof_runs.specs.Peers.{FromBeginning, notes_of_peer, called_for, bits_for, out_for, note_for, notes_for}
+use Rattle.ncp_proof_runs.specs.Echoing.{EchoHistory, no_echo, while_up, echo_heard, commands_read, commands_in_message, echo_by, echoes_told}
+use Rattle.ncp_proof_runs.specs.Counted.{one_if, counted_as, end_named, is_late_end, counted_up, counted_heard, counted_heard_all, fault_read, counted_fault, counted_by, counted_from, counted_so_far, counts_capped}
 use Rattle.ncp_proof_runs.proofs.Said.{IsIn, IsSaidOf, IsRunOf}
 use Rattle.ncp_proof_runs.proofs.EachPeer.{each_peer}
 use Rattle.ncp_proof_runs.proofs.InRuns.{is_a_peer, kept_as_noted}
@@ -73,7 +68,7 @@ cls-late pair None = refl
 cls-late pair (Some e) = go e.cls (e.left || e.leaving) (sends pair && e.busy) (receives pair && nat_lt 0 (length e.stored))
   where
     go : (a b c d : Bool)
-        → is_late (answer (if a then errs wrong_parameters (commands.Cls pair.remote pair.local) else if b then Becomes (record e { cls = true }) Nothing else if c then Becomes (record e { cls = true; leaving = true; stored = [] }) Nothing else if d then Becomes (record e { cls = true; leaving = true }) Nothing else Becomes (leaves (record e { cls = true })) (Reply (closing pair)))) ≡ false
+        → is_late (answer (if a then errs wrong_parameters (Command.Cls pair.remote pair.local) else if b then Becomes (record e { cls = true }) Nothing else if c then Becomes (record e { cls = true; leaving = true; stored = [] }) Nothing else if d then Becomes (record e { cls = true; leaving = true }) Nothing else Becomes (leaves (record e { cls = true })) (Reply (closing pair)))) ≡ false
     go true b c d = refl
     go false true c d = refl
     go false false true d = refl
@@ -91,64 +86,64 @@ one-late true x y e f = e
 one-late false x y e f = f
 
 named-late : (c : Command) (m : Ends) → is_late (answer (hear c m)) ≡ is_late_end (end_named c m)
-named-late (commands.All on messages bits) m =
-    at_open-late (commands.All on messages bits) (all_at on messages bits) (sender_on on m)
-    (λ e. one-late (nat_lt MAX_MESSAGES (e.messages + messages) || nat_lt MAX_AMOUNT (e.bits + bits)) (errs wrong_parameters (commands.All on messages bits)) (Becomes (record e { messages = e.messages + messages; bits = e.bits + bits }) Nothing) refl refl)
-named-late (commands.Gvb on fm fb) m = at_open-late (commands.Gvb on fm fb) (gvb_at on fm fb) (sender_on on m) (λ e. refl)
-named-late (commands.Ret on messages bits) m =
-    at_open-late (commands.Ret on messages bits) (ret_at on messages bits) (receiver_on on m)
-    (λ e. one-late (nat_lt e.messages messages || nat_lt e.bits bits) (errs wrong_parameters (commands.Ret on messages bits)) (Becomes (record e { messages = e.messages - messages; bits = e.bits - bits; recall = false }) Nothing) refl refl)
-named-late (commands.Inr on) m = at_open-late (commands.Inr on) interrupted (sender_on on m) (λ e. refl)
-named-late (commands.Ins on) m = at_open-late (commands.Ins on) interrupted (receiver_on on m) (λ e. refl)
-named-late (commands.Rts receive send on) m =
+named-late (Command.All on messages bits) m =
+    at_open-late (Command.All on messages bits) (all_at on messages bits) (sender_on on m)
+    (λ e. one-late (nat_lt MAX_MESSAGES (e.messages + messages) || nat_lt MAX_AMOUNT (e.bits + bits)) (errs wrong_parameters (Command.All on messages bits)) (Becomes (record e { messages = e.messages + messages; bits = e.bits + bits }) Nothing) refl refl)
+named-late (Command.Gvb on fm fb) m = at_open-late (Command.Gvb on fm fb) (gvb_at on fm fb) (sender_on on m) (λ e. refl)
+named-late (Command.Ret on messages bits) m =
+    at_open-late (Command.Ret on messages bits) (ret_at on messages bits) (receiver_on on m)
+    (λ e. one-late (nat_lt e.messages messages || nat_lt e.bits bits) (errs wrong_parameters (Command.Ret on messages bits)) (Becomes (record e { messages = e.messages - messages; bits = e.bits - bits; recall = false }) Nothing) refl refl)
+named-late (Command.Inr on) m = at_open-late (Command.Inr on) interrupted (sender_on on m) (λ e. refl)
+named-late (Command.Ins on) m = at_open-late (Command.Ins on) interrupted (receiver_on on m) (λ e. refl)
+named-late (Command.Rts receive send on) m =
     let pair : Pair = record { local = send; remote = receive } in
     let before : Option End = get m pair in
-    either-late (wrong_rts pair on (any (hears_link on) m) before) (is_none before && nat_le MAX_BY_PEER (count is_by_peer m)) (errs wrong_parameters (commands.Rts receive send on)) (Stays Full) (Becomes (heard_link on (or_new before)) Nothing) refl refl refl
-named-late (commands.Str send receive of_size) m =
+    either-late (wrong_rts pair on (any (hears_link on) m) before) (is_none before && nat_le MAX_BY_PEER (count is_by_peer m)) (errs wrong_parameters (Command.Rts receive send on)) (Stays Full) (Becomes (heard_link on (or_new before)) Nothing) refl refl refl
+named-late (Command.Str send receive of_size) m =
     let pair : Pair = record { local = receive; remote = send } in
     let before : Option End = get m pair in
-    either-late (wrong_str pair of_size before) (is_none before && nat_le MAX_BY_PEER (count is_by_peer m)) (errs wrong_parameters (commands.Str send receive of_size)) (Stays Full) (Becomes (heard_size of_size (or_new before)) Nothing) refl refl refl
-named-late (commands.Cls my your) m =
+    either-late (wrong_str pair of_size before) (is_none before && nat_le MAX_BY_PEER (count is_by_peer m)) (errs wrong_parameters (Command.Str send receive of_size)) (Stays Full) (Becomes (heard_size of_size (or_new before)) Nothing) refl refl refl
+named-late (Command.Cls my your) m =
     let pair : Pair = record { local = your; remote = my } in
-    one-late (not (is_proper pair)) (errs wrong_parameters (commands.Cls my your)) (hear_cls_at pair (get m pair)) refl (cls-late pair (get m pair))
+    one-late (not (is_proper pair)) (errs wrong_parameters (Command.Cls my your)) (hear_cls_at pair (get m pair)) refl (cls-late pair (get m pair))
 named-late c m = refl
 
 -- A command that comes.
 
 module _ (p : Peer) (t : EchoHistory) (n : Counts) (e : p.echoes ≡ echoes_told t) where
-  stray-told : counts_while_up (commands.Erp 0) p (counts_told n) ≡ counts_told (counted_up (commands.Erp 0) p t n)
+  stray-told : counts_while_up (Command.Erp 0) p (counts_capped n) ≡ counts_capped (counted_up (Command.Erp 0) p t n)
   stray-told =
-      ap (λ (x : Echoes). let k : Counts = record (counts_told n) { stray = one_more_if (not x.awaited) (min n.stray MAX_COUNT) } in k) e
-      ∙ ap (λ (j : ℕ). let k : Counts = record (counts_told n) { stray = j } in k) (one-told (not t.asked) n.stray)
+      ap (λ (x : Echoes). let k : Counts = record (counts_capped n) { stray = one_more_if (not x.awaited) (min n.stray MAX_COUNT) } in k) e
+      ∙ ap (λ (j : ℕ). let k : Counts = record (counts_capped n) { stray = j } in k) (one-told (not t.asked) n.stray)
 
-  late-told : (c : Command) → (let k : Counts = record (counts_told n) { late = one_more_if (is_late (answer (hear c p.ends))) (min n.late MAX_COUNT) } in k) ≡ (let k : Counts = record (counts_told n) { late = min (one_if (is_late_end (end_named c p.ends)) n.late) MAX_COUNT } in k)
+  late-told : (c : Command) → (let k : Counts = record (counts_capped n) { late = one_more_if (is_late (answer (hear c p.ends))) (min n.late MAX_COUNT) } in k) ≡ (let k : Counts = record (counts_capped n) { late = min (one_if (is_late_end (end_named c p.ends)) n.late) MAX_COUNT } in k)
   late-told c =
-      ap (λ (b : Bool). let k : Counts = record (counts_told n) { late = one_more_if b (min n.late MAX_COUNT) } in k) (named-late c p.ends)
-      ∙ ap (λ (j : ℕ). let k : Counts = record (counts_told n) { late = j } in k) (one-told (is_late_end (end_named c p.ends)) n.late)
+      ap (λ (b : Bool). let k : Counts = record (counts_capped n) { late = one_more_if b (min n.late MAX_COUNT) } in k) (named-late c p.ends)
+      ∙ ap (λ (j : ℕ). let k : Counts = record (counts_capped n) { late = j } in k) (one-told (is_late_end (end_named c p.ends)) n.late)
 
-  dropped : (x y : Counts) → x ≡ counts_told y → (if up p.phase then x else record (counts_told n) { not_up = one_more (min n.not_up MAX_COUNT) }) ≡ counts_told (if up p.phase then y else record n { not_up = n.not_up + 1 })
+  dropped : (x y : Counts) → x ≡ counts_capped y → (if up p.phase then x else record (counts_capped n) { not_up = one_more (min n.not_up MAX_COUNT) }) ≡ counts_capped (if up p.phase then y else record n { not_up = n.not_up + 1 })
   dropped x y f = go (up p.phase)
     where
-      go : (b : Bool) → (if b then x else record (counts_told n) { not_up = one_more (min n.not_up MAX_COUNT) }) ≡ counts_told (if b then y else record n { not_up = n.not_up + 1 })
+      go : (b : Bool) → (if b then x else record (counts_capped n) { not_up = one_more (min n.not_up MAX_COUNT) }) ≡ counts_capped (if b then y else record n { not_up = n.not_up + 1 })
       go true = f
-      go false = ap (λ (j : ℕ). let k : Counts = record (counts_told n) { not_up = j } in k) (risen n.not_up)
+      go false = ap (λ (j : ℕ). let k : Counts = record (counts_capped n) { not_up = j } in k) (risen n.not_up)
 
-  command-counted : (c : Command) → counts_after c p (counts_told n) ≡ counts_told (counted_heard c p t n)
-  command-counted commands.Rst = refl
-  command-counted commands.Rrp = ap (λ (j : ℕ). let k : Counts = record (counts_told n) { stray = j } in k) (one-told (not p.phase.wait) n.stray)
-  command-counted (commands.Erp byte) = dropped (counts_while_up (commands.Erp byte) p (counts_told n)) (counted_up (commands.Erp byte) p t n) stray-told
-  command-counted c = dropped (counts_while_up c p (counts_told n)) (counted_up c p t n) (late-told c)
+  command-counted : (c : Command) → counts_after c p (counts_capped n) ≡ counts_capped (counted_heard c p t n)
+  command-counted Command.Rst = refl
+  command-counted Command.Rrp = ap (λ (j : ℕ). let k : Counts = record (counts_capped n) { stray = j } in k) (one-told (not p.phase.wait) n.stray)
+  command-counted (Command.Erp byte) = dropped (counts_while_up (Command.Erp byte) p (counts_capped n)) (counted_up (Command.Erp byte) p t n) stray-told
+  command-counted c = dropped (counts_while_up c p (counts_capped n)) (counted_up c p t n) (late-told c)
 
-all-counted : (cs : List Command) (s : PeerState) (t : EchoHistory) (n : Counts) → s.peer.echoes ≡ echoes_told t → s.counts ≡ counts_told n → (hears_all cs s).counts ≡ counts_told (counted_heard_all cs s t n)
+all-counted : (cs : List Command) (s : PeerState) (t : EchoHistory) (n : Counts) → s.peer.echoes ≡ echoes_told t → s.counts ≡ counts_capped n → (state_hears_all cs s).counts ≡ counts_capped (counted_heard_all cs s t n)
 all-counted [] s t n e f = f
 all-counted (c ∷ cs) s t n e f =
-    all-counted cs (hears c s) (while_up s.peer.phase (hears c s).peer.phase (echo_heard (up s.peer.phase) c t)) (counted_heard c s.peer t n)
+    all-counted cs (state_hears c s) (while_up s.peer.phase (state_hears c s).peer.phase (echo_heard (up s.peer.phase) c t)) (counted_heard c s.peer t n)
     (command-heard (is_quiet s.slots) c s.peer t e)
     (ap (counts_after c s.peer) f ∙ command-counted s.peer t n e c)
 
-fault-counted : (fault : Option CommandFault) (s : PeerState) (n : Counts) → s.counts ≡ counts_told n → (hears_last fault s).counts ≡ counts_told (counted_fault fault s.peer n)
+fault-counted : (fault : Option CommandFault) (s : PeerState) (n : Counts) → s.counts ≡ counts_capped n → (hears_last fault s).counts ≡ counts_capped (counted_fault fault s.peer n)
 fault-counted None s n f = f
-fault-counted (Some fault) s n f = ap (counts_after_fault s.peer) f ∙ ap (λ (j : ℕ). let k : Counts = record (counts_told n) { not_up = j } in k) (flipped (up s.peer.phase))
+fault-counted (Some fault) s n f = ap (counts_after_fault s.peer) f ∙ ap (λ (j : ℕ). let k : Counts = record (counts_capped n) { not_up = j } in k) (flipped (up s.peer.phase))
   where
     flipped : (b : Bool) → one_more_if (if b then false else true) (min n.not_up MAX_COUNT) ≡ min (one_if (not b) n.not_up) MAX_COUNT
     flipped true = refl
@@ -156,23 +151,23 @@ fault-counted (Some fault) s n f = ap (counts_after_fault s.peer) f ∙ ap (λ (
 
 -- A text, by what became of it.
 
-text-counted : (k : Took) (n : Counts) → counts_of_text k (counts_told n) ≡ counts_told (counted_as (told_of.Text k) n)
-text-counted took_of.Admitted n = refl
-text-counted took_of.Late n = ap (λ (j : ℕ). let k : Counts = record (counts_told n) { late = j } in k) (risen n.late)
-text-counted took_of.WrongSize n = ap (λ (j : ℕ). let k : Counts = record (counts_told n) { wrong_size = j } in k) (risen n.wrong_size)
-text-counted took_of.Over n = ap (λ (j : ℕ). let k : Counts = record (counts_told n) { over = j } in k) (risen n.over)
-text-counted took_of.NotOpen n = refl
+text-counted : (k : Took) (n : Counts) → counts_of_text k (counts_capped n) ≡ counts_capped (counted_as (Received.Text k) n)
+text-counted Took.Admitted n = refl
+text-counted Took.Late n = ap (λ (j : ℕ). let k : Counts = record (counts_capped n) { late = j } in k) (risen n.late)
+text-counted Took.WrongSize n = ap (λ (j : ℕ). let k : Counts = record (counts_capped n) { wrong_size = j } in k) (risen n.wrong_size)
+text-counted Took.Over n = ap (λ (j : ℕ). let k : Counts = record (counts_capped n) { over = j } in k) (risen n.over)
+text-counted Took.NotOpen n = refl
 
 -- A message, by what the note says became of it.
 
 abbrev came : Option CommandFault → List Command → Received → PeerState → EchoHistory → Counts → Counts
-came fault cs (told_of.Control count) s t n = counted_fault fault (hears_all cs s).peer (counted_heard_all cs s t n)
+came fault cs (Received.Control count) s t n = counted_fault fault (state_hears_all cs s).peer (counted_heard_all cs s t n)
 came fault cs told s t n = counted_as told n
 
-message-counted : (on : ℕ) (bits : List Bool) (o : Result Message MessageFault) (s : PeerState) (t : EchoHistory) (n : Counts) → s.peer.echoes ≡ echoes_told t → s.counts ≡ counts_told n
-    → (message_after on bits o s).counts ≡ counts_told (came (fault_read o) (commands_read o) (message_received on o s) s t n)
+message-counted : (on : ℕ) (bits : List Bool) (o : Result Message MessageFault) (s : PeerState) (t : EchoHistory) (n : Counts) → s.peer.echoes ≡ echoes_told t → s.counts ≡ counts_capped n
+    → (message_after on bits o s).counts ≡ counts_capped (came (fault_read o) (commands_read o) (message_received on o s) s t n)
 message-counted on bits (Err fault) s t n e f =
-    ap (λ (x : Counts). let k : Counts = record x { faults = one_more x.faults } in k) f ∙ ap (λ (j : ℕ). let k : Counts = record (counts_told n) { faults = j } in k) (risen n.faults)
+    ap (λ (x : Counts). let k : Counts = record x { faults = one_more x.faults } in k) f ∙ ap (λ (j : ℕ). let k : Counts = record (counts_capped n) { faults = j } in k) (risen n.faults)
 message-counted on bits (Ok m) s t n e f = go (is_wrong_link on) (on == control_link)
   where
     cs : List Command
@@ -181,91 +176,91 @@ message-counted on bits (Ok m) s t n e f = go (is_wrong_link on) (on == control_
     fault : Option CommandFault
     fault = fault_in (bytes_of m.text)
 
-    control : (b : Bool) → (if b then hears_last fault (hears_all cs s) else record s { counts = record s.counts { wrong_size = one_more s.counts.wrong_size } }).counts
-        ≡ counts_told (came fault cs (if b then told_of.Control (length cs) else told_of.WrongSize) s t n)
-    control true = fault-counted fault (hears_all cs s) (counted_heard_all cs s t n) (all-counted cs s t n e f)
-    control false = ap (λ (x : Counts). let k : Counts = record x { wrong_size = one_more x.wrong_size } in k) f ∙ ap (λ (j : ℕ). let k : Counts = record (counts_told n) { wrong_size = j } in k) (risen n.wrong_size)
+    control : (b : Bool) → (if b then hears_last fault (state_hears_all cs s) else record s { counts = record s.counts { wrong_size = one_more s.counts.wrong_size } }).counts
+        ≡ counts_capped (came fault cs (if b then Received.Control (length cs) else Received.WrongSize) s t n)
+    control true = fault-counted fault (state_hears_all cs s) (counted_heard_all cs s t n) (all-counted cs s t n e f)
+    control false = ap (λ (x : Counts). let k : Counts = record x { wrong_size = one_more x.wrong_size } in k) f ∙ ap (λ (j : ℕ). let k : Counts = record (counts_capped n) { wrong_size = j } in k) (risen n.wrong_size)
 
     text : (b : Bool) → (if b then counts_of_text (took on m s) s.counts else record s.counts { not_up = one_more s.counts.not_up })
-        ≡ counts_told (came fault cs (if b then told_of.Text (took on m s) else told_of.NotUp) s t n)
+        ≡ counts_capped (came fault cs (if b then Received.Text (took on m s) else Received.NotUp) s t n)
     text true = ap (counts_of_text (took on m s)) f ∙ text-counted (took on m s) n
-    text false = ap (λ (x : Counts). let k : Counts = record x { not_up = one_more x.not_up } in k) f ∙ ap (λ (j : ℕ). let k : Counts = record (counts_told n) { not_up = j } in k) (risen n.not_up)
+    text false = ap (λ (x : Counts). let k : Counts = record x { not_up = one_more x.not_up } in k) f ∙ ap (λ (j : ℕ). let k : Counts = record (counts_capped n) { not_up = j } in k) (risen n.not_up)
 
-    go : (a b : Bool) → (if a then record s { counts = record s.counts { wrong_link = one_more s.counts.wrong_link } } else if b then control_after m s else text_after on (take 72 bits) m s).counts
-        ≡ counts_told (came fault cs (if a then told_of.WrongLink else if b then (if m.size == control_size then told_of.Control (length cs) else told_of.WrongSize) else if up s.peer.phase then told_of.Text (took on m s) else told_of.NotUp) s t n)
-    go true b = ap (λ (x : Counts). let k : Counts = record x { wrong_link = one_more x.wrong_link } in k) f ∙ ap (λ (j : ℕ). let k : Counts = record (counts_told n) { wrong_link = j } in k) (risen n.wrong_link)
+    go : (a b : Bool) → (if a then record s { counts = record s.counts { wrong_link = one_more s.counts.wrong_link } } else if b then state_after_control m s else state_after_text on (take 72 bits) m s).counts
+        ≡ counts_capped (came fault cs (if a then Received.WrongLink else if b then (if m.size == control_size then Received.Control (length cs) else Received.WrongSize) else if up s.peer.phase then Received.Text (took on m s) else Received.NotUp) s t n)
+    go true b = ap (λ (x : Counts). let k : Counts = record x { wrong_link = one_more x.wrong_link } in k) f ∙ ap (λ (j : ℕ). let k : Counts = record (counts_capped n) { wrong_link = j } in k) (risen n.wrong_link)
     go false true = control (m.size == control_size)
     go false false = text (up s.peer.phase)
 
-in-case : (message : List Bool) (told : Received) (s : PeerState) (t : EchoHistory) (n : Counts) → counted_by (notes.In message told) s t n ≡ came (fault_read (message_in message)) (commands_of message) told s t n
-in-case message (told_of.Control count) s t n = refl
+in-case : (message : List Bool) (told : Received) (s : PeerState) (t : EchoHistory) (n : Counts) → counted_by (HostNote.In message told) s t n ≡ came (fault_read (message_in message)) (commands_in_message message) told s t n
+in-case message (Received.Control count) s t n = refl
 in-case message told s t n = refl
 
-in-counted : (r : Result Leader Short) (message : List Bool) (told : Received) (s : PeerState) (t : EchoHistory) (n : Counts) → IsIn r message told s → s.peer.echoes ≡ echoes_told t → s.counts ≡ counts_told n
-    → (bits_for r message s).counts ≡ counts_told (came (fault_read (message_in message)) (commands_of message) told s t n)
+in-counted : (r : Result Leader Short) (message : List Bool) (told : Received) (s : PeerState) (t : EchoHistory) (n : Counts) → IsIn r message told s → s.peer.echoes ≡ echoes_told t → s.counts ≡ counts_capped n
+    → (bits_for r message s).counts ≡ counts_capped (came (fault_read (message_in message)) (commands_in_message message) told s t n)
 in-counted (Err short) message told s t n i e f = absurd i
 in-counted (Ok leader) message told s t n i e f =
     message-counted leader.link message (message_in message) s t n e f
-    ∙ ap (λ (x : Received). counts_told (came (fault_read (message_in message)) (commands_of message) x s t n)) (sym i)
+    ∙ ap (λ (x : Received). counts_capped (came (fault_read (message_in message)) (commands_in_message message) x s t n)) (sym i)
 
 -- An answer, by what the note says of it.
 
-answered-counted : (on : ℕ) (how : Answer) (told : Received) (s : PeerState) (n : Counts) → told ≡ answer_received on s → s.counts ≡ counts_told n → (answer_comes on how s).counts ≡ counts_told (counted_as told n)
-answered-counted on how told s n i f = go (is_answered on s) ∙ ap (λ (x : Received). counts_told (counted_as x n)) (sym i)
+answered-counted : (on : ℕ) (how : Answer) (told : Received) (s : PeerState) (n : Counts) → told ≡ answer_received on s → s.counts ≡ counts_capped n → (answer_comes on how s).counts ≡ counts_capped (counted_as told n)
+answered-counted on how told s n i f = go (is_answered on s) ∙ ap (λ (x : Received). counts_capped (counted_as x n)) (sym i)
   where
-    go : (b : Bool) → (if b then answer_taken on how s else record s { counts = record s.counts { stray = one_more s.counts.stray } }).counts ≡ counts_told (counted_as (if b then told_of.Answered else told_of.Stray) n)
+    go : (b : Bool) → (if b then answer_taken on how s else record s { counts = record s.counts { stray = one_more s.counts.stray } }).counts ≡ counts_capped (counted_as (if b then Received.Answered else Received.Stray) n)
     go true = f
-    go false = ap (λ (x : Counts). let k : Counts = record x { stray = one_more x.stray } in k) f ∙ ap (λ (j : ℕ). let k : Counts = record (counts_told n) { stray = j } in k) (risen n.stray)
+    go false = ap (λ (x : Counts). let k : Counts = record x { stray = one_more x.stray } in k) f ∙ ap (λ (j : ℕ). let k : Counts = record (counts_capped n) { stray = j } in k) (risen n.stray)
 
 -- Note by note.
 
 called-counts : (call : Call) (s : PeerState) → (called_for call s).counts ≡ s.counts
-called-counts (calls_of.Reset peer) s = refl
-called-counts (calls_of.AskSend peer local remote size room) s = refl
-called-counts (calls_of.AskReceive peer local remote room) s = refl
-called-counts (calls_of.Give peer pair text) s = refl
-called-counts (calls_of.Take peer pair bytes) s = refl
-called-counts (calls_of.Allocate peer pair messages bits) s = refl
-called-counts (calls_of.CallBack peer pair fm fb) s = refl
-called-counts (calls_of.Interrupt peer pair) s = refl
-called-counts (calls_of.Echo peer byte) s = refl
-called-counts (calls_of.Close peer pair) s = refl
-called-counts (calls_of.Wake peer) s = refl
-called-counts (calls_of.State peer pair) s = refl
-called-counts (calls_of.Phase peer) s = refl
-called-counts (calls_of.Echoed peer) s = refl
-called-counts (calls_of.Errors peer) s = refl
-called-counts (calls_of.Counts peer) s = refl
-called-counts (calls_of.Waiting peer place) s = refl
-called-counts (calls_of.Kept peer link) s = refl
-called-counts calls_of.Ignored s = refl
+called-counts (Call.Reset peer) s = refl
+called-counts (Call.AskSend peer local remote size room) s = refl
+called-counts (Call.AskReceive peer local remote room) s = refl
+called-counts (Call.Give peer pair text) s = refl
+called-counts (Call.Take peer pair bytes) s = refl
+called-counts (Call.Allocate peer pair messages bits) s = refl
+called-counts (Call.CallBack peer pair fm fb) s = refl
+called-counts (Call.Interrupt peer pair) s = refl
+called-counts (Call.Echo peer byte) s = refl
+called-counts (Call.Close peer pair) s = refl
+called-counts (Call.Wake peer) s = refl
+called-counts (Call.State peer pair) s = refl
+called-counts (Call.Phase peer) s = refl
+called-counts (Call.Echoed peer) s = refl
+called-counts (Call.Errors peer) s = refl
+called-counts (Call.Counts peer) s = refl
+called-counts (Call.Waiting peer place) s = refl
+called-counts (Call.Kept peer link) s = refl
+called-counts Call.Ignored s = refl
 
 out-counts : (r : Result Leader Short) (message : List Bool) (s : PeerState) → (out_for r message s).counts ≡ s.counts
 out-counts (Err short) message s = refl
 out-counts (Ok leader) message s = refl
 
-note-counted : (k : ℕ) (note : HostNote) (s : PeerState) (t : EchoHistory) (n : Counts) → IsSaidOf k note s → s.peer.echoes ≡ echoes_told t → s.counts ≡ counts_told n → (note_for note s).counts ≡ counts_told (counted_by note s t n)
-note-counted k (notes.Refused call fault) s t n p e f = f
-note-counted k (notes.Done call) s t n p e f = called-counts call s ∙ f
-note-counted k (notes.Took peer pair bytes text) s t n p e f = f
-note-counted k (notes.State peer pair r) s t n p e f = f
-note-counted k (notes.Phase peer flags) s t n p e f = f
-note-counted k (notes.Echoed peer byte) s t n p e f = f
-note-counted k (notes.Errors peer errors) s t n p e f = f
-note-counted k (notes.Counts peer counts) s t n p e f = f
-note-counted k (notes.Waiting peer place command) s t n p e f = f
-note-counted k (notes.Kept peer link message) s t n p e f = f
-note-counted k (notes.Ignored ignored) s t n p e f = f
-note-counted k (notes.Out message) s t n p e f = out-counts (leader_in message) message s ∙ f
-note-counted k notes.Nothing s t n p e f = f
-note-counted k (notes.In message told) s t n p e f = in-counted (leader_in message) message told s t n p e f ∙ sym (ap counts_told (in-case message told s t n))
-note-counted k (notes.Answered peer link how told) s t n p e f = answered-counted link how told s n p f
+note-counted : (k : ℕ) (note : HostNote) (s : PeerState) (t : EchoHistory) (n : Counts) → IsSaidOf k note s → s.peer.echoes ≡ echoes_told t → s.counts ≡ counts_capped n → (note_for note s).counts ≡ counts_capped (counted_by note s t n)
+note-counted k (HostNote.Refused call fault) s t n p e f = f
+note-counted k (HostNote.Done call) s t n p e f = called-counts call s ∙ f
+note-counted k (HostNote.Took peer pair bytes text) s t n p e f = f
+note-counted k (HostNote.State peer pair r) s t n p e f = f
+note-counted k (HostNote.Phase peer flags) s t n p e f = f
+note-counted k (HostNote.Echoed peer byte) s t n p e f = f
+note-counted k (HostNote.Errors peer errors) s t n p e f = f
+note-counted k (HostNote.Counts peer counts) s t n p e f = f
+note-counted k (HostNote.Waiting peer place command) s t n p e f = f
+note-counted k (HostNote.Kept peer link message) s t n p e f = f
+note-counted k (HostNote.Ignored ignored) s t n p e f = f
+note-counted k (HostNote.Out message) s t n p e f = out-counts (leader_in message) message s ∙ f
+note-counted k HostNote.Nothing s t n p e f = f
+note-counted k (HostNote.In message told) s t n p e f = in-counted (leader_in message) message told s t n p e f ∙ sym (ap counts_capped (in-case message told s t n))
+note-counted k (HostNote.Answered peer link how told) s t n p e f = answered-counted link how told s n p f
 
-run-counted : (k : ℕ) (all : List HostNote) (s : PeerState) (t : EchoHistory) (n : Counts) → IsRunOf k all s → s.peer.echoes ≡ echoes_told t → s.counts ≡ counts_told n → (notes_for all s).counts ≡ counts_told (counted_from all s t n)
+run-counted : (k : ℕ) (all : List HostNote) (s : PeerState) (t : EchoHistory) (n : Counts) → IsRunOf k all s → s.peer.echoes ≡ echoes_told t → s.counts ≡ counts_capped n → (notes_for all s).counts ≡ counts_capped (counted_from all s t n)
 run-counted k [] s t n p e f = f
 run-counted k (note ∷ rest) s t n p e f = run-counted k rest (note_for note s) (echo_by note s t) (counted_by note s t n) p.1 (note-heard k note s t p.0 e) (note-counted k note s t n p.0 e f)
 
-pub counts-noted : (me : ℕ) (ns : List ℕ) (all : List HostNote) (n : ℕ) (s : PeerState) → FromBeginning me ns all → state_of (after_notes all (new_host me ns)) n ≡ Some s → s.counts ≡ counts_told (counted_of (notes_of n all))
+pub counts-noted : (me : ℕ) (ns : List ℕ) (all : List HostNote) (n : ℕ) (s : PeerState) → FromBeginning me ns all → state_of (after_notes all (new_host me ns)) n ≡ Some s → s.counts ≡ counts_capped (counted_so_far (notes_of_peer n all))
 counts-noted me ns all n s from there =
     ap (λ (x : PeerState). x.counts) (kept_as_noted me ns all n s from there)
-    ∙ run-counted n (notes_of n all) new_state no_echo no_counts (each_peer me ns all n from (is_a_peer me ns all n s from there)).run refl refl
+    ∙ run-counted n (notes_of_peer n all) new_state no_echo no_counts (each_peer me ns all n from (is_a_peer me ns all n s from there)).run refl refl

@@ -10,14 +10,12 @@ use Rattle.ncp_host.specs.Hearing.{is_kind, after_bits}
 use Rattle.ncp_host.specs.Host.{Host, state_in, state_of, at_peer, numbers_of, is_one_of, are_distinct, new_host}
 use Rattle.ncp_host.specs.Arrivals.{after_with, after_from, one_other}
 use Rattle.ncp_transcript.specs.declared.call.Call.{Call}
-use Rattle.ncp_transcript.specs.declared.call.Call.TheVariants as calls_of
 use Rattle.ncp_transcript.specs.declared.note.HostNote.{HostNote}
-use Rattle.ncp_transcript.specs.declared.note.HostNote.TheVariants as notes
 use Rattle.ncp_transcript.specs.After.{after_call, after_note, after_notes}
-use Rattle.ncp_transcript.specs.Runs.{IsSaid, IsRun}
-use Rattle.ncp_proof_runs.specs.Peers.{FromBeginning, names, notes_of, note_for, notes_for}
+use Rattle.ncp_transcript.specs.Runs.{IsHostSaid, IsHostRun}
+use Rattle.ncp_proof_runs.specs.Peers.{FromBeginning, names, notes_of_peer, note_for, notes_for}
 use Rattle.ncp_proof_runs.proofs.Said.{IsRunOf}
-use Rattle.ncp_proof_runs.proofs.States.{done, is_there}
+use Rattle.ncp_proof_runs.proofs.States.{done, peer_there}
 use Rattle.ncp_proof_runs.proofs.Ready.{Addressed}
 use Rattle.ncp_proof_runs.proofs.PeerRuns.{addressed-after}
 use Rattle.ncp_proof_runs.proofs.HostRuns.{Holds, some_same, out-turn, note-state, note-said}
@@ -33,25 +31,25 @@ changed-numbers (p ∷ ps) k f = go (p.0 == k) (changed-numbers ps k f)
     go false rest = ap (λ (ns : List ℕ). p.0 ∷ ns) rest
 
 called-numbers : (call : Call) (h : Host) → numbers_of (after_call call h).peers ≡ numbers_of h.peers
-called-numbers (calls_of.Reset peer) h = changed-numbers h.peers peer _
-called-numbers (calls_of.AskSend peer local remote size room) h = changed-numbers h.peers peer _
-called-numbers (calls_of.AskReceive peer local remote room) h = changed-numbers h.peers peer _
-called-numbers (calls_of.Give peer pair text) h = changed-numbers h.peers peer _
-called-numbers (calls_of.Take peer pair bytes) h = changed-numbers h.peers peer _
-called-numbers (calls_of.Allocate peer pair messages bits) h = changed-numbers h.peers peer _
-called-numbers (calls_of.CallBack peer pair fm fb) h = changed-numbers h.peers peer _
-called-numbers (calls_of.Interrupt peer pair) h = changed-numbers h.peers peer _
-called-numbers (calls_of.Echo peer byte) h = changed-numbers h.peers peer _
-called-numbers (calls_of.Close peer pair) h = changed-numbers h.peers peer _
-called-numbers (calls_of.Wake peer) h = changed-numbers h.peers peer _
-called-numbers (calls_of.State peer pair) h = refl
-called-numbers (calls_of.Phase peer) h = refl
-called-numbers (calls_of.Echoed peer) h = refl
-called-numbers (calls_of.Errors peer) h = refl
-called-numbers (calls_of.Counts peer) h = refl
-called-numbers (calls_of.Waiting peer place) h = refl
-called-numbers (calls_of.Kept peer link) h = refl
-called-numbers calls_of.Ignored h = refl
+called-numbers (Call.Reset peer) h = changed-numbers h.peers peer _
+called-numbers (Call.AskSend peer local remote size room) h = changed-numbers h.peers peer _
+called-numbers (Call.AskReceive peer local remote room) h = changed-numbers h.peers peer _
+called-numbers (Call.Give peer pair text) h = changed-numbers h.peers peer _
+called-numbers (Call.Take peer pair bytes) h = changed-numbers h.peers peer _
+called-numbers (Call.Allocate peer pair messages bits) h = changed-numbers h.peers peer _
+called-numbers (Call.CallBack peer pair fm fb) h = changed-numbers h.peers peer _
+called-numbers (Call.Interrupt peer pair) h = changed-numbers h.peers peer _
+called-numbers (Call.Echo peer byte) h = changed-numbers h.peers peer _
+called-numbers (Call.Close peer pair) h = changed-numbers h.peers peer _
+called-numbers (Call.Wake peer) h = changed-numbers h.peers peer _
+called-numbers (Call.State peer pair) h = refl
+called-numbers (Call.Phase peer) h = refl
+called-numbers (Call.Echoed peer) h = refl
+called-numbers (Call.Errors peer) h = refl
+called-numbers (Call.Counts peer) h = refl
+called-numbers (Call.Waiting peer place) h = refl
+called-numbers (Call.Kept peer link) h = refl
+called-numbers Call.Ignored h = refl
 
 bits-numbers : (r : Result Leader Short) (bits : List Bool) (h : Host) → numbers_of (after_with r bits h).peers ≡ numbers_of h.peers
 bits-numbers (Err short) bits h = refl
@@ -62,29 +60,29 @@ bits-numbers (Ok leader) bits h = go (is_kind leader.kind) (state_of h leader.ho
     go true (Some s) = changed-numbers h.peers leader.host (after_bits leader bits)
     go false o = refl
 
-note-numbers : (ns : List ℕ) (note : HostNote) (h : Host) → Holds ns h → IsSaid note h → numbers_of (after_note note h).peers ≡ numbers_of h.peers
-note-numbers ns (notes.Refused call fault) h k p = refl
-note-numbers ns (notes.Done call) h k p = called-numbers call h
-note-numbers ns (notes.Took peer pair bytes text) h k p = changed-numbers h.peers peer _
-note-numbers ns (notes.State peer pair r) h k p = refl
-note-numbers ns (notes.Phase peer flags) h k p = refl
-note-numbers ns (notes.Echoed peer byte) h k p = refl
-note-numbers ns (notes.Errors peer errors) h k p = refl
-note-numbers ns (notes.Counts peer counts) h k p = refl
-note-numbers ns (notes.Waiting peer place command) h k p = refl
-note-numbers ns (notes.Kept peer link message) h k p = refl
-note-numbers ns (notes.Ignored ignored) h k p = refl
-note-numbers ns (notes.Out message) h k p = let t = out-turn ns h message k p in ap numbers_of t.after ∙ changed-numbers h.peers t.n _
-note-numbers ns notes.Nothing h k p = refl
-note-numbers ns (notes.In message received) h k p = bits-numbers (leader_in message) message h
-note-numbers ns (notes.Answered peer link how received) h k p = changed-numbers h.peers peer _
+note-numbers : (ns : List ℕ) (note : HostNote) (h : Host) → Holds ns h → IsHostSaid note h → numbers_of (after_note note h).peers ≡ numbers_of h.peers
+note-numbers ns (HostNote.Refused call fault) h k p = refl
+note-numbers ns (HostNote.Done call) h k p = called-numbers call h
+note-numbers ns (HostNote.Took peer pair bytes text) h k p = changed-numbers h.peers peer _
+note-numbers ns (HostNote.State peer pair r) h k p = refl
+note-numbers ns (HostNote.Phase peer flags) h k p = refl
+note-numbers ns (HostNote.Echoed peer byte) h k p = refl
+note-numbers ns (HostNote.Errors peer errors) h k p = refl
+note-numbers ns (HostNote.Counts peer counts) h k p = refl
+note-numbers ns (HostNote.Waiting peer place command) h k p = refl
+note-numbers ns (HostNote.Kept peer link message) h k p = refl
+note-numbers ns (HostNote.Ignored ignored) h k p = refl
+note-numbers ns (HostNote.Out message) h k p = let t = out-turn ns h message k p in ap numbers_of t.after ∙ changed-numbers h.peers t.n _
+note-numbers ns HostNote.Nothing h k p = refl
+note-numbers ns (HostNote.In message received) h k p = bits-numbers (leader_in message) message h
+note-numbers ns (HostNote.Answered peer link how received) h k p = changed-numbers h.peers peer _
 
 -- each of its peers was there before, and is as the note made it
 was_there : (b : Bool) (f : PeerState → PeerState) (o : Option PeerState) (now : PeerState) → done b f o ≡ Some now → (s : PeerState) × (o ≡ Some s) × (now ≡ (if b then f s else s))
 was_there b f None now e = absurd (cc)
 was_there b f (Some s) now e = (s, refl, sym (some_same e))
 
-pub holds-after : (ns : List ℕ) (note : HostNote) (h : Host) → Holds ns h → IsSaid note h → Holds ns (after_note note h)
+pub holds-after : (ns : List ℕ) (note : HostNote) (h : Host) → Holds ns h → IsHostSaid note h → Holds ns (after_note note h)
 holds-after ns note h k p = record { distinct = k.distinct; numbers = note-numbers ns note h k p ∙ k.numbers; good = good }
   where
     good : (n : ℕ) (now : PeerState) → state_of (after_note note h) n ≡ Some now → (n < 256) × Addressed n now
@@ -102,10 +100,10 @@ holds-after ns note h k p = record { distinct = k.distinct; numbers = note-numbe
 
 -- the notes of a peer are all that matters to it, and they are a run
 pub record Apart (n : ℕ) (all : List HostNote) (h : Host) (s : PeerState) : Type 0 where
-  pub state : state_of (after_notes all h) n ≡ Some (notes_for (notes_of n all) s)
-  pub run : IsRunOf n (notes_of n all) s
+  pub state : state_of (after_notes all h) n ≡ Some (notes_for (notes_of_peer n all) s)
+  pub run : IsRunOf n (notes_of_peer n all) s
 
-pub apart : (ns : List ℕ) (all : List HostNote) (h : Host) (n : ℕ) (s : PeerState) → Holds ns h → IsRun all h → state_of h n ≡ Some s → Apart n all h s
+pub apart : (ns : List ℕ) (all : List HostNote) (h : Host) (n : ℕ) (s : PeerState) → Holds ns h → IsHostRun all h → state_of h n ≡ Some s → Apart n all h s
 apart ns [] h n s k p e = record { state = e; run = tt }
 apart ns (note ∷ rest) h n s k p e = go (names n note) refl (λ next there. apart ns rest (after_note note h) n next (holds-after ns note h k p.0) p.1 there)
   where
@@ -115,14 +113,14 @@ apart ns (note ∷ rest) h n s k p e = go (names n note) refl (λ next there. ap
     go : (b : Bool) → names n note ≡ b → ((next : PeerState) → state_of (after_note note h) n ≡ Some next → Apart n rest (after_note note h) next) → Apart n (note ∷ rest) h s
     go true g more =
         let r = more (note_for note s) (told true g) in
-        let is : notes_of n (note ∷ rest) ≡ note ∷ notes_of n rest = ap (λ (c : Bool). cond c (note ∷ notes_of n rest) (notes_of n rest)) g in
+        let is : notes_of_peer n (note ∷ rest) ≡ note ∷ notes_of_peer n rest = ap (λ (c : Bool). cond c (note ∷ notes_of_peer n rest) (notes_of_peer n rest)) g in
         record {
           state = r.state ∙ ap (λ (xs : List HostNote). Some (notes_for xs s)) (sym is);
           run = subst (λ (xs : List HostNote). IsRunOf n xs s) (sym is) (note-said ns note h n s k p.0 e g, r.run);
         }
     go false g more =
         let r = more s (told false g) in
-        let is : notes_of n (note ∷ rest) ≡ notes_of n rest = ap (λ (c : Bool). cond c (note ∷ notes_of n rest) (notes_of n rest)) g in
+        let is : notes_of_peer n (note ∷ rest) ≡ notes_of_peer n rest = ap (λ (c : Bool). cond c (note ∷ notes_of_peer n rest) (notes_of_peer n rest)) g in
         record {
           state = r.state ∙ ap (λ (xs : List HostNote). Some (notes_for xs s)) (sym is);
           run = subst (λ (xs : List HostNote). IsRunOf n xs s) (sym is) r.run;
@@ -158,7 +156,7 @@ new-holds me ns d l = record {
   distinct = d;
   numbers = new-numbers ns;
   good = λ n s e. (
-    l n (ap (is_one_of n) (sym (new-numbers ns)) ∙ is_there (map (λ n. (n, new_state)) ns) n s e),
+    l n (ap (is_one_of n) (sym (new-numbers ns)) ∙ peer_there (map (λ n. (n, new_state)) ns) n s e),
     subst (λ (x : PeerState). Addressed n x) (sym (only-new ns n s e)) (new-addressed n),
   );
 }

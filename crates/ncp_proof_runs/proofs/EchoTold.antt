@@ -9,7 +9,6 @@ use Rattle.ncp_leader.specs.declared.fault.MessageFault.{MessageFault}
 use Rattle.ncp_leader.specs.Leader.{leader_in}
 use Rattle.ncp_leader.specs.Message.{Message, message_in}
 use Rattle.ncp_terms.specs.declared.command.Command.{Command}
-use Rattle.ncp_terms.specs.declared.command.Command.TheVariants as commands
 use Rattle.ncp_terms.specs.declared.fault.CommandFault.{CommandFault}
 use Rattle.ncp_control.specs.Reading.{commands_in, fault_in}
 use Rattle.ncp_slot.specs.declared.slot.Slot.TheVariants.{Empty, Ready, Travelling, Held}
@@ -22,29 +21,24 @@ use Rattle.ncp_model.specs.declared.call_fault.CallFault.TheVariants.{Busy, Queu
 use Rattle.ncp_model.specs.declared.pair.Pair.{Pair}
 use Rattle.ncp_model.specs.declared.outcomes.Error.{Error}
 use Rattle.ncp_model.specs.Act.{answer, made_if_any}
-use Rattle.ncp_model.specs.Texts as texts
+use Rattle.ncp_model.specs.Texts
 use Rattle.ncp_model.specs.Ends.{answered_in}
 use Rattle.ncp_model.specs.Echo.{Echoes, echo_answer, echo_asked, hear_erp, hear_err, purge_echo}
 use Rattle.ncp_model.specs.Sending.{is_full}
-use Rattle.ncp_model.specs.Phase.{Phase, Reaction, up, is_rst, is_rrp, is_other, is_resetting, has_place, wants_reset, owes_answer, goes_down, queued, answers, asks, hears_rrp, hears_rst, reset_answer}
-use Rattle.ncp_model.specs.Phase as phases
-use Rattle.ncp_model.specs.Peers.{Peer, Ask_to_send, Ask_to_receive, Close, Give, Take, Allocate, Call_back, Interrupt, kept_echoes, echoes_after, accepted, reply_of_echo}
-use Rattle.ncp_model.specs.Peers as peers
+use Rattle.ncp_model.specs.Phase.{Phase, Reaction, up, is_rst, is_rrp, is_other, is_resetting, has_place, wants_reset, owes_answer, goes_down, queued, phase_answers, phase_asks, hears_rrp, hears_rst, reset_answer, phase_settles, resets}
+use Rattle.ncp_model.specs.Peers.{Peer, Ask_to_send, Ask_to_receive, Close, Give, Take, Allocate, Call_back, Interrupt, kept_echoes, echoes_after, call_accepted, reply_of_echo, PairCall, calls, calls_echo, calls_reset, calls_up, cleared, cuts, echo_called, frees, frees_up, hears, hears_other, makes, peer_sends, takes_text}
 use Rattle.ncp_host.specs.declared.received.Received.{Received}
-use Rattle.ncp_host.specs.declared.received.Received.TheVariants as told_of
 use Rattle.ncp_host.specs.Counting.{one_more}
 use Rattle.ncp_host.specs.PeerState.{PeerState, new_state, control_link, after_answer, is_answered, answer_taken, answer_comes}
-use Rattle.ncp_host.specs.Hearing.{control_size, control_after, text_after, is_wrong_link, took, hears, hears_all, hears_last, message_after, message_received}
+use Rattle.ncp_host.specs.Hearing.{control_size, state_after_control, state_after_text, is_wrong_link, took, state_hears, state_hears_all, hears_last, message_after, message_received}
 use Rattle.ncp_host.specs.Output.{after_by}
 use Rattle.ncp_host.specs.Host.{state_of, new_host}
 use Rattle.ncp_host.specs.Calls.{sockets}
 use Rattle.ncp_transcript.specs.declared.call.Call.{Call}
-use Rattle.ncp_transcript.specs.declared.call.Call.TheVariants as calls_of
 use Rattle.ncp_transcript.specs.declared.note.HostNote.{HostNote}
-use Rattle.ncp_transcript.specs.declared.note.HostNote.TheVariants as notes
 use Rattle.ncp_transcript.specs.After.{after_notes}
-use Rattle.ncp_proof_runs.specs.Peers.{FromBeginning, notes_of, called_for, bits_for, out_for, note_for, notes_for}
-use Rattle.ncp_proof_runs.specs.Echoing.{EchoHistory, no_echo, echo_accepted, echo_cleared, erp_came, err_came, while_up, echo_done, echo_heard, echo_heard_all, commands_read, commands_of, echo_by, echo_from, echo_of, last_of, echoes_told}
+use Rattle.ncp_proof_runs.specs.Peers.{FromBeginning, notes_of_peer, called_for, bits_for, out_for, note_for, notes_for}
+use Rattle.ncp_proof_runs.specs.Echoing.{EchoHistory, no_echo, echo_accepted, echo_cleared, erp_came, err_came, while_up, echo_done, echo_heard, echo_heard_all, commands_read, commands_in_message, echo_by, echo_from, echo_of, last_of, echoes_told}
 use Rattle.ncp_proof_runs.proofs.Said.{IsDone, IsIn, IsSaidOf, IsRunOf}
 use Rattle.ncp_proof_runs.proofs.EachPeer.{each_peer}
 use Rattle.ncp_proof_runs.proofs.InRuns.{is_a_peer, kept_as_noted}
@@ -134,42 +128,42 @@ rrp-up p e = go p.down p.want p.owe p.wait e
     go true b c d e = absurd (cc)
 
 -- where no RST is wanted and no RRP is owed, settling makes nothing
-settled : (quiet : Bool) (p : Phase) → Clear p → phases.settles quiet p ≡ p
-settled true p k = ap asks (no-answer p.owe k.1) ∙ no-rst p.want k.0
+settled : (quiet : Bool) (p : Phase) → Clear p → phase_settles quiet p ≡ p
+settled true p k = ap phase_asks (no-answer p.owe k.1) ∙ no-rst p.want k.0
   where
-    no-answer : (b : Bool) → b ≡ false → (if b then record p { down = false; owe = false; waiting = if list_any is_rrp p.waiting then p.waiting else p.waiting ++ commands.Rrp ∷ [] } else p) ≡ p
+    no-answer : (b : Bool) → b ≡ false → (if b then record p { down = false; owe = false; waiting = if list_any is_rrp p.waiting then p.waiting else p.waiting ++ Command.Rrp ∷ [] } else p) ≡ p
     no-answer false e = refl
     no-answer true e = absurd (cc)
 
-    no-rst : (b : Bool) → b ≡ false → (if b then record p { down = false; want = false; wait = true; waiting = if list_any is_rst p.waiting then p.waiting else p.waiting ++ commands.Rst ∷ [] } else p) ≡ p
+    no-rst : (b : Bool) → b ≡ false → (if b then record p { down = false; want = false; wait = true; waiting = if list_any is_rst p.waiting then p.waiting else p.waiting ++ Command.Rst ∷ [] } else p) ≡ p
     no-rst false e = refl
     no-rst true e = absurd (cc)
 settled false p k = refl
 
 -- By calls.
 
-pair-call : (pair : Pair) (call : peers.Call) (p : Peer) (t : EchoHistory) → p.echoes ≡ echoes_told t → (peers.calls pair call p).echoes ≡ echoes_told (while_up p.phase (peers.calls pair call p).phase t)
-pair-call pair call p t e = passes p (peers.calls_up pair call p) t refl e
+pair-call : (pair : Pair) (call : PairCall) (p : Peer) (t : EchoHistory) → p.echoes ≡ echoes_told t → (calls pair call p).echoes ≡ echoes_told (while_up p.phase (calls pair call p).phase t)
+pair-call pair call p t e = passes p (calls_up pair call p) t refl e
 
 -- an echo that was accepted found the host up, a place, and none awaited
 pub accepted-echo : (byte : ℕ) (p : Peer) → reply_of_echo byte p ≡ Ok tt → (up p.phase ≡ true) × (is_full p.phase ≡ false) × (p.echoes.awaited ≡ false)
 accepted-echo byte p e = go (up p.phase) refl e
   where
-    inner : (a b : Bool) → accepted (if a then Err Busy else if b then Err QueueFull else Ok (commands.Eco byte)) ≡ Ok tt → (b ≡ false) × (a ≡ false)
+    inner : (a b : Bool) → call_accepted (if a then Err Busy else if b then Err QueueFull else Ok (Command.Eco byte)) ≡ Ok tt → (b ≡ false) × (a ≡ false)
     inner true b e = absurd (cc)
     inner false true e = absurd (cc)
     inner false false e = (refl, refl)
 
-    go : (b : Bool) → up p.phase ≡ b → (if b then accepted (echo_answer byte (is_full p.phase) p.echoes) else Err NotUp) ≡ Ok tt → (up p.phase ≡ true) × (is_full p.phase ≡ false) × (p.echoes.awaited ≡ false)
+    go : (b : Bool) → up p.phase ≡ b → (if b then call_accepted (echo_answer byte (is_full p.phase) p.echoes) else Err NotUp) ≡ Ok tt → (up p.phase ≡ true) × (is_full p.phase ≡ false) × (p.echoes.awaited ≡ false)
     go true f e = let w = inner p.echoes.awaited (is_full p.phase) e in (f, w.0, w.1)
     go false f e = absurd (cc)
 
 echo-call : (byte : ℕ) (p : Peer) (t : EchoHistory) → reply_of_echo byte p ≡ Ok tt → p.echoes ≡ echoes_told t
-    → (peers.calls_echo byte p).echoes ≡ echoes_told (while_up p.phase (peers.calls_echo byte p).phase (echo_accepted t))
+    → (calls_echo byte p).echoes ≡ echoes_told (while_up p.phase (calls_echo byte p).phase (echo_accepted t))
 echo-call byte p t r e = go (up p.phase) (accepted-echo byte p r).0
   where
     now : Peer
-    now = peers.echo_called byte p
+    now = echo_called byte p
 
     asked : (b : Bool) → b ≡ false → echo_asked b p.echoes ≡ echoes_told (echo_accepted t)
     asked true f = absurd (cc)
@@ -184,70 +178,70 @@ echo-call byte p t r e = go (up p.phase) (accepted-echo byte p r).0
     go false f = absurd (cc)
 
 reset-call : (quiet : Bool) (p : Peer) (t : EchoHistory) → reset_answer p.phase ≡ Ok tt → p.echoes ≡ echoes_told t
-    → (peers.calls_reset quiet p).echoes ≡ echoes_told (while_up p.phase (peers.calls_reset quiet p).phase (echo_cleared t))
+    → (calls_reset quiet p).echoes ≡ echoes_told (while_up p.phase (calls_reset quiet p).phase (echo_cleared t))
 reset-call quiet p t r e = go (is_resetting p.phase) r
   where
     go : (b : Bool) → (let r : Result (Unit {0}) CallFault = if b then Err Busy else Ok tt in r) ≡ Ok tt
-        → (if b then p else peers.cleared (phases.resets quiet p.phase) p).echoes ≡ echoes_told (while_up p.phase (if b then p else peers.cleared (phases.resets quiet p.phase) p).phase (echo_cleared t))
+        → (if b then p else cleared (resets quiet p.phase) p).echoes ≡ echoes_told (while_up p.phase (if b then p else cleared (resets quiet p.phase) p).phase (echo_cleared t))
     go true f = absurd (cc)
-    go false f = clears p.phase (phases.resets quiet p.phase) p.echoes t e
+    go false f = clears p.phase (resets quiet p.phase) p.echoes t e
 
 same-phase : (p : Peer) (t : EchoHistory) → p.echoes ≡ echoes_told t → p.echoes ≡ echoes_told (while_up p.phase p.phase t)
 same-phase p t e = e ∙ ap echoes_told (stays p.phase p.phase t (λ u. u))
 
 called : (call : Call) (s : PeerState) (t : EchoHistory) → IsDone call s → s.peer.echoes ≡ echoes_told t
     → (called_for call s).peer.echoes ≡ echoes_told (while_up s.peer.phase (called_for call s).peer.phase (echo_done call t))
-called (calls_of.Reset peer) s t d e = reset-call (is_quiet s.slots) s.peer t d e
-called (calls_of.AskSend peer local remote size room) s t d e = pair-call (sockets local remote) (Ask_to_send size room) s.peer t e
-called (calls_of.AskReceive peer local remote room) s t d e = pair-call (sockets local remote) (Ask_to_receive room) s.peer t e
-called (calls_of.Give peer pair text) s t d e = pair-call pair (Give text) s.peer t e
-called (calls_of.Take peer pair bytes) s t d e = pair-call pair (Take bytes) s.peer t e
-called (calls_of.Allocate peer pair messages bits) s t d e = pair-call pair (Allocate messages bits) s.peer t e
-called (calls_of.CallBack peer pair fm fb) s t d e = pair-call pair (Call_back fm fb) s.peer t e
-called (calls_of.Interrupt peer pair) s t d e = pair-call pair Interrupt s.peer t e
-called (calls_of.Echo peer byte) s t d e = echo-call byte s.peer t d e
-called (calls_of.Close peer pair) s t d e = pair-call pair Close s.peer t e
-called (calls_of.Wake peer) s t d e = same-phase s.peer t e
-called (calls_of.State peer pair) s t d e = same-phase s.peer t e
-called (calls_of.Phase peer) s t d e = same-phase s.peer t e
-called (calls_of.Echoed peer) s t d e = same-phase s.peer t e
-called (calls_of.Errors peer) s t d e = same-phase s.peer t e
-called (calls_of.Counts peer) s t d e = same-phase s.peer t e
-called (calls_of.Waiting peer place) s t d e = same-phase s.peer t e
-called (calls_of.Kept peer link) s t d e = same-phase s.peer t e
-called calls_of.Ignored s t d e = same-phase s.peer t e
+called (Call.Reset peer) s t d e = reset-call (is_quiet s.slots) s.peer t d e
+called (Call.AskSend peer local remote size room) s t d e = pair-call (sockets local remote) (Ask_to_send size room) s.peer t e
+called (Call.AskReceive peer local remote room) s t d e = pair-call (sockets local remote) (Ask_to_receive room) s.peer t e
+called (Call.Give peer pair text) s t d e = pair-call pair (Give text) s.peer t e
+called (Call.Take peer pair bytes) s t d e = pair-call pair (Take bytes) s.peer t e
+called (Call.Allocate peer pair messages bits) s t d e = pair-call pair (Allocate messages bits) s.peer t e
+called (Call.CallBack peer pair fm fb) s t d e = pair-call pair (Call_back fm fb) s.peer t e
+called (Call.Interrupt peer pair) s t d e = pair-call pair Interrupt s.peer t e
+called (Call.Echo peer byte) s t d e = echo-call byte s.peer t d e
+called (Call.Close peer pair) s t d e = pair-call pair Close s.peer t e
+called (Call.Wake peer) s t d e = same-phase s.peer t e
+called (Call.State peer pair) s t d e = same-phase s.peer t e
+called (Call.Phase peer) s t d e = same-phase s.peer t e
+called (Call.Echoed peer) s t d e = same-phase s.peer t e
+called (Call.Errors peer) s t d e = same-phase s.peer t e
+called (Call.Counts peer) s t d e = same-phase s.peer t e
+called (Call.Waiting peer place) s t d e = same-phase s.peer t e
+called (Call.Kept peer link) s t d e = same-phase s.peer t e
+called Call.Ignored s t d e = same-phase s.peer t e
 
 -- By commands that come.
 
 pub command-heard : (quiet : Bool) (c : Command) (p : Peer) (t : EchoHistory) → p.echoes ≡ echoes_told t
-    → (peers.hears quiet c p).echoes ≡ echoes_told (while_up p.phase (peers.hears quiet c p).phase (echo_heard (up p.phase) c t))
-command-heard quiet commands.Rst p t e = clears p.phase (hears_rst quiet p.phase) p.echoes t e
-command-heard quiet commands.Rrp p t e = e ∙ ap echoes_told (no-other (up p.phase)) ∙ ap echoes_told (stays p.phase (hears_rrp p.phase) (if up p.phase then t else t) (rrp-up p.phase))
+    → (hears quiet c p).echoes ≡ echoes_told (while_up p.phase (hears quiet c p).phase (echo_heard (up p.phase) c t))
+command-heard quiet Command.Rst p t e = clears p.phase (hears_rst quiet p.phase) p.echoes t e
+command-heard quiet Command.Rrp p t e = e ∙ ap echoes_told (no-other (up p.phase)) ∙ ap echoes_told (stays p.phase (hears_rrp p.phase) (if up p.phase then t else t) (rrp-up p.phase))
   where
     no-other : (b : Bool) → t ≡ (if b then t else t)
     no-other true = refl
     no-other false = refl
-command-heard quiet (commands.Erp byte) p t e = happens p (peers.hears_other quiet (commands.Erp byte) p) (hear_erp byte p.echoes) t (erp_came byte t) refl (ap (hear_erp byte) e) e
-command-heard quiet (commands.Err code bytes) p t e =
+command-heard quiet (Command.Erp byte) p t e = happens p (hears_other quiet (Command.Erp byte) p) (hear_erp byte p.echoes) t (erp_came byte t) refl (ap (hear_erp byte) e) e
+command-heard quiet (Command.Err code bytes) p t e =
     let error : Error = record { code = code; bytes = bytes } in
-    happens p (peers.hears_other quiet (commands.Err code bytes) p) (hear_err error p.echoes) t (err_came error t) refl
+    happens p (hears_other quiet (Command.Err code bytes) p) (hear_err error p.echoes) t (err_came error t) refl
     (ap (hear_err error) e ∙ ap (λ (xs : List Error). let x : Echoes = record { awaited = t.asked; echoed = t.byte; errors = xs } in x) (last-again error t.errors)) e
-command-heard quiet c p t e = happens p (peers.hears_other quiet c p) p.echoes t t refl e e
+command-heard quiet c p t e = happens p (hears_other quiet c p) p.echoes t t refl e e
 
-heard-all : (cs : List Command) (s : PeerState) (t : EchoHistory) → s.peer.echoes ≡ echoes_told t → (hears_all cs s).peer.echoes ≡ echoes_told (echo_heard_all cs s t)
+heard-all : (cs : List Command) (s : PeerState) (t : EchoHistory) → s.peer.echoes ≡ echoes_told t → (state_hears_all cs s).peer.echoes ≡ echoes_told (echo_heard_all cs s t)
 heard-all [] s t e = e
 heard-all (c ∷ cs) s t e =
-    heard-all cs (hears c s) (while_up s.peer.phase (hears c s).peer.phase (echo_heard (up s.peer.phase) c t)) (command-heard (is_quiet s.slots) c s.peer t e)
+    heard-all cs (state_hears c s) (while_up s.peer.phase (state_hears c s).peer.phase (echo_heard (up s.peer.phase) c t)) (command-heard (is_quiet s.slots) c s.peer t e)
 
 last-heard : (fault : Option CommandFault) (s : PeerState) (t : EchoHistory) → s.peer.echoes ≡ echoes_told t → (hears_last fault s).peer.echoes ≡ echoes_told (while_up s.peer.phase (hears_last fault s).peer.phase t)
 last-heard None s t e = same-phase s.peer t e
-last-heard (Some fault) s t e = passes s.peer (peers.makes (commands.Err fault.code fault.bytes ∷ []) s.peer) t refl e
+last-heard (Some fault) s t e = passes s.peer (makes (Command.Err fault.code fault.bytes ∷ []) s.peer) t refl e
 
 -- By messages that come: what the note says became of one tells the case.
 
 -- what is told of a message with this outcome, of the commands of it, at the state after it
 abbrev came : List Command → Received → PeerState → PeerState → EchoHistory → EchoHistory
-came cs (told_of.Control count) s now t = while_up (hears_all cs s).peer.phase now.peer.phase (echo_heard_all cs s t)
+came cs (Received.Control count) s now t = while_up (state_hears_all cs s).peer.phase now.peer.phase (echo_heard_all cs s t)
 came cs told s now t = while_up s.peer.phase now.peer.phase t
 
 message-heard : (on : ℕ) (bits : List Bool) (o : Result Message MessageFault) (s : PeerState) (t : EchoHistory) → s.peer.echoes ≡ echoes_told t
@@ -258,21 +252,21 @@ message-heard on bits (Ok m) s t e = go (is_wrong_link on) (on == control_link)
     cs : List Command
     cs = commands_in (bytes_of m.text)
 
-    control : (b : Bool) → (if b then hears_last (fault_in (bytes_of m.text)) (hears_all cs s) else record s { counts = record s.counts { wrong_size = one_more s.counts.wrong_size } }).peer.echoes
-        ≡ echoes_told (came cs (if b then told_of.Control (length cs) else told_of.WrongSize) s (if b then hears_last (fault_in (bytes_of m.text)) (hears_all cs s) else record s { counts = record s.counts { wrong_size = one_more s.counts.wrong_size } }) t)
-    control true = last-heard (fault_in (bytes_of m.text)) (hears_all cs s) (echo_heard_all cs s t) (heard-all cs s t e)
+    control : (b : Bool) → (if b then hears_last (fault_in (bytes_of m.text)) (state_hears_all cs s) else record s { counts = record s.counts { wrong_size = one_more s.counts.wrong_size } }).peer.echoes
+        ≡ echoes_told (came cs (if b then Received.Control (length cs) else Received.WrongSize) s (if b then hears_last (fault_in (bytes_of m.text)) (state_hears_all cs s) else record s { counts = record s.counts { wrong_size = one_more s.counts.wrong_size } }) t)
+    control true = last-heard (fault_in (bytes_of m.text)) (state_hears_all cs s) (echo_heard_all cs s t) (heard-all cs s t e)
     control false = same-phase s.peer t e
 
-    text : (b : Bool) → came cs (if b then told_of.Text (took on m s) else told_of.NotUp) s (text_after on (take 72 bits) m s) t ≡ while_up s.peer.phase (text_after on (take 72 bits) m s).peer.phase t
+    text : (b : Bool) → came cs (if b then Received.Text (took on m s) else Received.NotUp) s (state_after_text on (take 72 bits) m s) t ≡ while_up s.peer.phase (state_after_text on (take 72 bits) m s).peer.phase t
     text true = refl
     text false = refl
 
-    go : (a b : Bool) → (if a then record s { counts = record s.counts { wrong_link = one_more s.counts.wrong_link } } else if b then control_after m s else text_after on (take 72 bits) m s).peer.echoes
-        ≡ echoes_told (came cs (if a then told_of.WrongLink else if b then (if m.size == control_size then told_of.Control (length cs) else told_of.WrongSize) else if up s.peer.phase then told_of.Text (took on m s) else told_of.NotUp) s
-        (if a then record s { counts = record s.counts { wrong_link = one_more s.counts.wrong_link } } else if b then control_after m s else text_after on (take 72 bits) m s) t)
+    go : (a b : Bool) → (if a then record s { counts = record s.counts { wrong_link = one_more s.counts.wrong_link } } else if b then state_after_control m s else state_after_text on (take 72 bits) m s).peer.echoes
+        ≡ echoes_told (came cs (if a then Received.WrongLink else if b then (if m.size == control_size then Received.Control (length cs) else Received.WrongSize) else if up s.peer.phase then Received.Text (took on m s) else Received.NotUp) s
+        (if a then record s { counts = record s.counts { wrong_link = one_more s.counts.wrong_link } } else if b then state_after_control m s else state_after_text on (take 72 bits) m s) t)
     go true b = same-phase s.peer t e
     go false true = control (m.size == control_size)
-    go false false = passes s.peer (peers.takes_text on (take 72 bits) m.size m.text s.peer) t refl e ∙ sym (ap echoes_told (text (up s.peer.phase)))
+    go false false = passes s.peer (takes_text on (take 72 bits) m.size m.text s.peer) t refl e ∙ sym (ap echoes_told (text (up s.peer.phase)))
 
 -- By answers.
 
@@ -280,15 +274,15 @@ answer-heard : (on : ℕ) (how : Answer) (slots : LinkSlots) (p : Peer) (t : Ech
 answer-heard on Rfnm slots p t e = at (on == control_link)
   where
     -- a text was taken
-    freed : (b : Bool) → up p.phase ≡ b → (if b then peers.frees_up on p else p).echoes ≡ echoes_told (if b then (if up (phases.settles (is_quiet slots) (if b then peers.frees_up on p else p).phase) then t else echo_cleared t) else t)
+    freed : (b : Bool) → up p.phase ≡ b → (if b then frees_up on p else p).echoes ≡ echoes_told (if b then (if up (phase_settles (is_quiet slots) (if b then frees_up on p else p).phase) then t else echo_cleared t) else t)
     freed true u =
-        let now : Peer = peers.frees_up on p in
+        let now : Peer = frees_up on p in
         standing now.phase p.echoes t e
-        ∙ ap (λ (q : Phase). echoes_told (if up q then t else echo_cleared t)) (sym (settled (is_quiet slots) now.phase (makes-clear (made_if_any (answer (answered_in on texts.Rfnm p.ends))) p.phase (up-clear p.phase u))))
+        ∙ ap (λ (q : Phase). echoes_told (if up q then t else echo_cleared t)) (sym (settled (is_quiet slots) now.phase (makes-clear (made_if_any (answer (answered_in on Texts.Rfnm p.ends))) p.phase (up-clear p.phase u))))
     freed false u = e
 
-    at : (b : Bool) → (if b then p else peers.frees on p).echoes ≡ echoes_told (while_up p.phase (phases.settles (is_quiet slots) (if b then p else peers.frees on p).phase) t)
-    at true = e ∙ ap echoes_told (stays p.phase (phases.settles (is_quiet slots) p.phase) t (λ u. ap up (settled (is_quiet slots) p.phase (up-clear p.phase u)) ∙ u))
+    at : (b : Bool) → (if b then p else frees on p).echoes ≡ echoes_told (while_up p.phase (phase_settles (is_quiet slots) (if b then p else frees on p).phase) t)
+    at true = e ∙ ap echoes_told (stays p.phase (phase_settles (is_quiet slots) p.phase) t (λ u. ap up (settled (is_quiet slots) p.phase (up-clear p.phase u)) ∙ u))
     at false = freed (up p.phase) refl
 answer-heard on Incomplete slots p t e = same-phase p t e
 answer-heard on Dead slots p t e = same-phase p t e
@@ -307,7 +301,7 @@ out-heard : (r : Result Leader Short) (message : List Bool) (s : PeerState) (t :
 out-heard (Err short) message s t e = same-phase s.peer t e
 out-heard (Ok leader) message s t e = by (slot_at s.slots leader.link)
   where
-    made : (b : Bool) → (if b then peers.sends s.peer else peers.cuts leader.link s.peer).echoes ≡ echoes_told (while_up s.peer.phase (if b then peers.sends s.peer else peers.cuts leader.link s.peer).phase t)
+    made : (b : Bool) → (if b then peer_sends s.peer else cuts leader.link s.peer).echoes ≡ echoes_told (while_up s.peer.phase (if b then peer_sends s.peer else cuts leader.link s.peer).phase t)
     made true = same-phase s.peer t e
     made false = same-phase s.peer t e
 
@@ -319,39 +313,39 @@ out-heard (Ok leader) message s t e = by (slot_at s.slots leader.link)
 
 -- Note by note.
 
-in-case : (message : List Bool) (told : Received) (s : PeerState) (t : EchoHistory) → echo_by (notes.In message told) s t ≡ came (commands_of message) told s (bits_for (leader_in message) message s) t
-in-case message (told_of.Control count) s t = refl
+in-case : (message : List Bool) (told : Received) (s : PeerState) (t : EchoHistory) → echo_by (HostNote.In message told) s t ≡ came (commands_in_message message) told s (bits_for (leader_in message) message s) t
+in-case message (Received.Control count) s t = refl
 in-case message told s t = refl
 
 in-heard : (r : Result Leader Short) (message : List Bool) (told : Received) (s : PeerState) (t : EchoHistory) → IsIn r message told s → s.peer.echoes ≡ echoes_told t
-    → (bits_for r message s).peer.echoes ≡ echoes_told (came (commands_of message) told s (bits_for r message s) t)
+    → (bits_for r message s).peer.echoes ≡ echoes_told (came (commands_in_message message) told s (bits_for r message s) t)
 in-heard (Err short) message told s t i e = absurd i
 in-heard (Ok leader) message told s t i e =
     message-heard leader.link message (message_in message) s t e
-    ∙ ap (λ (x : Received). echoes_told (came (commands_of message) x s (message_after leader.link message (message_in message) s) t)) (sym i)
+    ∙ ap (λ (x : Received). echoes_told (came (commands_in_message message) x s (message_after leader.link message (message_in message) s) t)) (sym i)
 
 pub note-heard : (n : ℕ) (note : HostNote) (s : PeerState) (t : EchoHistory) → IsSaidOf n note s → s.peer.echoes ≡ echoes_told t → (note_for note s).peer.echoes ≡ echoes_told (echo_by note s t)
-note-heard n (notes.Refused call fault) s t p e = same-phase s.peer t e
-note-heard n (notes.Done call) s t p e = called call s t p e
-note-heard n (notes.Took peer pair bytes text) s t p e = pair-call pair (Take bytes) s.peer t e
-note-heard n (notes.State peer pair r) s t p e = same-phase s.peer t e
-note-heard n (notes.Phase peer flags) s t p e = same-phase s.peer t e
-note-heard n (notes.Echoed peer byte) s t p e = same-phase s.peer t e
-note-heard n (notes.Errors peer errors) s t p e = same-phase s.peer t e
-note-heard n (notes.Counts peer counts) s t p e = same-phase s.peer t e
-note-heard n (notes.Waiting peer place command) s t p e = same-phase s.peer t e
-note-heard n (notes.Kept peer link message) s t p e = same-phase s.peer t e
-note-heard n (notes.Ignored ignored) s t p e = same-phase s.peer t e
-note-heard n (notes.Out message) s t p e = out-heard (leader_in message) message s t e
-note-heard n notes.Nothing s t p e = same-phase s.peer t e
-note-heard n (notes.In message told) s t p e = in-heard (leader_in message) message told s t p e ∙ sym (ap echoes_told (in-case message told s t))
-note-heard n (notes.Answered peer link how told) s t p e = answered-heard link how s t e
+note-heard n (HostNote.Refused call fault) s t p e = same-phase s.peer t e
+note-heard n (HostNote.Done call) s t p e = called call s t p e
+note-heard n (HostNote.Took peer pair bytes text) s t p e = pair-call pair (Take bytes) s.peer t e
+note-heard n (HostNote.State peer pair r) s t p e = same-phase s.peer t e
+note-heard n (HostNote.Phase peer flags) s t p e = same-phase s.peer t e
+note-heard n (HostNote.Echoed peer byte) s t p e = same-phase s.peer t e
+note-heard n (HostNote.Errors peer errors) s t p e = same-phase s.peer t e
+note-heard n (HostNote.Counts peer counts) s t p e = same-phase s.peer t e
+note-heard n (HostNote.Waiting peer place command) s t p e = same-phase s.peer t e
+note-heard n (HostNote.Kept peer link message) s t p e = same-phase s.peer t e
+note-heard n (HostNote.Ignored ignored) s t p e = same-phase s.peer t e
+note-heard n (HostNote.Out message) s t p e = out-heard (leader_in message) message s t e
+note-heard n HostNote.Nothing s t p e = same-phase s.peer t e
+note-heard n (HostNote.In message told) s t p e = in-heard (leader_in message) message told s t p e ∙ sym (ap echoes_told (in-case message told s t))
+note-heard n (HostNote.Answered peer link how told) s t p e = answered-heard link how s t e
 
 run-heard : (n : ℕ) (all : List HostNote) (s : PeerState) (t : EchoHistory) → IsRunOf n all s → s.peer.echoes ≡ echoes_told t → (notes_for all s).peer.echoes ≡ echoes_told (echo_from all s t)
 run-heard n [] s t p e = e
 run-heard n (note ∷ rest) s t p e = run-heard n rest (note_for note s) (echo_by note s t) p.1 (note-heard n note s t p.0 e)
 
-pub echoes-noted : (me : ℕ) (ns : List ℕ) (all : List HostNote) (n : ℕ) (s : PeerState) → FromBeginning me ns all → state_of (after_notes all (new_host me ns)) n ≡ Some s → s.peer.echoes ≡ echoes_told (echo_of (notes_of n all))
+pub echoes-noted : (me : ℕ) (ns : List ℕ) (all : List HostNote) (n : ℕ) (s : PeerState) → FromBeginning me ns all → state_of (after_notes all (new_host me ns)) n ≡ Some s → s.peer.echoes ≡ echoes_told (echo_of (notes_of_peer n all))
 echoes-noted me ns all n s from there =
     ap (λ (x : PeerState). x.peer.echoes) (kept_as_noted me ns all n s from there)
-    ∙ run-heard n (notes_of n all) new_state no_echo (each_peer me ns all n from (is_a_peer me ns all n s from there)).run refl
+    ∙ run-heard n (notes_of_peer n all) new_state no_echo (each_peer me ns all n from (is_a_peer me ns all n s from there)).run refl

@@ -5,22 +5,19 @@ use Rattle.ncp_model.specs.declared.call_fault.CallFault.{CallFault}
 use Rattle.ncp_model.specs.declared.call_fault.CallFault.TheVariants.{NotUp}
 use Rattle.ncp_model.specs.declared.pair.Pair.{Pair}
 use Rattle.ncp_model.specs.End.{End}
-use Rattle.ncp_model.specs.Happenings.{Outcome, Refused, Gives, Allocates, happens}
-use Rattle.ncp_model.specs.Happenings as all
+use Rattle.ncp_model.specs.Happenings.{Outcome, Refused, Gives, Allocates, happens, outcome_of_call}
 use Rattle.ncp_model.specs.Phase.{up}
 use Rattle.ncp_model.specs.Sending.{is_full}
-use Rattle.ncp_model.specs.Peers.{Call as Pair_call, Give, Allocate, called, comes_of, happened_at, reply}
-use Rattle.ncp_proof_watch.specs.Histories.{Past, no_past, is_accepted, adds, opens}
+use Rattle.ncp_model.specs.Peers.{PairCall, Give, Allocate, called, comes_of, happened_at, reply}
+use Rattle.ncp_proof_watch.specs.Histories.{Past, no_past, is_outcome_accepted, adds, opens}
 use Rattle.ncp_host.specs.PeerState.{PeerState, new_state}
 use Rattle.ncp_host.specs.Host.{state_of, new_host, if_known}
 use Rattle.ncp_transcript.specs.declared.call.Call.{Call}
-use Rattle.ncp_transcript.specs.declared.call.Call.TheVariants as calls_of
 use Rattle.ncp_transcript.specs.declared.note.HostNote.{HostNote}
-use Rattle.ncp_transcript.specs.declared.note.HostNote.TheVariants as notes
 use Rattle.ncp_transcript.specs.Notes.{done_or_refused}
 use Rattle.ncp_transcript.specs.After.{after_notes}
-use Rattle.ncp_proof_runs.specs.Peers.{FromBeginning, notes_of, notes_for}
-use Rattle.ncp_proof_runs.specs.Histories.{past_then, past_at, past_called, past_of}
+use Rattle.ncp_proof_runs.specs.Peers.{FromBeginning, notes_of_peer, notes_for}
+use Rattle.ncp_proof_runs.specs.Histories.{past_then, past_at, past_called, past_so_far}
 use Rattle.ncp_proof_runs.proofs.BooksOfRuns.{same_itself}
 use Rattle.ncp_proof_runs.proofs.InRuns.{before_note, kept_as_noted}
 use Rattle.ncp_proof_runs.proofs.Taken.{itself, past-more, notes-more}
@@ -37,11 +34,11 @@ allocates-open-not pair messages bits full (Some e) = grind arith
 
 -- A call that was done was accepted, while up.
 
-was-done : (c : Call) (r : Result (Unit {0}) CallFault) → done_or_refused c r ≡ notes.Done c → r ≡ Ok tt
+was-done : (c : Call) (r : Result (Unit {0}) CallFault) → done_or_refused c r ≡ HostNote.Done c → r ≡ Ok tt
 was-done c (Ok tt) e = refl
 was-done c (Err fault) e = absurd (cc)
 
-known : (c : Call) (o : Option PeerState) (p : Pair) (call : Pair_call) → done_or_refused c (if_known o (λ s. reply (comes_of p call s.peer))) ≡ notes.Done c → (s : PeerState) × (o ≡ Some s) × (reply (comes_of p call s.peer) ≡ Ok tt)
+known : (c : Call) (o : Option PeerState) (p : Pair) (call : PairCall) → done_or_refused c (if_known o (λ s. reply (comes_of p call s.peer))) ≡ HostNote.Done c → (s : PeerState) × (o ≡ Some s) × (reply (comes_of p call s.peer) ≡ Ok tt)
 known c None p call e = absurd (cc)
 known c (Some s) p call e = (s, refl, was-done c (reply (comes_of p call s.peer)) e)
 
@@ -49,12 +46,12 @@ up-then : (b : Bool) (o : Outcome) → reply (if b then o else Refused NotUp) �
 up-then true o e = (refl, e)
 up-then false o e = absurd (cc)
 
-pub accepted : {A : Type 0} (r : Result A CallFault) → reply (all.of_call r) ≡ Ok tt → is_accepted (all.of_call r) ≡ true
+pub accepted : {A : Type 0} (r : Result A CallFault) → reply (outcome_of_call r) ≡ Ok tt → is_outcome_accepted (outcome_of_call r) ≡ true
 accepted (Ok a) e = refl
 accepted (Err fault) e = absurd (cc)
 
 -- its history is then what it adds
-called-more : (p : Pair) (call : Pair_call) (s : PeerState) (past : Past) → up s.peer.phase ≡ true
+called-more : (p : Pair) (call : PairCall) (s : PeerState) (past : Past) → up s.peer.phase ≡ true
     → opens (get s.peer.ends p) (happened_at p call s.peer).after ≡ false
     → past_called p p call s past ≡ adds (called call (is_full s.peer.phase) s.peer.ends) (happened_at p call s.peer).outcome past
 called-more p call s past is_up not_open =
@@ -65,17 +62,17 @@ called-more p call s past is_up not_open =
     ∙ ap (λ (b : Bool). adds what (happens p what before).outcome (if b then no_past else past)) not_open
 
 -- the state before a call that was done, and its answer there
-pub record WasDone (me : ℕ) (ns : List ℕ) (before : List HostNote) (n : ℕ) (p : Pair) (call : Pair_call) : Type 0 where
-  pub is_up : up (notes_for (notes_of n before) new_state).peer.phase ≡ true
-  pub fine : reply (happened_at p call (notes_for (notes_of n before) new_state).peer).outcome ≡ Ok tt
+pub record WasDone (me : ℕ) (ns : List ℕ) (before : List HostNote) (n : ℕ) (p : Pair) (call : PairCall) : Type 0 where
+  pub is_up : up (notes_for (notes_of_peer n before) new_state).peer.phase ≡ true
+  pub fine : reply (happened_at p call (notes_for (notes_of_peer n before) new_state).peer).outcome ≡ Ok tt
 
-pub done-before : (me : ℕ) (ns : List ℕ) (before : List HostNote) (n : ℕ) (p : Pair) (call : Pair_call) (c : Call) → FromBeginning me ns before
-    → done_or_refused c (if_known (state_of (after_notes before (new_host me ns)) n) (λ s. reply (comes_of p call s.peer))) ≡ notes.Done c
+pub done-before : (me : ℕ) (ns : List ℕ) (before : List HostNote) (n : ℕ) (p : Pair) (call : PairCall) (c : Call) → FromBeginning me ns before
+    → done_or_refused c (if_known (state_of (after_notes before (new_host me ns)) n) (λ s. reply (comes_of p call s.peer))) ≡ HostNote.Done c
     → WasDone me ns before n p call
 done-before me ns before n p call c from said =
     let w = known c (state_of (after_notes before (new_host me ns)) n) p call said in
-    let is : w.0 ≡ notes_for (notes_of n before) new_state = kept_as_noted me ns before n w.0 from w.1 in
-    let t = notes_for (notes_of n before) new_state in
+    let is : w.0 ≡ notes_for (notes_of_peer n before) new_state = kept_as_noted me ns before n w.0 from w.1 in
+    let t = notes_for (notes_of_peer n before) new_state in
     let b = up-then (up t.peer.phase) (happened_at p call t.peer).outcome (ap (λ (x : PeerState). reply (comes_of p call x.peer)) (sym is) ∙ w.2) in
     record { is_up = b.0; fine = b.1 }
 
@@ -92,23 +89,23 @@ granted-more p messages bits s past is_up fine =
       ap (λ (x : Past). x.granted_bits) more ∙ ap (λ (b : Bool). past.granted_bits + (if b then bits else 0)) (accepted _ fine),
     )
 
-pub given-noted : (me : ℕ) (ns : List ℕ) (before after : List HostNote) (n : ℕ) (p : Pair) (text : List Bool) → FromBeginning me ns (before ++ notes.Done (calls_of.Give n p text) ∷ after)
-    → (past_of p (notes_of n (before ++ notes.Done (calls_of.Give n p text) ∷ []))).given ≡ (past_of p (notes_of n before)).given ++ text
+pub given-noted : (me : ℕ) (ns : List ℕ) (before after : List HostNote) (n : ℕ) (p : Pair) (text : List Bool) → FromBeginning me ns (before ++ HostNote.Done (Call.Give n p text) ∷ after)
+    → (past_so_far p (notes_of_peer n (before ++ HostNote.Done (Call.Give n p text) ∷ []))).given ≡ (past_so_far p (notes_of_peer n before)).given ++ text
 given-noted me ns before after n p text from =
-    let note = notes.Done (calls_of.Give n p text) in
+    let note = HostNote.Done (Call.Give n p text) in
     let b = before_note me ns before after note from in
-    let w = done-before me ns before n p (Give text) (calls_of.Give n p text) b.from b.said in
-    ap (λ (xs : List HostNote). (past_of p xs).given) (notes-more n before note (itself n))
-    ∙ ap (λ (x : Past). x.given) (past-more p (notes_of n before) note new_state no_past)
-    ∙ given-more p text (notes_for (notes_of n before) new_state) (past_of p (notes_of n before)) w.is_up w.fine
+    let w = done-before me ns before n p (Give text) (Call.Give n p text) b.from b.said in
+    ap (λ (xs : List HostNote). (past_so_far p xs).given) (notes-more n before note (itself n))
+    ∙ ap (λ (x : Past). x.given) (past-more p (notes_of_peer n before) note new_state no_past)
+    ∙ given-more p text (notes_for (notes_of_peer n before) new_state) (past_so_far p (notes_of_peer n before)) w.is_up w.fine
 
-pub granted-noted : (me : ℕ) (ns : List ℕ) (before after : List HostNote) (n : ℕ) (p : Pair) (messages bits : ℕ) → FromBeginning me ns (before ++ notes.Done (calls_of.Allocate n p messages bits) ∷ after)
-    → ((past_of p (notes_of n (before ++ notes.Done (calls_of.Allocate n p messages bits) ∷ []))).granted_messages ≡ (past_of p (notes_of n before)).granted_messages + messages)
-    × ((past_of p (notes_of n (before ++ notes.Done (calls_of.Allocate n p messages bits) ∷ []))).granted_bits ≡ (past_of p (notes_of n before)).granted_bits + bits)
+pub granted-noted : (me : ℕ) (ns : List ℕ) (before after : List HostNote) (n : ℕ) (p : Pair) (messages bits : ℕ) → FromBeginning me ns (before ++ HostNote.Done (Call.Allocate n p messages bits) ∷ after)
+    → ((past_so_far p (notes_of_peer n (before ++ HostNote.Done (Call.Allocate n p messages bits) ∷ []))).granted_messages ≡ (past_so_far p (notes_of_peer n before)).granted_messages + messages)
+    × ((past_so_far p (notes_of_peer n (before ++ HostNote.Done (Call.Allocate n p messages bits) ∷ []))).granted_bits ≡ (past_so_far p (notes_of_peer n before)).granted_bits + bits)
 granted-noted me ns before after n p messages bits from =
-    let note = notes.Done (calls_of.Allocate n p messages bits) in
+    let note = HostNote.Done (Call.Allocate n p messages bits) in
     let b = before_note me ns before after note from in
-    let w = done-before me ns before n p (Allocate messages bits) (calls_of.Allocate n p messages bits) b.from b.said in
-    let more = granted-more p messages bits (notes_for (notes_of n before) new_state) (past_of p (notes_of n before)) w.is_up w.fine in
-    let now = ap (λ (xs : List HostNote). past_of p xs) (notes-more n before note (itself n)) ∙ past-more p (notes_of n before) note new_state no_past in
+    let w = done-before me ns before n p (Allocate messages bits) (Call.Allocate n p messages bits) b.from b.said in
+    let more = granted-more p messages bits (notes_for (notes_of_peer n before) new_state) (past_so_far p (notes_of_peer n before)) w.is_up w.fine in
+    let now = ap (λ (xs : List HostNote). past_so_far p xs) (notes-more n before note (itself n)) ∙ past-more p (notes_of_peer n before) note new_state no_past in
     (ap (λ (x : Past). x.granted_messages) now ∙ more.0, ap (λ (x : Past). x.granted_bits) now ∙ more.1)

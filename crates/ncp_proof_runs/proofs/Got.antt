@@ -15,20 +15,19 @@ use Rattle.ncp_model.specs.End.{End}
 use Rattle.ncp_model.specs.Act.{answer}
 use Rattle.ncp_model.specs.Texts.{hear_text}
 use Rattle.ncp_model.specs.Ends.{uses_link, pair_of, receiver_on}
-use Rattle.ncp_model.specs.Happenings.{Text_comes, happens, of_text}
+use Rattle.ncp_model.specs.Happenings.{Text_comes, happens, outcome_of_text}
 use Rattle.ncp_model.specs.Phase.{up}
 use Rattle.ncp_model.proofs.LinksLead.{led}
 use Rattle.ncp_proof_watch.specs.Histories.{Past, no_past, adds, opens}
-use Rattle.ncp_host.specs.declared.received.Received.TheVariants as told_of
+use Rattle.ncp_host.specs.declared.received.Received.{Received}
 use Rattle.ncp_host.specs.PeerState.{PeerState, new_state, control_link, is_answered}
 use Rattle.ncp_host.specs.Hearing.{regular, is_kind, is_wrong_link, control_size, took, message_received}
 use Rattle.ncp_host.specs.Host.{Host, state_of, new_host}
 use Rattle.ncp_host.specs.Arrivals.{received_with, received_from}
 use Rattle.ncp_transcript.specs.declared.note.HostNote.{HostNote}
-use Rattle.ncp_transcript.specs.declared.note.HostNote.TheVariants as notes
 use Rattle.ncp_transcript.specs.After.{after_notes}
-use Rattle.ncp_proof_runs.specs.Peers.{FromBeginning, is_number, peer_of_leader, names, notes_of, notes_for}
-use Rattle.ncp_proof_runs.specs.Histories.{past_then, past_at, past_heard_all, past_message, past_bits, past_of}
+use Rattle.ncp_proof_runs.specs.Peers.{FromBeginning, is_this_number, peer_of_leader, names, notes_of_peer, notes_for}
+use Rattle.ncp_proof_runs.specs.Histories.{past_then, past_at, past_heard_all, past_message, past_bits, past_so_far}
 use Rattle.ncp_proof_runs.proofs.Said.{IsIn}
 use Rattle.ncp_proof_runs.proofs.HostRuns.{note-said}
 use Rattle.ncp_proof_runs.proofs.BooksOfRuns.{same_itself}
@@ -46,11 +45,11 @@ with_text text past = record past { got = past.got ++ text; used_messages = past
 admitted_by : (pair : Pair) (head : List Bool) (of_size : ℕ) (text : List Bool) (before : Option End) (past : Past) → answer (hear_text of_size text before) ≡ Admitted
     → past_then before (Text_comes head of_size text) (happens pair (Text_comes head of_size text) before) past ≡ with_text text past
 admitted_by pair head of_size text before past e =
-    ap (λ (b : Bool). adds (Text_comes head of_size text) (of_text (answer (hear_text of_size text before))) (if b then no_past else past)) (texts-open-not pair head of_size text before)
-    ∙ ap (λ (t : Took). adds (Text_comes head of_size text) (of_text t) past) e
+    ap (λ (b : Bool). adds (Text_comes head of_size text) (outcome_of_text (answer (hear_text of_size text before))) (if b then no_past else past)) (texts-open-not pair head of_size text before)
+    ∙ ap (λ (t : Took). adds (Text_comes head of_size text) (outcome_of_text t) past) e
 
 -- the text of a message that was admitted
-admitted_in : (pair : Pair) (on : ℕ) (bits : List Bool) (m : Message) (s : PeerState) (past : Past) → told_of.Text Admitted ≡ message_received on (Ok m) s → pair_of (receiver_on on s.peer.ends) ≡ Some pair
+admitted_in : (pair : Pair) (on : ℕ) (bits : List Bool) (m : Message) (s : PeerState) (past : Past) → Received.Text Admitted ≡ message_received on (Ok m) s → pair_of (receiver_on on s.peer.ends) ≡ Some pair
     → past_message pair on bits (Ok m) s past ≡ with_text m.text past
 admitted_in pair on bits m s past e to = go (is_wrong_link on) (on == control_link) (m.size == control_size) (up s.peer.phase) e
   where
@@ -61,10 +60,10 @@ admitted_in pair on bits m s past e to = go (is_wrong_link on) (on == control_li
         ∙ ap (λ (b : Bool). if b then past_then (get s.peer.ends pair) (Text_comes (take 72 bits) m.size m.text) (happens pair (Text_comes (take 72 bits) m.size m.text) (get s.peer.ends pair)) past else past) (same_itself pair)
         ∙ admitted_by pair (take 72 bits) m.size m.text (get s.peer.ends pair) past (ap (λ (o : Option End). answer (hear_text m.size m.text o)) l.0 ∙ a)
 
-    same_text : (t : Took) → told_of.Text Admitted ≡ told_of.Text t → t ≡ Admitted
+    same_text : (t : Took) → Received.Text Admitted ≡ Received.Text t → t ≡ Admitted
     same_text t e = cc
 
-    go : (a b c d : Bool) → told_of.Text Admitted ≡ (if a then told_of.WrongLink else if b then (if c then told_of.Control (length (commands_in (bytes_of m.text))) else told_of.WrongSize) else if d then told_of.Text (took on m s) else told_of.NotUp)
+    go : (a b c d : Bool) → Received.Text Admitted ≡ (if a then Received.WrongLink else if b then (if c then Received.Control (length (commands_in (bytes_of m.text))) else Received.WrongSize) else if d then Received.Text (took on m s) else Received.NotUp)
         → (if a then past else if b then (if c then past_heard_all pair (commands_in (bytes_of m.text)) s past else past) else if d then past_at pair (pair_of (receiver_on on s.peer.ends)) (Some (Text_comes (take 72 bits) m.size m.text)) s.peer.ends past else past) ≡ with_text m.text past
     go true b c d e = absurd (cc)
     go false true true d e = absurd (cc)
@@ -73,38 +72,38 @@ admitted_in pair on bits m s past e to = go (is_wrong_link on) (on == control_li
     go false false c false e = absurd (cc)
 
 -- it came from a peer, in a regular message
-came_from : (leader : Leader) (bits : List Bool) (h : Host) (t : Took) → received_with (Ok leader) bits h ≡ told_of.Text t → (s : PeerState) × (state_of h leader.host ≡ Some s) × ((leader.kind == regular) ≡ true)
+came_from : (leader : Leader) (bits : List Bool) (h : Host) (t : Took) → received_with (Ok leader) bits h ≡ Received.Text t → (s : PeerState) × (state_of h leader.host ≡ Some s) × ((leader.kind == regular) ≡ true)
 came_from leader bits h t e = go (is_kind leader.kind) (state_of h leader.host) refl e
   where
-    kind : (s : PeerState) (b : Bool) (a : Bool) → (leader.kind == regular) ≡ b → (if b then message_received leader.link (message_in bits) s else if a then told_of.Answered else told_of.Stray) ≡ told_of.Text t → (leader.kind == regular) ≡ true
+    kind : (s : PeerState) (b : Bool) (a : Bool) → (leader.kind == regular) ≡ b → (if b then message_received leader.link (message_in bits) s else if a then Received.Answered else Received.Stray) ≡ Received.Text t → (leader.kind == regular) ≡ true
     kind s true a f e = f
     kind s false true f e = absurd (cc)
     kind s false false f e = absurd (cc)
 
-    go : (b : Bool) (o : Option PeerState) → state_of h leader.host ≡ o → (if b then received_from o leader bits else told_of.Other leader.kind) ≡ told_of.Text t → (s : PeerState) × (state_of h leader.host ≡ Some s) × ((leader.kind == regular) ≡ true)
+    go : (b : Bool) (o : Option PeerState) → state_of h leader.host ≡ o → (if b then received_from o leader bits else Received.Other leader.kind) ≡ Received.Text t → (s : PeerState) × (state_of h leader.host ≡ Some s) × ((leader.kind == regular) ≡ true)
     go false o f e = absurd (cc)
     go true None f e = absurd (cc)
     go true (Some s) f e = (s, f, kind s (leader.kind == regular) (is_answered leader.link s) refl e)
 
-pub got-noted : (me : ℕ) (ns : List ℕ) (before after : List HostNote) (message : List Bool) (leader : Leader) (m : Message) (pair : Pair) → FromBeginning me ns (before ++ notes.In message (told_of.Text Admitted) ∷ after)
-    → leader_in message ≡ Ok leader → message_in message ≡ Ok m → pair_of (receiver_on leader.link (notes_for (notes_of leader.host before) new_state).peer.ends) ≡ Some pair
-    → past_of pair (notes_of leader.host (before ++ notes.In message (told_of.Text Admitted) ∷ [])) ≡ with_text m.text (past_of pair (notes_of leader.host before))
+pub got-noted : (me : ℕ) (ns : List ℕ) (before after : List HostNote) (message : List Bool) (leader : Leader) (m : Message) (pair : Pair) → FromBeginning me ns (before ++ HostNote.In message (Received.Text Admitted) ∷ after)
+    → leader_in message ≡ Ok leader → message_in message ≡ Ok m → pair_of (receiver_on leader.link (notes_for (notes_of_peer leader.host before) new_state).peer.ends) ≡ Some pair
+    → past_so_far pair (notes_of_peer leader.host (before ++ HostNote.In message (Received.Text Admitted) ∷ [])) ≡ with_text m.text (past_so_far pair (notes_of_peer leader.host before))
 got-noted me ns before after message leader m pair from e f to =
-    let note = notes.In message (told_of.Text Admitted) in
+    let note = HostNote.In message (Received.Text Admitted) in
     let b = before_note me ns before after note from in
     let h = after_notes before (new_host me ns) in
     let w = came_from leader message h Admitted (ap (λ (r : Result Leader Short). received_with r message h) (sym e) ∙ b.said.1) in
     let named : names leader.host note ≡ true =
-    ap (λ (r : Result Leader Short). is_number leader.host (peer_of_leader r)) e
-    ∙ ap (λ (c : Bool). is_number leader.host (if c then Some leader.host else None)) w.2
+    ap (λ (r : Result Leader Short). is_this_number leader.host (peer_of_leader r)) e
+    ∙ ap (λ (c : Bool). is_this_number leader.host (if c then Some leader.host else None)) w.2
     ∙ itself leader.host in
-    let s = notes_for (notes_of leader.host before) new_state in
+    let s = notes_for (notes_of_peer leader.host before) new_state in
     let is : w.0 ≡ s = kept_as_noted me ns before leader.host w.0 b.from w.1 in
-    let said : IsIn (leader_in message) message (told_of.Text Admitted) w.0 = note-said ns note h leader.host w.0 b.holds b.said w.1 named in
-    let there : told_of.Text Admitted ≡ message_received leader.link (message_in message) w.0 = subst (λ (r : Result Leader Short). IsIn r message (told_of.Text Admitted) w.0) e said in
-    let here : told_of.Text Admitted ≡ message_received leader.link (Ok m) s = there ∙ ap (λ (x : PeerState). message_received leader.link (message_in message) x) is ∙ ap (λ (r : Result Message MessageFault). message_received leader.link r s) f in
-    ap (past_of pair) (notes-more leader.host before note named)
-    ∙ past-more pair (notes_of leader.host before) note new_state no_past
-    ∙ ap (λ (r : Result Leader Short). past_bits pair r message s (past_of pair (notes_of leader.host before))) e
-    ∙ ap (λ (r : Result Message MessageFault). past_message pair leader.link message r s (past_of pair (notes_of leader.host before))) f
-    ∙ admitted_in pair leader.link message m s (past_of pair (notes_of leader.host before)) here to
+    let said : IsIn (leader_in message) message (Received.Text Admitted) w.0 = note-said ns note h leader.host w.0 b.holds b.said w.1 named in
+    let there : Received.Text Admitted ≡ message_received leader.link (message_in message) w.0 = subst (λ (r : Result Leader Short). IsIn r message (Received.Text Admitted) w.0) e said in
+    let here : Received.Text Admitted ≡ message_received leader.link (Ok m) s = there ∙ ap (λ (x : PeerState). message_received leader.link (message_in message) x) is ∙ ap (λ (r : Result Message MessageFault). message_received leader.link r s) f in
+    ap (past_so_far pair) (notes-more leader.host before note named)
+    ∙ past-more pair (notes_of_peer leader.host before) note new_state no_past
+    ∙ ap (λ (r : Result Leader Short). past_bits pair r message s (past_so_far pair (notes_of_peer leader.host before))) e
+    ∙ ap (λ (r : Result Message MessageFault). past_message pair leader.link message r s (past_so_far pair (notes_of_peer leader.host before))) f
+    ∙ admitted_in pair leader.link message m s (past_so_far pair (notes_of_peer leader.host before)) here to

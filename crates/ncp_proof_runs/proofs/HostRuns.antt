@@ -10,23 +10,20 @@ use Rattle.ncp_model.specs.declared.call_fault.CallFault.{CallFault}
 use Rattle.ncp_model.specs.Peers.{Take, comes_of, reply_of_take, reply_of_echo}
 use Rattle.ncp_model.specs.Phase.{reset_answer}
 use Rattle.ncp_host.specs.declared.received.Received.{Received}
-use Rattle.ncp_host.specs.declared.received.Received.TheVariants as told_of
-use Rattle.ncp_host.specs.PeerState.{PeerState, calls, answer_comes}
+use Rattle.ncp_host.specs.PeerState.{PeerState, state_calls, answer_comes}
 use Rattle.ncp_host.specs.Hearing.{regular, message_received, answer_received}
 use Rattle.ncp_host.specs.Output.{leader_to, links, after_output}
 use Rattle.ncp_host.specs.Host.{Host, state_in, state_of, numbers_of, are_distinct, if_known}
 use Rattle.ncp_host.specs.Arrivals.{received_with, received_from}
 use Rattle.ncp_host.specs.Turns.{next_output}
 use Rattle.ncp_transcript.specs.declared.call.Call.{Call}
-use Rattle.ncp_transcript.specs.declared.call.Call.TheVariants as calls_of
 use Rattle.ncp_transcript.specs.declared.note.HostNote.{HostNote}
-use Rattle.ncp_transcript.specs.declared.note.HostNote.TheVariants as notes
 use Rattle.ncp_transcript.specs.Notes.{done_or_refused, told_or_refused}
 use Rattle.ncp_transcript.specs.Answers.{answer_to}
 use Rattle.ncp_transcript.specs.After.{after_note}
 use Rattle.ncp_transcript.specs.Noting.{answer_with}
-use Rattle.ncp_transcript.specs.Runs.{answer_told, IsSaid}
-use Rattle.ncp_proof_runs.specs.Peers.{peer_of_call, peer_of_leader, is_number, names, out_for, note_for}
+use Rattle.ncp_transcript.specs.Runs.{answer_told, IsHostSaid}
+use Rattle.ncp_proof_runs.specs.Peers.{peer_of_call, peer_of_leader, is_this_number, names, out_for, note_for}
 use Rattle.ncp_proof_runs.proofs.Said.{IsDone, IsOut, IsIn, IsSaidOf}
 use Rattle.ncp_proof_runs.proofs.States.{done, done_nothing, kind_first, at_peer-state, changed-state, called-state, bits-state, Turn, turn}
 use Rattle.ncp_proof_runs.proofs.Ready.{Addressed, first_is, link_small, output-leader}
@@ -61,84 +58,84 @@ out-is ns h message k t =
 answers-stay : (note : HostNote) (h : Host) (n : ℕ) → state_of h n ≡ done (names n note) (λ s. s) (state_of h n)
 answers-stay note h n = done_nothing (names n note) (state_of h n)
 
-pub note-state : (ns : List ℕ) (note : HostNote) (h : Host) (n : ℕ) → Holds ns h → IsSaid note h → state_of (after_note note h) n ≡ done (names n note) (note_for note) (state_of h n)
-note-state ns (notes.Refused call fault) h n k p = answers-stay (notes.Refused call fault) h n
-note-state ns (notes.Done call) h n k p = called-state call h n
-note-state ns (notes.Took peer pair bytes text) h n k p = changed-state h peer n (calls pair (Take bytes))
-note-state ns (notes.State peer pair r) h n k p = answers-stay (notes.State peer pair r) h n
-note-state ns (notes.Phase peer flags) h n k p = answers-stay (notes.Phase peer flags) h n
-note-state ns (notes.Echoed peer byte) h n k p = answers-stay (notes.Echoed peer byte) h n
-note-state ns (notes.Errors peer errors) h n k p = answers-stay (notes.Errors peer errors) h n
-note-state ns (notes.Counts peer counts) h n k p = answers-stay (notes.Counts peer counts) h n
-note-state ns (notes.Waiting peer place command) h n k p = answers-stay (notes.Waiting peer place command) h n
-note-state ns (notes.Kept peer link message) h n k p = answers-stay (notes.Kept peer link message) h n
-note-state ns (notes.Ignored ignored) h n k p = answers-stay (notes.Ignored ignored) h n
-note-state ns (notes.Out message) h n k p =
+pub note-state : (ns : List ℕ) (note : HostNote) (h : Host) (n : ℕ) → Holds ns h → IsHostSaid note h → state_of (after_note note h) n ≡ done (names n note) (note_for note) (state_of h n)
+note-state ns (HostNote.Refused call fault) h n k p = answers-stay (HostNote.Refused call fault) h n
+note-state ns (HostNote.Done call) h n k p = called-state call h n
+note-state ns (HostNote.Took peer pair bytes text) h n k p = changed-state h peer n (state_calls pair (Take bytes))
+note-state ns (HostNote.State peer pair r) h n k p = answers-stay (HostNote.State peer pair r) h n
+note-state ns (HostNote.Phase peer flags) h n k p = answers-stay (HostNote.Phase peer flags) h n
+note-state ns (HostNote.Echoed peer byte) h n k p = answers-stay (HostNote.Echoed peer byte) h n
+note-state ns (HostNote.Errors peer errors) h n k p = answers-stay (HostNote.Errors peer errors) h n
+note-state ns (HostNote.Counts peer counts) h n k p = answers-stay (HostNote.Counts peer counts) h n
+note-state ns (HostNote.Waiting peer place command) h n k p = answers-stay (HostNote.Waiting peer place command) h n
+note-state ns (HostNote.Kept peer link message) h n k p = answers-stay (HostNote.Kept peer link message) h n
+note-state ns (HostNote.Ignored ignored) h n k p = answers-stay (HostNote.Ignored ignored) h n
+note-state ns (HostNote.Out message) h n k p =
     let t = out-turn ns h message k p in
     ap (λ (ps : List (ℕ × PeerState)). state_in ps n) t.after
     ∙ at_peer-state h.peers t.n n (after_output t.on message)
-    ∙ ap (λ (m : Result Leader Short). done (is_number n (peer_of_leader m)) (out_for m message) (state_of h n)) (sym (out-leader ns h message k t))
-note-state ns notes.Nothing h n k p = answers-stay notes.Nothing h n
-note-state ns (notes.In message received) h n k p = bits-state (leader_in message) message h n p.0
-note-state ns (notes.Answered peer link how received) h n k p = changed-state h peer n (answer_comes link how)
+    ∙ ap (λ (m : Result Leader Short). done (is_this_number n (peer_of_leader m)) (out_for m message) (state_of h n)) (sym (out-leader ns h message k t))
+note-state ns HostNote.Nothing h n k p = answers-stay HostNote.Nothing h n
+note-state ns (HostNote.In message received) h n k p = bits-state (leader_in message) message h n p.0
+note-state ns (HostNote.Answered peer link how received) h n k p = changed-state h peer n (answer_comes link how)
 
 -- What the note says of what is kept for its peer.
 
-took-said : (r : Result (List Bool) CallFault) (peer : ℕ) (pair : Pair) (bytes : ℕ) (text : List Bool) → told_or_refused (calls_of.Take peer pair bytes) (notes.Took peer pair bytes) r ≡ notes.Took peer pair bytes text → r ≡ Ok text
+took-said : (r : Result (List Bool) CallFault) (peer : ℕ) (pair : Pair) (bytes : ℕ) (text : List Bool) → told_or_refused (Call.Take peer pair bytes) (HostNote.Took peer pair bytes) r ≡ HostNote.Took peer pair bytes text → r ≡ Ok text
 took-said (Ok it) peer pair bytes text e = let same : it ≡ text = cc in ap (λ (x : List Bool). Ok x) same
 took-said (Err fault) peer pair bytes text e = absurd (cc)
 
 at_number : (h : Host) (peer n : ℕ) (s : PeerState) → (peer == n) ≡ true → state_of h n ≡ Some s → state_of h peer ≡ Some s
 at_number h peer n s e f = ap (state_of h) (eqb-true peer n e) ∙ f
 
-out-said : (ns : List ℕ) (message : List Bool) (h : Host) (n : ℕ) (s : PeerState) → Holds ns h → Turn h.peers message → state_of h n ≡ Some s → is_number n (peer_of_leader (leader_in message)) ≡ true → IsOut n message s
+out-said : (ns : List ℕ) (message : List Bool) (h : Host) (n : ℕ) (s : PeerState) → Holds ns h → Turn h.peers message → state_of h n ≡ Some s → is_this_number n (peer_of_leader (leader_in message)) ≡ true → IsOut n message s
 out-said ns message h n s k t f e =
-    let here : (t.n == n) ≡ true = ap (λ (r : Result Leader Short). is_number n (peer_of_leader r)) (sym (out-leader ns h message k t)) ∙ e in
+    let here : (t.n == n) ≡ true = ap (λ (r : Result Leader Short). is_this_number n (peer_of_leader r)) (sym (out-leader ns h message k t)) ∙ e in
     let same : s ≡ t.s = some_same (sym (at_number h t.n n s here f) ∙ t.found) in
     let out : IsOut n message t.s = subst (λ (j : ℕ). IsOut j message t.s) (eqb-true t.n n here) (out-is ns h message k t) in
     subst (λ (x : PeerState). IsOut n message x) (sym same) out
 
-in-said : (r : Result Leader Short) (bits : List Bool) (told : Received) (h : Host) (n : ℕ) (s : PeerState) → answer_with r h ≡ None → received_with r bits h ≡ told → state_of h n ≡ Some s → is_number n (peer_of_leader r) ≡ true → IsIn r bits told s
+in-said : (r : Result Leader Short) (bits : List Bool) (told : Received) (h : Host) (n : ℕ) (s : PeerState) → answer_with r h ≡ None → received_with r bits h ≡ told → state_of h n ≡ Some s → is_this_number n (peer_of_leader r) ≡ true → IsIn r bits told s
 in-said (Err short) bits told h n s a e f i = absurd (cc)
 in-said (Ok leader) bits told h n s a e f i = go (leader.kind == regular) refl i
   where
-    go : (b : Bool) → (leader.kind == regular) ≡ b → is_number n (if b then Some leader.host else None) ≡ true → told ≡ message_received leader.link (message_in bits) s
+    go : (b : Bool) → (leader.kind == regular) ≡ b → is_this_number n (if b then Some leader.host else None) ≡ true → told ≡ message_received leader.link (message_in bits) s
     go false g i = absurd (cc)
     go true g i =
         sym e
-        ∙ ap (λ (b : Bool). if b then received_from (state_of h leader.host) leader bits else told_of.Other leader.kind) (kind_first leader.kind true g)
+        ∙ ap (λ (b : Bool). if b then received_from (state_of h leader.host) leader bits else Received.Other leader.kind) (kind_first leader.kind true g)
         ∙ ap (λ (o : Option PeerState). received_from o leader bits) (at_number h leader.host n s i f)
         ∙ ap (λ (b : Bool). if b then message_received leader.link (message_in bits) s else answer_received leader.link s) g
 
-pub done-ok : (call : Call) (r : Result (Unit {0}) CallFault) → done_or_refused call r ≡ notes.Done call → r ≡ Ok tt
+pub done-ok : (call : Call) (r : Result (Unit {0}) CallFault) → done_or_refused call r ≡ HostNote.Done call → r ≡ Ok tt
 done-ok call (Ok it) e = refl
 done-ok call (Err fault) e = absurd (cc)
 
-done-said : (call : Call) (h : Host) (n : ℕ) (s : PeerState) → answer_to call h ≡ notes.Done call → state_of h n ≡ Some s → is_number n (peer_of_call call) ≡ true → IsDone call s
-done-said (calls_of.Reset peer) h n s p f e =
-    done-ok (calls_of.Reset peer) (reset_answer s.peer.phase)
-    (ap (λ (o : Option PeerState). done_or_refused (calls_of.Reset peer) (if_known o (λ x. reset_answer x.peer.phase))) (sym (at_number h peer n s e f)) ∙ p)
-done-said (calls_of.Echo peer byte) h n s p f e =
-    done-ok (calls_of.Echo peer byte) (reply_of_echo byte s.peer)
-    (ap (λ (o : Option PeerState). done_or_refused (calls_of.Echo peer byte) (if_known o (λ x. reply_of_echo byte x.peer))) (sym (at_number h peer n s e f)) ∙ p)
+done-said : (call : Call) (h : Host) (n : ℕ) (s : PeerState) → answer_to call h ≡ HostNote.Done call → state_of h n ≡ Some s → is_this_number n (peer_of_call call) ≡ true → IsDone call s
+done-said (Call.Reset peer) h n s p f e =
+    done-ok (Call.Reset peer) (reset_answer s.peer.phase)
+    (ap (λ (o : Option PeerState). done_or_refused (Call.Reset peer) (if_known o (λ x. reset_answer x.peer.phase))) (sym (at_number h peer n s e f)) ∙ p)
+done-said (Call.Echo peer byte) h n s p f e =
+    done-ok (Call.Echo peer byte) (reply_of_echo byte s.peer)
+    (ap (λ (o : Option PeerState). done_or_refused (Call.Echo peer byte) (if_known o (λ x. reply_of_echo byte x.peer))) (sym (at_number h peer n s e f)) ∙ p)
 done-said call h n s p f e = tt
 
-pub note-said : (ns : List ℕ) (note : HostNote) (h : Host) (n : ℕ) (s : PeerState) → Holds ns h → IsSaid note h → state_of h n ≡ Some s → names n note ≡ true → IsSaidOf n note s
-note-said ns (notes.Refused call fault) h n s k p f e = tt
-note-said ns (notes.Done call) h n s k p f e = done-said call h n s p f e
-note-said ns (notes.Took peer pair bytes text) h n s k p f e =
+pub note-said : (ns : List ℕ) (note : HostNote) (h : Host) (n : ℕ) (s : PeerState) → Holds ns h → IsHostSaid note h → state_of h n ≡ Some s → names n note ≡ true → IsSaidOf n note s
+note-said ns (HostNote.Refused call fault) h n s k p f e = tt
+note-said ns (HostNote.Done call) h n s k p f e = done-said call h n s p f e
+note-said ns (HostNote.Took peer pair bytes text) h n s k p f e =
     took-said (reply_of_take (comes_of pair (Take bytes) s.peer)) peer pair bytes text
-    (ap (λ (o : Option PeerState). told_or_refused (calls_of.Take peer pair bytes) (notes.Took peer pair bytes) (if_known o (λ x. reply_of_take (comes_of pair (Take bytes) x.peer)))) (sym (at_number h peer n s e f)) ∙ p)
-note-said ns (notes.State peer pair r) h n s k p f e = tt
-note-said ns (notes.Phase peer flags) h n s k p f e = tt
-note-said ns (notes.Echoed peer byte) h n s k p f e = tt
-note-said ns (notes.Errors peer errors) h n s k p f e = tt
-note-said ns (notes.Counts peer counts) h n s k p f e = tt
-note-said ns (notes.Waiting peer place command) h n s k p f e = tt
-note-said ns (notes.Kept peer link message) h n s k p f e = tt
-note-said ns (notes.Ignored ignored) h n s k p f e = tt
-note-said ns (notes.Out message) h n s k p f e = out-said ns message h n s k (out-turn ns h message k p) f e
-note-said ns notes.Nothing h n s k p f e = tt
-note-said ns (notes.In message received) h n s k p f e = in-said (leader_in message) message received h n s p.0 p.1 f e
-note-said ns (notes.Answered peer link how received) h n s k p f e =
+    (ap (λ (o : Option PeerState). told_or_refused (Call.Take peer pair bytes) (HostNote.Took peer pair bytes) (if_known o (λ x. reply_of_take (comes_of pair (Take bytes) x.peer)))) (sym (at_number h peer n s e f)) ∙ p)
+note-said ns (HostNote.State peer pair r) h n s k p f e = tt
+note-said ns (HostNote.Phase peer flags) h n s k p f e = tt
+note-said ns (HostNote.Echoed peer byte) h n s k p f e = tt
+note-said ns (HostNote.Errors peer errors) h n s k p f e = tt
+note-said ns (HostNote.Counts peer counts) h n s k p f e = tt
+note-said ns (HostNote.Waiting peer place command) h n s k p f e = tt
+note-said ns (HostNote.Kept peer link message) h n s k p f e = tt
+note-said ns (HostNote.Ignored ignored) h n s k p f e = tt
+note-said ns (HostNote.Out message) h n s k p f e = out-said ns message h n s k (out-turn ns h message k p) f e
+note-said ns HostNote.Nothing h n s k p f e = tt
+note-said ns (HostNote.In message received) h n s k p f e = in-said (leader_in message) message received h n s p.0 p.1 f e
+note-said ns (HostNote.Answered peer link how received) h n s k p f e =
     some_same (sym p ∙ ap (λ (o : Option PeerState). answer_told o link) (at_number h peer n s e f))

@@ -9,18 +9,16 @@ use Rattle.ncp_leader.specs.Leader.{leader_in}
 use Rattle.ncp_leader.specs.Message.{Message, message_in}
 use Rattle.ncp_model.specs.Phase.{up}
 use Rattle.ncp_host.specs.declared.counts.Ignored.{Ignored}
-use Rattle.ncp_host.specs.declared.received.Received.TheVariants as told_of
+use Rattle.ncp_host.specs.declared.received.Received.{Received}
 use Rattle.ncp_host.specs.Counting.{none_ignored}
 use Rattle.ncp_host.specs.PeerState.{PeerState, control_link, is_answered}
 use Rattle.ncp_host.specs.Hearing.{regular, is_kind, is_wrong_link, control_size, took, message_received, answer_received, received_of}
 use Rattle.ncp_host.specs.Host.{Host, state_of, new_host}
 use Rattle.ncp_host.specs.Arrivals.{received_with, received_from, after_with, after_from, one_other}
 use Rattle.ncp_transcript.specs.declared.call.Call.{Call}
-use Rattle.ncp_transcript.specs.declared.call.Call.TheVariants as calls_of
 use Rattle.ncp_transcript.specs.declared.note.HostNote.{HostNote}
-use Rattle.ncp_transcript.specs.declared.note.HostNote.TheVariants as notes
 use Rattle.ncp_transcript.specs.After.{after_call, after_note, after_notes}
-use Rattle.ncp_transcript.specs.Runs.{IsSaid, IsRun}
+use Rattle.ncp_transcript.specs.Runs.{IsHostSaid, IsHostRun}
 use Rattle.ncp_proof_runs.specs.Peers.{FromBeginning, ignored_more, ignored_after, ignored_by}
 
 -- what comes from a peer is not ignored
@@ -29,7 +27,7 @@ message-counts : (on : ℕ) (r : Result Message MessageFault) (s : PeerState) (i
 message-counts on (Err fault) s i = refl
 message-counts on (Ok m) s i = by (is_wrong_link on) (on == control_link) (m.size == control_size) (up s.peer.phase)
   where
-    by : (a b c d : Bool) → ignored_more (if a then told_of.WrongLink else if b then (if c then told_of.Control (length (commands_in (bytes_of m.text))) else told_of.WrongSize) else if d then told_of.Text (took on m s) else told_of.NotUp) i ≡ i
+    by : (a b c d : Bool) → ignored_more (if a then Received.WrongLink else if b then (if c then Received.Control (length (commands_in (bytes_of m.text))) else Received.WrongSize) else if d then Received.Text (took on m s) else Received.NotUp) i ≡ i
     by true b c d = refl
     by false true true d = refl
     by false true false d = refl
@@ -39,7 +37,7 @@ message-counts on (Ok m) s i = by (is_wrong_link on) (on == control_link) (m.siz
 answer-counts : (on : ℕ) (s : PeerState) (i : Ignored) → ignored_more (answer_received on s) i ≡ i
 answer-counts on s i = by (is_answered on s)
   where
-    by : (b : Bool) → ignored_more (if b then told_of.Answered else told_of.Stray) i ≡ i
+    by : (b : Bool) → ignored_more (if b then Received.Answered else Received.Stray) i ≡ i
     by true = refl
     by false = refl
 
@@ -54,50 +52,50 @@ bits-counts : (r : Result Leader Short) (bits : List Bool) (h : Host) → (after
 bits-counts (Err short) bits h = refl
 bits-counts (Ok leader) bits h = by (is_kind leader.kind) (state_of h leader.host)
   where
-    by : (b : Bool) (o : Option PeerState) → (if b then after_from o leader bits h else one_other h).ignored ≡ ignored_more (if b then received_from o leader bits else told_of.Other leader.kind) h.ignored
+    by : (b : Bool) (o : Option PeerState) → (if b then after_from o leader bits h else one_other h).ignored ≡ ignored_more (if b then received_from o leader bits else Received.Other leader.kind) h.ignored
     by true None = refl
     by true (Some s) = sym (peer-counts leader bits s h.ignored)
     by false o = refl
 
 called-counts : (call : Call) (h : Host) → (after_call call h).ignored ≡ h.ignored
-called-counts (calls_of.Reset peer) h = refl
-called-counts (calls_of.AskSend peer local remote size room) h = refl
-called-counts (calls_of.AskReceive peer local remote room) h = refl
-called-counts (calls_of.Give peer pair text) h = refl
-called-counts (calls_of.Take peer pair bytes) h = refl
-called-counts (calls_of.Allocate peer pair messages bits) h = refl
-called-counts (calls_of.CallBack peer pair fm fb) h = refl
-called-counts (calls_of.Interrupt peer pair) h = refl
-called-counts (calls_of.Echo peer byte) h = refl
-called-counts (calls_of.Close peer pair) h = refl
-called-counts (calls_of.Wake peer) h = refl
-called-counts (calls_of.State peer pair) h = refl
-called-counts (calls_of.Phase peer) h = refl
-called-counts (calls_of.Echoed peer) h = refl
-called-counts (calls_of.Errors peer) h = refl
-called-counts (calls_of.Counts peer) h = refl
-called-counts (calls_of.Waiting peer place) h = refl
-called-counts (calls_of.Kept peer link) h = refl
-called-counts calls_of.Ignored h = refl
+called-counts (Call.Reset peer) h = refl
+called-counts (Call.AskSend peer local remote size room) h = refl
+called-counts (Call.AskReceive peer local remote room) h = refl
+called-counts (Call.Give peer pair text) h = refl
+called-counts (Call.Take peer pair bytes) h = refl
+called-counts (Call.Allocate peer pair messages bits) h = refl
+called-counts (Call.CallBack peer pair fm fb) h = refl
+called-counts (Call.Interrupt peer pair) h = refl
+called-counts (Call.Echo peer byte) h = refl
+called-counts (Call.Close peer pair) h = refl
+called-counts (Call.Wake peer) h = refl
+called-counts (Call.State peer pair) h = refl
+called-counts (Call.Phase peer) h = refl
+called-counts (Call.Echoed peer) h = refl
+called-counts (Call.Errors peer) h = refl
+called-counts (Call.Counts peer) h = refl
+called-counts (Call.Waiting peer place) h = refl
+called-counts (Call.Kept peer link) h = refl
+called-counts Call.Ignored h = refl
 
-note-counts : (note : HostNote) (h : Host) → IsSaid note h → (after_note note h).ignored ≡ ignored_after note h.ignored
-note-counts (notes.Refused call fault) h p = refl
-note-counts (notes.Done call) h p = called-counts call h
-note-counts (notes.Took peer pair bytes text) h p = refl
-note-counts (notes.State peer pair r) h p = refl
-note-counts (notes.Phase peer flags) h p = refl
-note-counts (notes.Echoed peer byte) h p = refl
-note-counts (notes.Errors peer errors) h p = refl
-note-counts (notes.Counts peer counts) h p = refl
-note-counts (notes.Waiting peer place command) h p = refl
-note-counts (notes.Kept peer link message) h p = refl
-note-counts (notes.Ignored ignored) h p = refl
-note-counts (notes.Out message) h p = refl
-note-counts notes.Nothing h p = refl
-note-counts (notes.In message received) h p = bits-counts (leader_in message) message h ∙ ap (λ t. ignored_more t h.ignored) p.1
-note-counts (notes.Answered peer link how received) h p = refl
+note-counts : (note : HostNote) (h : Host) → IsHostSaid note h → (after_note note h).ignored ≡ ignored_after note h.ignored
+note-counts (HostNote.Refused call fault) h p = refl
+note-counts (HostNote.Done call) h p = called-counts call h
+note-counts (HostNote.Took peer pair bytes text) h p = refl
+note-counts (HostNote.State peer pair r) h p = refl
+note-counts (HostNote.Phase peer flags) h p = refl
+note-counts (HostNote.Echoed peer byte) h p = refl
+note-counts (HostNote.Errors peer errors) h p = refl
+note-counts (HostNote.Counts peer counts) h p = refl
+note-counts (HostNote.Waiting peer place command) h p = refl
+note-counts (HostNote.Kept peer link message) h p = refl
+note-counts (HostNote.Ignored ignored) h p = refl
+note-counts (HostNote.Out message) h p = refl
+note-counts HostNote.Nothing h p = refl
+note-counts (HostNote.In message received) h p = bits-counts (leader_in message) message h ∙ ap (λ t. ignored_more t h.ignored) p.1
+note-counts (HostNote.Answered peer link how received) h p = refl
 
-all-counts : (all : List HostNote) (h : Host) → IsRun all h → (after_notes all h).ignored ≡ ignored_by all h.ignored
+all-counts : (all : List HostNote) (h : Host) → IsHostRun all h → (after_notes all h).ignored ≡ ignored_by all h.ignored
 all-counts [] h p = refl
 all-counts (note ∷ rest) h p = all-counts rest (after_note note h) p.1 ∙ ap (ignored_by rest) (note-counts note h p.0)
 

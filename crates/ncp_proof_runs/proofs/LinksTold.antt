@@ -14,16 +14,14 @@ use Rattle.ncp_slot.proofs.Places.{slot_at-with_slot_same, slot_at-with_slot_oth
 use Rattle.ncp_slot.proofs.Waking.{slot_at-all_woken}
 use Rattle.ncp_model.specs.Peers.{Peer}
 use Rattle.ncp_host.specs.Counting.{one_more}
-use Rattle.ncp_host.specs.declared.received.Received.TheVariants as received
+use Rattle.ncp_host.specs.declared.received.Received.{Received}
 use Rattle.ncp_host.specs.PeerState.{PeerState, new_state, is_answered, answer_taken, answer_comes}
 use Rattle.ncp_host.specs.Hearing.{answer_received}
 use Rattle.ncp_host.specs.Output.{made_on, output_by, output_on}
 use Rattle.ncp_transcript.specs.declared.call.Call.{Call}
-use Rattle.ncp_transcript.specs.declared.call.Call.TheVariants as calls_of
 use Rattle.ncp_transcript.specs.declared.note.HostNote.{HostNote}
-use Rattle.ncp_transcript.specs.declared.note.HostNote.TheVariants as notes
-use Rattle.ncp_proof_runs.specs.Peers.{is_number, called_for, bits_for, out_for, note_for, notes_for}
-use Rattle.ncp_proof_runs.specs.Links.{LinkHistory, nothing_told, takes_fresh, is_fresh, went_out, was_answered, was_woken, link_of_leader, told_by, told_from, slot_of_answer, slot_told, received_told, ready_after, ready_told}
+use Rattle.ncp_proof_runs.specs.Peers.{is_this_number, called_for, bits_for, out_for, note_for, notes_for}
+use Rattle.ncp_proof_runs.specs.Links.{LinkSoFar, nothing_told, takes_fresh, goes_fresh, link_went_out, was_answered, was_woken, link_of_leader, told_by, link_told_from, slot_of_answer, slot_so_far, received_told, ready_after, ready_told}
 use Rattle.ncp_proof_runs.proofs.Said.{IsOut, IsSaidOf, IsRunOf}
 use Rattle.ncp_proof_runs.proofs.PeerRuns.{message-slots}
 
@@ -40,7 +38,7 @@ ready-by : (u : Bool) (a : Option Answer) (w : Bool) (f : List Bool) (n on : ℕ
 ready-by true a w f n on p = refl
 ready-by false a w f n on p = ready-after a w f n on p
 
-pub ready-is : (n on : ℕ) (t : LinkHistory) (s : PeerState) → slot_at s.slots on ≡ slot_told t → output_on n on s ≡ ready_told n on t s.peer
+pub ready-is : (n on : ℕ) (t : LinkSoFar) (s : PeerState) → slot_at s.slots on ≡ slot_so_far t → output_on n on s ≡ ready_told n on t s.peer
 ready-is n on t s e = ap (λ (slot : LinkSlot). output_by slot n on s.peer) e ∙ ready-by t.unanswered t.answer t.woken t.fresh n on s.peer
 
 -- What is known of a message that goes out.
@@ -49,7 +47,7 @@ free-by : (u : Bool) (r : Option (List Bool)) (m : List Bool) → (if u then Non
 free-by true r m e = absurd (cc)
 free-by false r m e = refl
 
-pub out-free : (n on : ℕ) (t : LinkHistory) (p : Peer) (m : List Bool) → ready_told n on t p ≡ Some m → t.unanswered ≡ false
+pub out-free : (n on : ℕ) (t : LinkSoFar) (p : Peer) (m : List Bool) → ready_told n on t p ≡ Some m → t.unanswered ≡ false
 out-free n on t p m e = free-by t.unanswered (ready_after t.answer t.woken t.fresh (made_on n on p)) m e
 
 again-by : (a : Option Answer) (w : Bool) (f m : List Bool) (made : Option (List Bool)) → ready_after a w f made ≡ Some m → takes_fresh a ≡ false → m ≡ f
@@ -63,7 +61,7 @@ unless-out : (u : Bool) (r : Option (List Bool)) (m : List Bool) → (if u then 
 unless-out true r m e = absurd (cc)
 unless-out false r m e = e
 
-pub out-again : (n on : ℕ) (t : LinkHistory) (p : Peer) (m : List Bool) → ready_told n on t p ≡ Some m → is_fresh t ≡ false → m ≡ t.fresh
+pub out-again : (n on : ℕ) (t : LinkSoFar) (p : Peer) (m : List Bool) → ready_told n on t p ≡ Some m → goes_fresh t ≡ false → m ≡ t.fresh
 out-again n on t p m e stale = again-by t.answer t.woken t.fresh m (made_on n on p) (unless-out t.unanswered (ready_after t.answer t.woken t.fresh (made_on n on p)) m e) stale
 
 dead-by : (a : Option Answer) (w : Bool) (f m : List Bool) (made : Option (List Bool)) → ready_after a w f made ≡ Some m → a ≡ Some Dead → w ≡ true
@@ -73,7 +71,7 @@ dead-by (Some Incomplete) w f m made e d = absurd (cc)
 dead-by (Some Dead) true f m made e d = refl
 dead-by (Some Dead) false f m made e d = absurd (cc)
 
-pub out-woken : (n on : ℕ) (t : LinkHistory) (p : Peer) (m : List Bool) → ready_told n on t p ≡ Some m → t.answer ≡ Some Dead → t.woken ≡ true
+pub out-woken : (n on : ℕ) (t : LinkSoFar) (p : Peer) (m : List Bool) → ready_told n on t p ≡ Some m → t.answer ≡ Some Dead → t.woken ≡ true
 out-woken n on t p m e d = dead-by t.answer t.woken t.fresh m (made_on n on p) (unless-out t.unanswered (ready_after t.answer t.woken t.fresh (made_on n on p)) m e) d
 
 -- An answer.
@@ -89,11 +87,11 @@ travels : (u : Bool) (a : Option Answer) (w : Bool) (f : List Bool) → is_trave
 travels true a w f = refl
 travels false a w f = travels-by a w f
 
-pub answered-told : (on : ℕ) (s : PeerState) (t : LinkHistory) → slot_at s.slots on ≡ slot_told t → is_answered on s ≡ t.unanswered
+pub answered-told : (on : ℕ) (s : PeerState) (t : LinkSoFar) → slot_at s.slots on ≡ slot_so_far t → is_answered on s ≡ t.unanswered
 answered-told on s t e = ap is_travelling e ∙ travels t.unanswered t.answer t.woken t.fresh
 
-pub received-told : (on : ℕ) (s : PeerState) (t : LinkHistory) → slot_at s.slots on ≡ slot_told t → answer_received on s ≡ received_told t
-received-told on s t e = ap (λ (b : Bool). if b then received.Answered else received.Stray) (answered-told on s t e)
+pub received-told : (on : ℕ) (s : PeerState) (t : LinkSoFar) → slot_at s.slots on ≡ slot_so_far t → answer_received on s ≡ received_told t
+received-told on s t e = ap (λ (b : Bool). if b then Received.Answered else Received.Stray) (answered-told on s t e)
 
 answer-by : (how : Answer) (u : Bool) (a : Option Answer) (w : Bool) (f : List Bool) → u ≡ true
     → answered how (if u then Travelling f else slot_of_answer a w f) ≡ slot_of_answer (if u then Some how else a) (if u then false else w) f
@@ -109,10 +107,10 @@ stray-by how false a w f e = refl
 
 -- Each note.
 
-abbrev pub Tells : ℕ → PeerState → LinkHistory → Type 0
-Tells on s t = slot_at s.slots on ≡ slot_told t
+abbrev pub Tells : ℕ → PeerState → LinkSoFar → Type 0
+Tells on s t = slot_at s.slots on ≡ slot_so_far t
 
-answer-tells : (on link : ℕ) (how : Answer) (s : PeerState) (t : LinkHistory) → Tells on s t → Tells on (answer_comes link how s) (if link == on then was_answered how t else t)
+answer-tells : (on link : ℕ) (how : Answer) (s : PeerState) (t : LinkSoFar) → Tells on s t → Tells on (answer_comes link how s) (if link == on then was_answered how t else t)
 answer-tells on link how s t e = elim (eqb_tells link on) [
   | inl same ↦ subst (λ (b : Bool). Tells on (answer_comes link how s) (if b then was_answered how t else t)) (sym same.0) (here (t.unanswered) refl same.1)
   | inr apart ↦ subst (λ (b : Bool). Tells on (answer_comes link how s) (if b then was_answered how t else t)) (sym apart.0) (there (is_answered link s) (λ e. apart.1 (sym e)))
@@ -144,73 +142,73 @@ wake-by false (Some Incomplete) w f = refl
 wake-by false (Some Dead) true f = refl
 wake-by false (Some Dead) false f = refl
 
-wake-tells : (on : ℕ) (s : PeerState) (t : LinkHistory) → Tells on s t → slot_at (all_woken s.slots) on ≡ slot_told (was_woken t)
+wake-tells : (on : ℕ) (s : PeerState) (t : LinkSoFar) → Tells on s t → slot_at (all_woken s.slots) on ≡ slot_so_far (was_woken t)
 wake-tells on s t e = slot_at-all_woken s.slots on ∙ ap woken e ∙ wake-by t.unanswered t.answer t.woken t.fresh
 
 fresh-by : (b : Bool) (m f : List Bool) → (b ≡ false → m ≡ f) → m ≡ (if b then m else f)
 fresh-by true m f h = refl
 fresh-by false m f h = h refl
 
-out-tells : (n on : ℕ) (message : List Bool) (s : PeerState) (t : LinkHistory) → IsOut n message s → Tells on s t
-    → Tells on (out_for (leader_in message) message s) (if is_number on (link_of_leader (leader_in message)) then went_out message t else t)
+out-tells : (n on : ℕ) (message : List Bool) (s : PeerState) (t : LinkSoFar) → IsOut n message s → Tells on s t
+    → Tells on (out_for (leader_in message) message s) (if is_this_number on (link_of_leader (leader_in message)) then link_went_out message t else t)
 out-tells n on message s t p e =
-    subst (λ (r : Result Leader Short). Tells on (out_for r message s) (if is_number on (link_of_leader r) then went_out message t else t)) (sym p.leader)
+    subst (λ (r : Result Leader Short). Tells on (out_for r message s) (if is_this_number on (link_of_leader r) then link_went_out message t else t)) (sym p.leader)
     (elim (eqb_tells p.on on) [
-      | inl same ↦ subst (λ (b : Bool). slot_at (with_slot s.slots p.on (Travelling message)) on ≡ slot_told (if b then went_out message t else t)) (sym same.0) (here same.1)
-      | inr apart ↦ subst (λ (b : Bool). slot_at (with_slot s.slots p.on (Travelling message)) on ≡ slot_told (if b then went_out message t else t)) (sym apart.0)
+      | inl same ↦ subst (λ (b : Bool). slot_at (with_slot s.slots p.on (Travelling message)) on ≡ slot_so_far (if b then link_went_out message t else t)) (sym same.0) (here same.1)
+      | inr apart ↦ subst (λ (b : Bool). slot_at (with_slot s.slots p.on (Travelling message)) on ≡ slot_so_far (if b then link_went_out message t else t)) (sym apart.0)
           (slot_at-with_slot_other s.slots p.on (Travelling message) on (λ i. apart.1 (sym i)) ∙ e)
     ])
   where
-    here : p.on ≡ on → slot_at (with_slot s.slots p.on (Travelling message)) on ≡ Travelling (if is_fresh t then message else t.fresh)
+    here : p.on ≡ on → slot_at (with_slot s.slots p.on (Travelling message)) on ≡ Travelling (if goes_fresh t then message else t.fresh)
     here same =
         let ready : ready_told n on t s.peer ≡ Some message = sym (ready-is n on t s e) ∙ ap (λ (k : ℕ). output_on n k s) (sym same) ∙ p.ready in
         ap (λ (k : ℕ). slot_at (with_slot s.slots k (Travelling message)) on) same
         ∙ slot_at-with_slot_same s.slots on (Travelling message)
-        ∙ ap (λ (m : List Bool). Travelling m) (fresh-by (is_fresh t) message t.fresh (out-again n on t s.peer message ready))
+        ∙ ap (λ (m : List Bool). Travelling m) (fresh-by (goes_fresh t) message t.fresh (out-again n on t s.peer message ready))
 
-bits-tells : (on : ℕ) (r : Result Leader Short) (bits : List Bool) (s : PeerState) (t : LinkHistory) → Tells on s t → Tells on (bits_for r bits s) t
+bits-tells : (on : ℕ) (r : Result Leader Short) (bits : List Bool) (s : PeerState) (t : LinkSoFar) → Tells on s t → Tells on (bits_for r bits s) t
 bits-tells on (Err short) bits s t e = e
 bits-tells on (Ok leader) bits s t e = ap (λ (x : LinkSlots). slot_at x on) (message-slots leader.link bits (message_in bits) s) ∙ e
 
-called-tells : (on : ℕ) (call : Call) (s : PeerState) (t : LinkHistory) → Tells on s t → Tells on (called_for call s) (told_by on (notes.Done call) t)
-called-tells on (calls_of.Reset peer) s t e = e
-called-tells on (calls_of.AskSend peer local remote size room) s t e = e
-called-tells on (calls_of.AskReceive peer local remote room) s t e = e
-called-tells on (calls_of.Give peer pair text) s t e = e
-called-tells on (calls_of.Take peer pair bytes) s t e = e
-called-tells on (calls_of.Allocate peer pair messages bits) s t e = e
-called-tells on (calls_of.CallBack peer pair fm fb) s t e = e
-called-tells on (calls_of.Interrupt peer pair) s t e = e
-called-tells on (calls_of.Echo peer byte) s t e = e
-called-tells on (calls_of.Close peer pair) s t e = e
-called-tells on (calls_of.Wake peer) s t e = wake-tells on s t e
-called-tells on (calls_of.State peer pair) s t e = e
-called-tells on (calls_of.Phase peer) s t e = e
-called-tells on (calls_of.Echoed peer) s t e = e
-called-tells on (calls_of.Errors peer) s t e = e
-called-tells on (calls_of.Counts peer) s t e = e
-called-tells on (calls_of.Waiting peer place) s t e = e
-called-tells on (calls_of.Kept peer link) s t e = e
-called-tells on calls_of.Ignored s t e = e
+called-tells : (on : ℕ) (call : Call) (s : PeerState) (t : LinkSoFar) → Tells on s t → Tells on (called_for call s) (told_by on (HostNote.Done call) t)
+called-tells on (Call.Reset peer) s t e = e
+called-tells on (Call.AskSend peer local remote size room) s t e = e
+called-tells on (Call.AskReceive peer local remote room) s t e = e
+called-tells on (Call.Give peer pair text) s t e = e
+called-tells on (Call.Take peer pair bytes) s t e = e
+called-tells on (Call.Allocate peer pair messages bits) s t e = e
+called-tells on (Call.CallBack peer pair fm fb) s t e = e
+called-tells on (Call.Interrupt peer pair) s t e = e
+called-tells on (Call.Echo peer byte) s t e = e
+called-tells on (Call.Close peer pair) s t e = e
+called-tells on (Call.Wake peer) s t e = wake-tells on s t e
+called-tells on (Call.State peer pair) s t e = e
+called-tells on (Call.Phase peer) s t e = e
+called-tells on (Call.Echoed peer) s t e = e
+called-tells on (Call.Errors peer) s t e = e
+called-tells on (Call.Counts peer) s t e = e
+called-tells on (Call.Waiting peer place) s t e = e
+called-tells on (Call.Kept peer link) s t e = e
+called-tells on Call.Ignored s t e = e
 
-pub note-tells : (n on : ℕ) (note : HostNote) (s : PeerState) (t : LinkHistory) → IsSaidOf n note s → Tells on s t → Tells on (note_for note s) (told_by on note t)
-note-tells n on (notes.Refused call fault) s t p e = e
-note-tells n on (notes.Done call) s t p e = called-tells on call s t e
-note-tells n on (notes.Took peer pair bytes text) s t p e = e
-note-tells n on (notes.State peer pair r) s t p e = e
-note-tells n on (notes.Phase peer flags) s t p e = e
-note-tells n on (notes.Echoed peer byte) s t p e = e
-note-tells n on (notes.Errors peer errors) s t p e = e
-note-tells n on (notes.Counts peer counts) s t p e = e
-note-tells n on (notes.Waiting peer place command) s t p e = e
-note-tells n on (notes.Kept peer link message) s t p e = e
-note-tells n on (notes.Ignored ignored) s t p e = e
-note-tells n on (notes.Out message) s t p e = out-tells n on message s t p e
-note-tells n on notes.Nothing s t p e = e
-note-tells n on (notes.In message received) s t p e = bits-tells on (leader_in message) message s t e
-note-tells n on (notes.Answered peer link how received) s t p e = answer-tells on link how s t e
+pub note-tells : (n on : ℕ) (note : HostNote) (s : PeerState) (t : LinkSoFar) → IsSaidOf n note s → Tells on s t → Tells on (note_for note s) (told_by on note t)
+note-tells n on (HostNote.Refused call fault) s t p e = e
+note-tells n on (HostNote.Done call) s t p e = called-tells on call s t e
+note-tells n on (HostNote.Took peer pair bytes text) s t p e = e
+note-tells n on (HostNote.State peer pair r) s t p e = e
+note-tells n on (HostNote.Phase peer flags) s t p e = e
+note-tells n on (HostNote.Echoed peer byte) s t p e = e
+note-tells n on (HostNote.Errors peer errors) s t p e = e
+note-tells n on (HostNote.Counts peer counts) s t p e = e
+note-tells n on (HostNote.Waiting peer place command) s t p e = e
+note-tells n on (HostNote.Kept peer link message) s t p e = e
+note-tells n on (HostNote.Ignored ignored) s t p e = e
+note-tells n on (HostNote.Out message) s t p e = out-tells n on message s t p e
+note-tells n on HostNote.Nothing s t p e = e
+note-tells n on (HostNote.In message received) s t p e = bits-tells on (leader_in message) message s t e
+note-tells n on (HostNote.Answered peer link how received) s t p e = answer-tells on link how s t e
 
-pub run-tells : (n on : ℕ) (all : List HostNote) (s : PeerState) (t : LinkHistory) → IsRunOf n all s → Tells on s t → Tells on (notes_for all s) (told_from on all t)
+pub run-tells : (n on : ℕ) (all : List HostNote) (s : PeerState) (t : LinkSoFar) → IsRunOf n all s → Tells on s t → Tells on (notes_for all s) (link_told_from on all t)
 run-tells n on [] s t p e = e
 run-tells n on (note ∷ rest) s t p e = run-tells n on rest (note_for note s) (told_by on note t) p.1 (note-tells n on note s t p.0 e)
 

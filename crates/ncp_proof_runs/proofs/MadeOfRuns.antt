@@ -4,16 +4,13 @@ use Rattle.std.proofs.lemmas.List.{append_assoc, length-append}
 use Rattle.std.proofs.Math.Seq.{take-append_seam, drop-append_seam}
 use Rattle.std.specs.List.{filter, list_any}
 use Rattle.ncp_terms.specs.declared.command.Command.{Command}
-use Rattle.ncp_terms.specs.declared.command.Command.TheVariants as commands
 use Rattle.ncp_terms.specs.Spelling.{spelling}
 use Rattle.ncp_model.specs.Act.{answer, made_by_hearing}
 use Rattle.ncp_model.specs.Ends.{hear}
-use Rattle.ncp_model.specs.Phase.{Phase, Reaction, up, is_rst, is_rrp, is_reset, is_other, has_place, wants_reset, owes_answer, hears_rrp, goes_down, queued}
-use Rattle.ncp_model.specs.Phase as phases
+use Rattle.ncp_model.specs.Phase.{Phase, Reaction, up, is_rst, is_rrp, is_reset, is_other, has_place, wants_reset, owes_answer, hears_rrp, goes_down, queued, makes_all, phase_answers, phase_asks, phase_hears, phase_makes, phase_settles}
 use Rattle.ncp_model.specs.Sending.{fitting, next_commands}
-use Rattle.ncp_model.specs.Peers.{Peer, is_full_up, echo_replies}
-use Rattle.ncp_model.specs.Peers as peers
-use Rattle.ncp_proof_runs.specs.Making.{Made, made, heard, went_down, reset_asked, rst_came, rrp_came, sent, counts_rrp, counts_rst, made_in, all_made_in, answer_made, reset_made, settling_made, by_other, by_command}
+use Rattle.ncp_model.specs.Peers.{Peer, is_full_up, echo_replies, hears, hears_other, reaction}
+use Rattle.ncp_proof_runs.specs.Making.{Made, made, made_heard, went_down, reset_asked, made_rst_came, rrp_came, made_sent, counts_rrp, counts_rst, made_in, all_made_in, answer_made, reset_made, settling_made, by_other, by_command}
 
 -- of these that are gone, and the phase: those that wait, and its flags
 pub record Agrees (l : Made) (p : Phase) (gone : List Command) : Type 0 where
@@ -41,7 +38,7 @@ next-first cs = fitting-first 120 cs
 not_gone : (l : Made) (p : Phase) (g : List Command) → Agrees l p g → drop l.gone l.all ≡ p.waiting
 not_gone l p g a = ap (λ (xs : List Command). drop l.gone xs) a.all ∙ ap (λ (k : ℕ). drop k (g ++ p.waiting)) a.count ∙ drop-append_seam g p.waiting
 
-pub sent-agrees : (l : Made) (p : Phase) (g : List Command) → Agrees l p g → Agrees (sent l) (record p { waiting = drop (length (next_commands p.waiting)) p.waiting }) (g ++ next_commands p.waiting)
+pub sent-agrees : (l : Made) (p : Phase) (g : List Command) → Agrees l p g → Agrees (made_sent l) (record p { waiting = drop (length (next_commands p.waiting)) p.waiting }) (g ++ next_commands p.waiting)
 sent-agrees l p g a =
     let w = p.waiting in
     record {
@@ -75,7 +72,7 @@ module _ (g : List Command) where
   wanted-agrees : (l : Made) (p : Phase) → Agrees l p g → Agrees (reset_asked l) (wants_reset p) g
   wanted-agrees l p a = record { all = struck-all l p a; count = a.count; down = a.down; want = refl; wait = a.wait; owe = a.owe }
 
-  owed-agrees : (l : Made) (p : Phase) → Agrees l p g → Agrees (rst_came l) (owes_answer p) g
+  owed-agrees : (l : Made) (p : Phase) → Agrees l p g → Agrees (made_rst_came l) (owes_answer p) g
   owed-agrees l p a = record { all = struck-all l p a; count = a.count; down = a.down; want = a.want; wait = a.wait; owe = refl }
 
   met-agrees : (l : Made) (p : Phase) → Agrees l p g → Agrees (rrp_came l) (hears_rrp p) g
@@ -83,7 +80,7 @@ module _ (g : List Command) where
 
   -- What is made.
 
-  made_in-agrees : (c : Command) (p : Phase) (l : Made) → Agrees l p g → Agrees (made_in c p l) (phases.makes c p) g
+  made_in-agrees : (c : Command) (p : Phase) (l : Made) → Agrees l p g → Agrees (made_in c p l) (phase_makes c p) g
   made_in-agrees c p l a = go (up p && is_other c) (has_place p)
     where
       go : (b d : Bool) → Agrees (if b then (if d then made c l else went_down l) else l) (if b then (if d then queued c p else goes_down p) else p) g
@@ -91,58 +88,58 @@ module _ (g : List Command) where
       go true false = fallen-agrees l p a
       go false d = a
 
-  pub all_made-agrees : (cs : List Command) (p : Phase) (l : Made) → Agrees l p g → Agrees (all_made_in cs p l) (phases.makes_all cs p) g
+  pub all_made-agrees : (cs : List Command) (p : Phase) (l : Made) → Agrees l p g → Agrees (all_made_in cs p l) (makes_all cs p) g
   all_made-agrees [] p l a = a
-  all_made-agrees (c ∷ cs) p l a = all_made-agrees cs (phases.makes c p) (made_in c p l) (made_in-agrees c p l a)
+  all_made-agrees (c ∷ cs) p l a = all_made-agrees cs (phase_makes c p) (made_in c p l) (made_in-agrees c p l a)
 
-  answer-agrees : (p : Phase) (l : Made) → Agrees l p g → Agrees (answer_made p l) (phases.answers p) g
+  answer-agrees : (p : Phase) (l : Made) → Agrees l p g → Agrees (answer_made p l) (phase_answers p) g
   answer-agrees p l a = go p.owe (list_any is_rrp p.waiting)
     where
-      go : (b d : Bool) → Agrees (if b then counts_rrp (if d then l else made commands.Rrp l) else l) (if b then record p { down = false; owe = false; waiting = if d then p.waiting else p.waiting ++ commands.Rrp ∷ [] } else p) g
+      go : (b d : Bool) → Agrees (if b then counts_rrp (if d then l else made Command.Rrp l) else l) (if b then record p { down = false; owe = false; waiting = if d then p.waiting else p.waiting ++ Command.Rrp ∷ [] } else p) g
       go true true = record { all = a.all; count = a.count; down = refl; want = a.want; wait = a.wait; owe = refl }
-      go true false = record { all = made-all commands.Rrp l p a; count = a.count; down = refl; want = a.want; wait = a.wait; owe = refl }
+      go true false = record { all = made-all Command.Rrp l p a; count = a.count; down = refl; want = a.want; wait = a.wait; owe = refl }
       go false d = a
 
-  reset-agrees : (p : Phase) (l : Made) → Agrees l p g → Agrees (reset_made p l) (phases.asks p) g
+  reset-agrees : (p : Phase) (l : Made) → Agrees l p g → Agrees (reset_made p l) (phase_asks p) g
   reset-agrees p l a = go p.want (list_any is_rst p.waiting)
     where
-      go : (b d : Bool) → Agrees (if b then counts_rst (if d then l else made commands.Rst l) else l) (if b then record p { down = false; want = false; wait = true; waiting = if d then p.waiting else p.waiting ++ commands.Rst ∷ [] } else p) g
+      go : (b d : Bool) → Agrees (if b then counts_rst (if d then l else made Command.Rst l) else l) (if b then record p { down = false; want = false; wait = true; waiting = if d then p.waiting else p.waiting ++ Command.Rst ∷ [] } else p) g
       go true true = record { all = a.all; count = a.count; down = refl; want = refl; wait = refl; owe = a.owe }
-      go true false = record { all = made-all commands.Rst l p a; count = a.count; down = refl; want = refl; wait = refl; owe = a.owe }
+      go true false = record { all = made-all Command.Rst l p a; count = a.count; down = refl; want = refl; wait = refl; owe = a.owe }
       go false d = a
 
-  pub settling-agrees : (quiet : Bool) (p : Phase) (l : Made) → Agrees l p g → Agrees (settling_made quiet p l) (phases.settles quiet p) g
-  settling-agrees true p l a = reset-agrees (phases.answers p) (answer_made p l) (answer-agrees p l a)
+  pub settling-agrees : (quiet : Bool) (p : Phase) (l : Made) → Agrees l p g → Agrees (settling_made quiet p l) (phase_settles quiet p) g
+  settling-agrees true p l a = reset-agrees (phase_answers p) (answer_made p l) (answer-agrees p l a)
   settling-agrees false p l a = a
 
-  pub asked-agrees : (quiet : Bool) (p : Phase) (l : Made) → Agrees l p g → Agrees (settling_made quiet (wants_reset p) (reset_asked l)) (phases.settles quiet (wants_reset p)) g
+  pub asked-agrees : (quiet : Bool) (p : Phase) (l : Made) → Agrees l p g → Agrees (settling_made quiet (wants_reset p) (reset_asked l)) (phase_settles quiet (wants_reset p)) g
   asked-agrees quiet p l a = settling-agrees quiet (wants_reset p) (reset_asked l) (wanted-agrees l p a)
 
   -- A command that comes.
 
   other-agrees : (quiet : Bool) (c : Command) (p : Peer) (l : Made)
-      → ((r : Reaction) → phases.hears c r p.phase ≡ (if up p.phase then (if r.full then goes_down p.phase else phases.makes_all r.replies p.phase) else p.phase))
-      → Agrees l p.phase g → Agrees (by_other c p l) (if up p.phase then peers.hears_other quiet c p else p).phase g
+      → ((r : Reaction) → phase_hears c r p.phase ≡ (if up p.phase then (if r.full then goes_down p.phase else makes_all r.replies p.phase) else p.phase))
+      → Agrees l p.phase g → Agrees (by_other c p l) (if up p.phase then hears_other quiet c p else p).phase g
   other-agrees quiet c p l is a = go (up p.phase) refl
     where
-      then-is : up p.phase ≡ true → (peers.hears_other quiet c p).phase ≡ (if is_full_up (answer (hear c p.ends)) then goes_down p.phase else phases.makes_all (made_by_hearing (answer (hear c p.ends)) ++ echo_replies c) p.phase)
-      then-is e = is (peers.reaction quiet c p) ∙ ap (λ (b : Bool). if b then (if is_full_up (answer (hear c p.ends)) then goes_down p.phase else phases.makes_all (made_by_hearing (answer (hear c p.ends)) ++ echo_replies c) p.phase) else p.phase) e
+      then-is : up p.phase ≡ true → (hears_other quiet c p).phase ≡ (if is_full_up (answer (hear c p.ends)) then goes_down p.phase else makes_all (made_by_hearing (answer (hear c p.ends)) ++ echo_replies c) p.phase)
+      then-is e = is (reaction quiet c p) ∙ ap (λ (b : Bool). if b then (if is_full_up (answer (hear c p.ends)) then goes_down p.phase else makes_all (made_by_hearing (answer (hear c p.ends)) ++ echo_replies c) p.phase) else p.phase) e
 
-      heard-agrees : Agrees (heard c l) p.phase g
+      heard-agrees : Agrees (made_heard c l) p.phase g
       heard-agrees = record { all = a.all; count = a.count; down = a.down; want = a.want; wait = a.wait; owe = a.owe }
 
-      full : (b : Bool) → Agrees (if b then went_down l else all_made_in (made_by_hearing (answer (hear c p.ends)) ++ echo_replies c) p.phase (heard c l)) (if b then goes_down p.phase else phases.makes_all (made_by_hearing (answer (hear c p.ends)) ++ echo_replies c) p.phase) g
+      full : (b : Bool) → Agrees (if b then went_down l else all_made_in (made_by_hearing (answer (hear c p.ends)) ++ echo_replies c) p.phase (made_heard c l)) (if b then goes_down p.phase else makes_all (made_by_hearing (answer (hear c p.ends)) ++ echo_replies c) p.phase) g
       full true = fallen-agrees l p.phase a
-      full false = all_made-agrees (made_by_hearing (answer (hear c p.ends)) ++ echo_replies c) p.phase (heard c l) heard-agrees
+      full false = all_made-agrees (made_by_hearing (answer (hear c p.ends)) ++ echo_replies c) p.phase (made_heard c l) heard-agrees
 
       go : (b : Bool) → up p.phase ≡ b
-          → Agrees (if b then (if is_full_up (answer (hear c p.ends)) then went_down l else all_made_in (made_by_hearing (answer (hear c p.ends)) ++ echo_replies c) p.phase (heard c l)) else l) (if b then peers.hears_other quiet c p else p).phase g
+          → Agrees (if b then (if is_full_up (answer (hear c p.ends)) then went_down l else all_made_in (made_by_hearing (answer (hear c p.ends)) ++ echo_replies c) p.phase (made_heard c l)) else l) (if b then hears_other quiet c p else p).phase g
       go true e =
-          subst (λ (q : Phase). Agrees (if is_full_up (answer (hear c p.ends)) then went_down l else all_made_in (made_by_hearing (answer (hear c p.ends)) ++ echo_replies c) p.phase (heard c l)) q g) (sym (then-is e))
+          subst (λ (q : Phase). Agrees (if is_full_up (answer (hear c p.ends)) then went_down l else all_made_in (made_by_hearing (answer (hear c p.ends)) ++ echo_replies c) p.phase (made_heard c l)) q g) (sym (then-is e))
           (full (is_full_up (answer (hear c p.ends))))
       go false e = a
 
-  pub command-agrees : (quiet : Bool) (c : Command) (p : Peer) (l : Made) → Agrees l p.phase g → Agrees (by_command quiet c p l) (peers.hears quiet c p).phase g
-  command-agrees quiet commands.Rst p l a = settling-agrees quiet (owes_answer p.phase) (rst_came l) (owed-agrees l p.phase a)
-  command-agrees quiet commands.Rrp p l a = met-agrees l p.phase a
+  pub command-agrees : (quiet : Bool) (c : Command) (p : Peer) (l : Made) → Agrees l p.phase g → Agrees (by_command quiet c p l) (hears quiet c p).phase g
+  command-agrees quiet Command.Rst p l a = settling-agrees quiet (owes_answer p.phase) (made_rst_came l) (owed-agrees l p.phase a)
+  command-agrees quiet Command.Rrp p l a = met-agrees l p.phase a
   command-agrees quiet c p l a = other-agrees quiet c p l (λ r. refl) a

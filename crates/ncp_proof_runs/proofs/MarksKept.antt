@@ -8,11 +8,10 @@ use Rattle.ncp_model.specs.declared.limits.TheConstants.{MAX_TEXT}
 use Rattle.ncp_model.specs.Amounts.{back}
 use Rattle.ncp_model.specs.Texts.{Rfnm, Incomplete, Dead, bytes_to_send}
 use Rattle.ncp_model.specs.Happenings.{Happening, happens}
-use Rattle.ncp_model.specs.Happenings as all
 use Rattle.ncp_proof_watch.specs.Sound.{SoundAt}
 use Rattle.ncp_proof_runs.specs.Acts.{Acted, AreActs}
 use Rattle.ncp_proof_watch.proofs.SoundEnds.{sound-after}
-use Rattle.ncp_proof_runs.specs.Marks.{Marks, no_marks, is_leaving, is_dropped, marks_by, marks_from}
+use Rattle.ncp_proof_runs.specs.Marks.{Marks, no_marks, is_leaving, is_marked_dropped, marks_by, marks_from}
 
 -- the marks of an end
 abbrev pub IsMarked : End → Marks → Type 0
@@ -42,55 +41,55 @@ abbrev After : Pair → Happening → Option End → Marks → Type 0
 After pair what before m = IsMarkedAt (happens pair what before).after (marks_by what (happens pair what before).outcome (happens pair what before).made m)
 
 pub marked-after : (pair : Pair) (what : Happening) (before : Option End) (m : Marks) → SoundAt pair before → IsMarkedAt before m → After pair what before m
-marked-after pair (all.Asks_to_send of_size with_room own full) None m s k = grind arith
-marked-after pair (all.Asks_to_send of_size with_room own full) (Some e) m s k = grind arith
-marked-after pair (all.Asks_to_receive with_room on own full) None m s k = grind arith
-marked-after pair (all.Asks_to_receive with_room on own full) (Some e) m s k = grind arith
-marked-after pair (all.Closes full) None m s k = grind arith
-marked-after pair (all.Closes full) (Some e) m s k = grind arith
-marked-after pair (all.Gives text) None m s k = grind arith
-marked-after pair (all.Gives text) (Some e) m s k = grind arith
-marked-after pair (all.Takes bytes) None m s k = grind arith
-marked-after pair (all.Takes bytes) (Some e) m s k = grind arith
-marked-after pair (all.Allocates a b full) None m s k = grind arith
-marked-after pair (all.Allocates a b full) (Some e) m s k = grind arith
-marked-after pair (all.Calls_back a b full) None m s k = grind arith
-marked-after pair (all.Calls_back a b full) (Some e) m s k = grind arith
-marked-after pair (all.Interrupts full) None m s k = grind arith
-marked-after pair (all.Interrupts full) (Some e) m s k = grind arith
-marked-after pair (all.Rts_comes on taken by_peer) None m s k = grind arith
-marked-after pair (all.Rts_comes on taken by_peer) (Some e) m s k = grind arith
-marked-after pair (all.Str_comes of_size by_peer) None m s k = grind arith
-marked-after pair (all.Str_comes of_size by_peer) (Some e) m s k = grind arith
-marked-after pair all.Cls_comes None m s k = grind arith
-marked-after pair all.Cls_comes (Some e) m s k = grind arith
-marked-after pair (all.All_comes on a b) None m s k = grind arith
-marked-after pair (all.All_comes on a b) (Some e) m s k = grind arith
-marked-after pair (all.Gvb_comes on a b) None m s k = grind arith
-marked-after pair (all.Gvb_comes on a b) (Some e) m s k = grind arith
-marked-after pair (all.Ret_comes on a b) None m s k = grind arith
-marked-after pair (all.Ret_comes on a b) (Some e) m s k = grind arith
-marked-after pair (all.Inr_comes on) None m s k = grind arith
-marked-after pair (all.Inr_comes on) (Some e) m s k = grind arith
-marked-after pair (all.Ins_comes on) None m s k = grind arith
-marked-after pair (all.Ins_comes on) (Some e) m s k = grind arith
-marked-after pair (all.Text_comes head of_size text) None m s k = grind arith
-marked-after pair (all.Text_comes head of_size text) (Some e) m s k = grind arith
-marked-after pair all.Text_goes_out None m s k = grind arith
-marked-after pair all.Text_goes_out (Some e) m s k = grind arith
-marked-after pair (all.Is_answered Rfnm) None m s k = grind arith
-marked-after pair (all.Is_answered Rfnm) (Some e) m s k = grind arith
-marked-after pair (all.Is_answered Incomplete) before m s k = k
-marked-after pair (all.Is_answered Dead) before m s k = k
-marked-after pair all.Is_cleared before m s k = refl
+marked-after pair (Happening.Asks_to_send of_size with_room own full) None m s k = grind arith
+marked-after pair (Happening.Asks_to_send of_size with_room own full) (Some e) m s k = grind arith
+marked-after pair (Happening.Asks_to_receive with_room on own full) None m s k = grind arith
+marked-after pair (Happening.Asks_to_receive with_room on own full) (Some e) m s k = grind arith
+marked-after pair (Happening.Closes full) None m s k = grind arith
+marked-after pair (Happening.Closes full) (Some e) m s k = grind arith
+marked-after pair (Happening.Gives text) None m s k = grind arith
+marked-after pair (Happening.Gives text) (Some e) m s k = grind arith
+marked-after pair (Happening.Takes bytes) None m s k = grind arith
+marked-after pair (Happening.Takes bytes) (Some e) m s k = grind arith
+marked-after pair (Happening.Allocates a b full) None m s k = grind arith
+marked-after pair (Happening.Allocates a b full) (Some e) m s k = grind arith
+marked-after pair (Happening.Calls_back a b full) None m s k = grind arith
+marked-after pair (Happening.Calls_back a b full) (Some e) m s k = grind arith
+marked-after pair (Happening.Interrupts full) None m s k = grind arith
+marked-after pair (Happening.Interrupts full) (Some e) m s k = grind arith
+marked-after pair (Happening.Rts_comes on taken by_peer) None m s k = grind arith
+marked-after pair (Happening.Rts_comes on taken by_peer) (Some e) m s k = grind arith
+marked-after pair (Happening.Str_comes of_size by_peer) None m s k = grind arith
+marked-after pair (Happening.Str_comes of_size by_peer) (Some e) m s k = grind arith
+marked-after pair Happening.Cls_comes None m s k = grind arith
+marked-after pair Happening.Cls_comes (Some e) m s k = grind arith
+marked-after pair (Happening.All_comes on a b) None m s k = grind arith
+marked-after pair (Happening.All_comes on a b) (Some e) m s k = grind arith
+marked-after pair (Happening.Gvb_comes on a b) None m s k = grind arith
+marked-after pair (Happening.Gvb_comes on a b) (Some e) m s k = grind arith
+marked-after pair (Happening.Ret_comes on a b) None m s k = grind arith
+marked-after pair (Happening.Ret_comes on a b) (Some e) m s k = grind arith
+marked-after pair (Happening.Inr_comes on) None m s k = grind arith
+marked-after pair (Happening.Inr_comes on) (Some e) m s k = grind arith
+marked-after pair (Happening.Ins_comes on) None m s k = grind arith
+marked-after pair (Happening.Ins_comes on) (Some e) m s k = grind arith
+marked-after pair (Happening.Text_comes head of_size text) None m s k = grind arith
+marked-after pair (Happening.Text_comes head of_size text) (Some e) m s k = grind arith
+marked-after pair Happening.Text_goes_out None m s k = grind arith
+marked-after pair Happening.Text_goes_out (Some e) m s k = grind arith
+marked-after pair (Happening.Is_answered Rfnm) None m s k = grind arith
+marked-after pair (Happening.Is_answered Rfnm) (Some e) m s k = grind arith
+marked-after pair (Happening.Is_answered Incomplete) before m s k = k
+marked-after pair (Happening.Is_answered Dead) before m s k = k
+marked-after pair Happening.Is_cleared before m s k = refl
 
 -- its sums: the counters or what is outstanding, and the bits that are stored
 abbrev pub IsSummed : Pair → End → Marks → Type 0
 IsSummed pair e m = record {
   messages : e.messages + m.returned_messages + m.used_messages ≡ m.granted_messages;
   bits : e.bits + m.returned_bits + m.used_bits ≡ m.granted_bits;
-  kept : is_dropped pair m ≡ false → m.entered ≡ m.drawn ++ e.stored;
-  dropped : is_dropped pair m ≡ true → e.stored ≡ [];
+  kept : is_marked_dropped pair m ≡ false → m.entered ≡ m.drawn ++ e.stored;
+  dropped : is_marked_dropped pair m ≡ true → e.stored ≡ [];
 }
 
 abbrev pub IsSummedAt : Pair → Option End → Marks → Type 0
@@ -119,60 +118,60 @@ sent_below e =
       times e.size (bytes_to_send e) e.bits (omega (arith, min-le_right waiting rest, min-le_left (e.bits / e.size) (MAX_TEXT / e.size))),
     )
 
-goes-out : (pair : Pair) (e : End) (m : Marks) → SoundAt pair (Some e) → IsMarked e m → IsSummed pair e m → Sums pair all.Text_goes_out (Some e) m
+goes-out : (pair : Pair) (e : End) (m : Marks) → SoundAt pair (Some e) → IsMarked e m → IsSummed pair e m → Sums pair Happening.Text_goes_out (Some e) m
 goes-out pair e m s k q =
     let b = sent_below e in
     let whole : length (take (bytes_to_send e * e.size) e.stored) ≡ bytes_to_send e * e.size = length-take-le (bytes_to_send e * e.size) e.stored b.0 in
     grind (arith, on_sums)
 
-called-back : (pair : Pair) (on of_messages of_bits : ℕ) (e : End) (m : Marks) → SoundAt pair (Some e) → IsMarked e m → IsSummed pair e m → Sums pair (all.Gvb_comes on of_messages of_bits) (Some e) m
+called-back : (pair : Pair) (on of_messages of_bits : ℕ) (e : End) (m : Marks) → SoundAt pair (Some e) → IsMarked e m → IsSummed pair e m → Sums pair (Happening.Gvb_comes on of_messages of_bits) (Some e) m
 called-back pair on of_messages of_bits e m s k q =
     let a = back_below e.messages of_messages in
     let b = back_below e.bits of_bits in
     grind (arith, on_sums)
 
 pub summed-after : (pair : Pair) (what : Happening) (before : Option End) (m : Marks) → SoundAt pair before → IsMarkedAt before m → IsSummedAt pair before m → Sums pair what before m
-summed-after pair (all.Asks_to_send of_size with_room own full) None m s k q = grind (arith, on_sums)
-summed-after pair (all.Asks_to_send of_size with_room own full) (Some e) m s k q = grind (arith, on_sums)
-summed-after pair (all.Asks_to_receive with_room on own full) None m s k q = grind (arith, on_sums)
-summed-after pair (all.Asks_to_receive with_room on own full) (Some e) m s k q = grind (arith, on_sums)
-summed-after pair (all.Closes full) None m s k q = tt
-summed-after pair (all.Closes full) (Some e) m s k q = grind (arith, on_sums)
-summed-after pair (all.Gives text) None m s k q = tt
-summed-after pair (all.Gives text) (Some e) m s k q = grind (arith, on_sums)
-summed-after pair (all.Takes bytes) None m s k q = tt
-summed-after pair (all.Takes bytes) (Some e) m s k q = grind (arith, on_sums)
-summed-after pair (all.Allocates a b full) None m s k q = tt
-summed-after pair (all.Allocates a b full) (Some e) m s k q = grind (arith, on_sums)
-summed-after pair (all.Calls_back a b full) None m s k q = tt
-summed-after pair (all.Calls_back a b full) (Some e) m s k q = grind (arith, on_sums)
-summed-after pair (all.Interrupts full) None m s k q = tt
-summed-after pair (all.Interrupts full) (Some e) m s k q = grind (arith, on_sums)
-summed-after pair (all.Rts_comes on taken by_peer) None m s k q = grind (arith, on_sums)
-summed-after pair (all.Rts_comes on taken by_peer) (Some e) m s k q = grind (arith, on_sums)
-summed-after pair (all.Str_comes of_size by_peer) None m s k q = grind (arith, on_sums)
-summed-after pair (all.Str_comes of_size by_peer) (Some e) m s k q = grind (arith, on_sums)
-summed-after pair all.Cls_comes None m s k q = grind (arith, on_sums)
-summed-after pair all.Cls_comes (Some e) m s k q = grind (arith, on_sums)
-summed-after pair (all.All_comes on a b) None m s k q = tt
-summed-after pair (all.All_comes on a b) (Some e) m s k q = grind (arith, on_sums)
-summed-after pair (all.Gvb_comes on a b) None m s k q = tt
-summed-after pair (all.Gvb_comes on a b) (Some e) m s k q = called-back pair on a b e m s k q
-summed-after pair (all.Ret_comes on a b) None m s k q = tt
-summed-after pair (all.Ret_comes on a b) (Some e) m s k q = grind (arith, on_sums)
-summed-after pair (all.Inr_comes on) None m s k q = tt
-summed-after pair (all.Inr_comes on) (Some e) m s k q = grind (arith, on_sums)
-summed-after pair (all.Ins_comes on) None m s k q = tt
-summed-after pair (all.Ins_comes on) (Some e) m s k q = grind (arith, on_sums)
-summed-after pair (all.Text_comes head of_size text) None m s k q = tt
-summed-after pair (all.Text_comes head of_size text) (Some e) m s k q = grind (arith, on_sums)
-summed-after pair all.Text_goes_out None m s k q = tt
-summed-after pair all.Text_goes_out (Some e) m s k q = goes-out pair e m s k q
-summed-after pair (all.Is_answered Rfnm) None m s k q = tt
-summed-after pair (all.Is_answered Rfnm) (Some e) m s k q = grind (arith, on_sums)
-summed-after pair (all.Is_answered Incomplete) before m s k q = q
-summed-after pair (all.Is_answered Dead) before m s k q = q
-summed-after pair all.Is_cleared before m s k q = tt
+summed-after pair (Happening.Asks_to_send of_size with_room own full) None m s k q = grind (arith, on_sums)
+summed-after pair (Happening.Asks_to_send of_size with_room own full) (Some e) m s k q = grind (arith, on_sums)
+summed-after pair (Happening.Asks_to_receive with_room on own full) None m s k q = grind (arith, on_sums)
+summed-after pair (Happening.Asks_to_receive with_room on own full) (Some e) m s k q = grind (arith, on_sums)
+summed-after pair (Happening.Closes full) None m s k q = tt
+summed-after pair (Happening.Closes full) (Some e) m s k q = grind (arith, on_sums)
+summed-after pair (Happening.Gives text) None m s k q = tt
+summed-after pair (Happening.Gives text) (Some e) m s k q = grind (arith, on_sums)
+summed-after pair (Happening.Takes bytes) None m s k q = tt
+summed-after pair (Happening.Takes bytes) (Some e) m s k q = grind (arith, on_sums)
+summed-after pair (Happening.Allocates a b full) None m s k q = tt
+summed-after pair (Happening.Allocates a b full) (Some e) m s k q = grind (arith, on_sums)
+summed-after pair (Happening.Calls_back a b full) None m s k q = tt
+summed-after pair (Happening.Calls_back a b full) (Some e) m s k q = grind (arith, on_sums)
+summed-after pair (Happening.Interrupts full) None m s k q = tt
+summed-after pair (Happening.Interrupts full) (Some e) m s k q = grind (arith, on_sums)
+summed-after pair (Happening.Rts_comes on taken by_peer) None m s k q = grind (arith, on_sums)
+summed-after pair (Happening.Rts_comes on taken by_peer) (Some e) m s k q = grind (arith, on_sums)
+summed-after pair (Happening.Str_comes of_size by_peer) None m s k q = grind (arith, on_sums)
+summed-after pair (Happening.Str_comes of_size by_peer) (Some e) m s k q = grind (arith, on_sums)
+summed-after pair Happening.Cls_comes None m s k q = grind (arith, on_sums)
+summed-after pair Happening.Cls_comes (Some e) m s k q = grind (arith, on_sums)
+summed-after pair (Happening.All_comes on a b) None m s k q = tt
+summed-after pair (Happening.All_comes on a b) (Some e) m s k q = grind (arith, on_sums)
+summed-after pair (Happening.Gvb_comes on a b) None m s k q = tt
+summed-after pair (Happening.Gvb_comes on a b) (Some e) m s k q = called-back pair on a b e m s k q
+summed-after pair (Happening.Ret_comes on a b) None m s k q = tt
+summed-after pair (Happening.Ret_comes on a b) (Some e) m s k q = grind (arith, on_sums)
+summed-after pair (Happening.Inr_comes on) None m s k q = tt
+summed-after pair (Happening.Inr_comes on) (Some e) m s k q = grind (arith, on_sums)
+summed-after pair (Happening.Ins_comes on) None m s k q = tt
+summed-after pair (Happening.Ins_comes on) (Some e) m s k q = grind (arith, on_sums)
+summed-after pair (Happening.Text_comes head of_size text) None m s k q = tt
+summed-after pair (Happening.Text_comes head of_size text) (Some e) m s k q = grind (arith, on_sums)
+summed-after pair Happening.Text_goes_out None m s k q = tt
+summed-after pair Happening.Text_goes_out (Some e) m s k q = goes-out pair e m s k q
+summed-after pair (Happening.Is_answered Rfnm) None m s k q = tt
+summed-after pair (Happening.Is_answered Rfnm) (Some e) m s k q = grind (arith, on_sums)
+summed-after pair (Happening.Is_answered Incomplete) before m s k q = q
+summed-after pair (Happening.Is_answered Dead) before m s k q = q
+summed-after pair Happening.Is_cleared before m s k q = tt
 
 -- All three, over a list of acts.
 

@@ -19,21 +19,19 @@ use Rattle.ncp_slot.proofs.Places.{slot_at-with_slot_same, slot_at-with_slot_oth
 use Rattle.ncp_slot.proofs.Waking.{slot_at-all_woken}
 use Rattle.ncp_host.specs.Counting.{one_more}
 use Rattle.ncp_host.specs.PeerState.{PeerState, control_link, is_answered, answer_taken, answer_comes}
-use Rattle.ncp_host.specs.Hearing.{is_wrong_link, control_size, control_after, text_after, hears, hears_all, hears_last, message_after}
+use Rattle.ncp_host.specs.Hearing.{is_wrong_link, control_size, state_after_control, state_after_text, state_hears, state_hears_all, hears_last, message_after}
 use Rattle.ncp_host.specs.Output.{leader_to}
 use Rattle.ncp_transcript.specs.declared.call.Call.{Call}
-use Rattle.ncp_transcript.specs.declared.call.Call.TheVariants as calls_of
 use Rattle.ncp_transcript.specs.declared.note.HostNote.{HostNote}
-use Rattle.ncp_transcript.specs.declared.note.HostNote.TheVariants as notes
 use Rattle.ncp_proof_runs.specs.Peers.{called_for, bits_for, out_for, note_for}
 use Rattle.ncp_proof_runs.proofs.Said.{IsOut, IsSaidOf}
 use Rattle.ncp_proof_runs.proofs.Ready.{Addressed}
 
 -- What comes leaves the slots as they are.
 
-all-slots : (cs : List Command) (s : PeerState) → (hears_all cs s).slots ≡ s.slots
+all-slots : (cs : List Command) (s : PeerState) → (state_hears_all cs s).slots ≡ s.slots
 all-slots [] s = refl
-all-slots (c ∷ cs) s = all-slots cs (hears c s)
+all-slots (c ∷ cs) s = all-slots cs (state_hears c s)
 
 last-slots : (fault : Option CommandFault) (s : PeerState) → (hears_last fault s).slots ≡ s.slots
 last-slots None s = refl
@@ -43,11 +41,11 @@ pub message-slots : (on : ℕ) (bits : List Bool) (r : Result Message MessageFau
 message-slots on bits (Err fault) s = refl
 message-slots on bits (Ok m) s = by (is_wrong_link on) (on == control_link) (m.size == control_size)
   where
-    control : (b : Bool) → (if b then hears_last (fault_in (bytes_of m.text)) (hears_all (commands_in (bytes_of m.text)) s) else record s { counts = record s.counts { wrong_size = one_more s.counts.wrong_size } }).slots ≡ s.slots
-    control true = last-slots (fault_in (bytes_of m.text)) (hears_all (commands_in (bytes_of m.text)) s) ∙ all-slots (commands_in (bytes_of m.text)) s
+    control : (b : Bool) → (if b then hears_last (fault_in (bytes_of m.text)) (state_hears_all (commands_in (bytes_of m.text)) s) else record s { counts = record s.counts { wrong_size = one_more s.counts.wrong_size } }).slots ≡ s.slots
+    control true = last-slots (fault_in (bytes_of m.text)) (state_hears_all (commands_in (bytes_of m.text)) s) ∙ all-slots (commands_in (bytes_of m.text)) s
     control false = refl
 
-    by : (a b c : Bool) → (if a then record s { counts = record s.counts { wrong_link = one_more s.counts.wrong_link } } else if b then control_after m s else text_after on (take 72 bits) m s).slots ≡ s.slots
+    by : (a b c : Bool) → (if a then record s { counts = record s.counts { wrong_link = one_more s.counts.wrong_link } } else if b then state_after_control m s else state_after_text on (take 72 bits) m s).slots ≡ s.slots
     by true b c = refl
     by false true c = control (m.size == control_size)
     by false false c = refl
@@ -95,25 +93,25 @@ addressed-same : (n : ℕ) (s t : PeerState) → t.slots ≡ s.slots → Address
 addressed-same n s t is a on message e = a on message (sym (ap (λ (x : LinkSlots). kept_message (slot_at x on)) is) ∙ e)
 
 addressed-called : (n : ℕ) (call : Call) (s : PeerState) → Addressed n s → Addressed n (called_for call s)
-addressed-called n (calls_of.Reset peer) s a = a
-addressed-called n (calls_of.AskSend peer local remote size room) s a = a
-addressed-called n (calls_of.AskReceive peer local remote room) s a = a
-addressed-called n (calls_of.Give peer pair text) s a = a
-addressed-called n (calls_of.Take peer pair bytes) s a = a
-addressed-called n (calls_of.Allocate peer pair messages bits) s a = a
-addressed-called n (calls_of.CallBack peer pair fm fb) s a = a
-addressed-called n (calls_of.Interrupt peer pair) s a = a
-addressed-called n (calls_of.Echo peer byte) s a = a
-addressed-called n (calls_of.Close peer pair) s a = a
-addressed-called n (calls_of.Wake peer) s a = λ on message e. a on message (kept-woken (slot_at s.slots on) message (sym (ap kept_message (slot_at-all_woken s.slots on)) ∙ e))
-addressed-called n (calls_of.State peer pair) s a = a
-addressed-called n (calls_of.Phase peer) s a = a
-addressed-called n (calls_of.Echoed peer) s a = a
-addressed-called n (calls_of.Errors peer) s a = a
-addressed-called n (calls_of.Counts peer) s a = a
-addressed-called n (calls_of.Waiting peer place) s a = a
-addressed-called n (calls_of.Kept peer link) s a = a
-addressed-called n calls_of.Ignored s a = a
+addressed-called n (Call.Reset peer) s a = a
+addressed-called n (Call.AskSend peer local remote size room) s a = a
+addressed-called n (Call.AskReceive peer local remote room) s a = a
+addressed-called n (Call.Give peer pair text) s a = a
+addressed-called n (Call.Take peer pair bytes) s a = a
+addressed-called n (Call.Allocate peer pair messages bits) s a = a
+addressed-called n (Call.CallBack peer pair fm fb) s a = a
+addressed-called n (Call.Interrupt peer pair) s a = a
+addressed-called n (Call.Echo peer byte) s a = a
+addressed-called n (Call.Close peer pair) s a = a
+addressed-called n (Call.Wake peer) s a = λ on message e. a on message (kept-woken (slot_at s.slots on) message (sym (ap kept_message (slot_at-all_woken s.slots on)) ∙ e))
+addressed-called n (Call.State peer pair) s a = a
+addressed-called n (Call.Phase peer) s a = a
+addressed-called n (Call.Echoed peer) s a = a
+addressed-called n (Call.Errors peer) s a = a
+addressed-called n (Call.Counts peer) s a = a
+addressed-called n (Call.Waiting peer place) s a = a
+addressed-called n (Call.Kept peer link) s a = a
+addressed-called n Call.Ignored s a = a
 
 addressed-out : (n : ℕ) (message : List Bool) (s : PeerState) → IsOut n message s → Addressed n s → Addressed n (out_for (leader_in message) message s)
 addressed-out n message s p a =
@@ -125,18 +123,18 @@ addressed-in n (Err short) bits s a = a
 addressed-in n (Ok leader) bits s a = addressed-same n s (message_after leader.link bits (message_in bits) s) (message-slots leader.link bits (message_in bits) s) a
 
 pub addressed-after : (n : ℕ) (note : HostNote) (s : PeerState) → IsSaidOf n note s → Addressed n s → Addressed n (note_for note s)
-addressed-after n (notes.Refused call fault) s p a = a
-addressed-after n (notes.Done call) s p a = addressed-called n call s a
-addressed-after n (notes.Took peer pair bytes text) s p a = a
-addressed-after n (notes.State peer pair r) s p a = a
-addressed-after n (notes.Phase peer flags) s p a = a
-addressed-after n (notes.Echoed peer byte) s p a = a
-addressed-after n (notes.Errors peer errors) s p a = a
-addressed-after n (notes.Counts peer counts) s p a = a
-addressed-after n (notes.Waiting peer place command) s p a = a
-addressed-after n (notes.Kept peer link message) s p a = a
-addressed-after n (notes.Ignored ignored) s p a = a
-addressed-after n (notes.Out message) s p a = addressed-out n message s p a
-addressed-after n notes.Nothing s p a = a
-addressed-after n (notes.In message received) s p a = addressed-in n (leader_in message) message s a
-addressed-after n (notes.Answered peer link how received) s p a = addressed-answer n link how s a
+addressed-after n (HostNote.Refused call fault) s p a = a
+addressed-after n (HostNote.Done call) s p a = addressed-called n call s a
+addressed-after n (HostNote.Took peer pair bytes text) s p a = a
+addressed-after n (HostNote.State peer pair r) s p a = a
+addressed-after n (HostNote.Phase peer flags) s p a = a
+addressed-after n (HostNote.Echoed peer byte) s p a = a
+addressed-after n (HostNote.Errors peer errors) s p a = a
+addressed-after n (HostNote.Counts peer counts) s p a = a
+addressed-after n (HostNote.Waiting peer place command) s p a = a
+addressed-after n (HostNote.Kept peer link message) s p a = a
+addressed-after n (HostNote.Ignored ignored) s p a = a
+addressed-after n (HostNote.Out message) s p a = addressed-out n message s p a
+addressed-after n HostNote.Nothing s p a = a
+addressed-after n (HostNote.In message received) s p a = addressed-in n (leader_in message) message s a
+addressed-after n (HostNote.Answered peer link how received) s p a = addressed-answer n link how s a

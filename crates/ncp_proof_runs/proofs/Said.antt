@@ -13,9 +13,7 @@ use Rattle.ncp_host.specs.Hearing.{message_received, answer_received}
 use Rattle.ncp_host.specs.Output.{leader_to, links, output_on}
 use Rattle.ncp_host.specs.Host.{is_one_of}
 use Rattle.ncp_transcript.specs.declared.call.Call.{Call}
-use Rattle.ncp_transcript.specs.declared.call.Call.TheVariants as calls_of
 use Rattle.ncp_transcript.specs.declared.note.HostNote.{HostNote}
-use Rattle.ncp_transcript.specs.declared.note.HostNote.TheVariants as notes
 use Rattle.ncp_proof_runs.specs.Peers.{note_for}
 
 pub record IsOut (n : ℕ) (message : List Bool) (s : PeerState) : Type 0 where
@@ -30,16 +28,16 @@ IsIn (Ok leader) bits told s = told ≡ message_received leader.link (message_in
 
 -- a reset that was done was not refused, and neither was an echo
 abbrev pub IsDone : Call → PeerState → Type 0
-IsDone (calls_of.Reset peer) s = reset_answer s.peer.phase ≡ Ok tt
-IsDone (calls_of.Echo peer byte) s = reply_of_echo byte s.peer ≡ Ok tt
+IsDone (Call.Reset peer) s = reset_answer s.peer.phase ≡ Ok tt
+IsDone (Call.Echo peer byte) s = reply_of_echo byte s.peer ≡ Ok tt
 IsDone call s = Unit {0}
 
 abbrev pub IsSaidOf : ℕ → HostNote → PeerState → Type 0
-IsSaidOf n (notes.Done call) s = IsDone call s
-IsSaidOf n (notes.Took peer pair bytes text) s = reply_of_take (comes_of pair (Take bytes) s.peer) ≡ Ok text
-IsSaidOf n (notes.Out message) s = IsOut n message s
-IsSaidOf n (notes.In message told) s = IsIn (leader_in message) message told s
-IsSaidOf n (notes.Answered peer link answer told) s = told ≡ answer_received link s
+IsSaidOf n (HostNote.Done call) s = IsDone call s
+IsSaidOf n (HostNote.Took peer pair bytes text) s = reply_of_take (comes_of pair (Take bytes) s.peer) ≡ Ok text
+IsSaidOf n (HostNote.Out message) s = IsOut n message s
+IsSaidOf n (HostNote.In message told) s = IsIn (leader_in message) message told s
+IsSaidOf n (HostNote.Answered peer link answer told) s = told ≡ answer_received link s
 IsSaidOf n other s = Unit {0}
 
 abbrev pub IsRunOf : ℕ → List HostNote → PeerState → Type 0

@@ -9,7 +9,6 @@ use Rattle.ncp_leader.specs.declared.fault.MessageFault.{MessageFault}
 use Rattle.ncp_leader.specs.Leader.{leader_in}
 use Rattle.ncp_leader.specs.Message.{Message, message_in}
 use Rattle.ncp_terms.specs.declared.command.Command.{Command}
-use Rattle.ncp_terms.specs.declared.command.Command.TheVariants as commands
 use Rattle.ncp_terms.specs.declared.fault.CommandFault.{CommandFault}
 use Rattle.ncp_control.specs.Reading.{commands_in, fault_in}
 use Rattle.ncp_slot.specs.declared.slot.Slot.TheVariants.{Empty, Ready, Travelling, Held}
@@ -25,22 +24,18 @@ use Rattle.ncp_model.specs.Texts.{made_by_text}
 use Rattle.ncp_model.specs.Ends.{text_in}
 use Rattle.ncp_model.specs.Echo.{echo_answer}
 use Rattle.ncp_model.specs.Sending.{is_full}
-use Rattle.ncp_model.specs.Phase.{Phase, Reaction, up, is_rst, is_rrp, is_other, is_resetting, has_place, wants_reset, owes_answer, goes_down, queued, answers, asks}
-use Rattle.ncp_model.specs.Phase as phases
-use Rattle.ncp_model.specs.Peers.{Peer, Ask_to_send, Ask_to_receive, Close, Give, Take, Allocate, Call_back, Interrupt, happened_at}
-use Rattle.ncp_model.specs.Peers as peers
+use Rattle.ncp_model.specs.Phase.{Phase, Reaction, up, is_rst, is_rrp, is_other, is_resetting, has_place, wants_reset, owes_answer, goes_down, queued, phase_answers, phase_asks, makes_all, phase_hears, phase_makes, phase_settles, resets}
+use Rattle.ncp_model.specs.Peers.{Peer, Ask_to_send, Ask_to_receive, Close, Give, Take, Allocate, Call_back, Interrupt, happened_at, PairCall, calls_reset, calls_up, cleared, cuts, echo_called, hears, hears_other, makes, peer_sends, reaction, takes_text}
 use Rattle.ncp_host.specs.Counting.{one_more}
-use Rattle.ncp_host.specs.PeerState.{PeerState, new_state, calls, control_link, frees_on, is_answered, answer_taken, answer_comes}
-use Rattle.ncp_host.specs.Hearing.{control_size, control_after, text_after, is_wrong_link, hears, hears_all, hears_last, message_after}
+use Rattle.ncp_host.specs.PeerState.{PeerState, new_state, state_calls, control_link, frees_on, is_answered, answer_taken, answer_comes}
+use Rattle.ncp_host.specs.Hearing.{control_size, state_after_control, state_after_text, is_wrong_link, state_hears, state_hears_all, hears_last, message_after}
 use Rattle.ncp_host.specs.Output.{after_by}
 use Rattle.ncp_host.specs.Host.{state_of, is_one_of, new_host}
 use Rattle.ncp_host.specs.Calls.{sockets}
 use Rattle.ncp_transcript.specs.declared.call.Call.{Call}
-use Rattle.ncp_transcript.specs.declared.call.Call.TheVariants as calls_of
 use Rattle.ncp_transcript.specs.declared.note.HostNote.{HostNote}
-use Rattle.ncp_transcript.specs.declared.note.HostNote.TheVariants as notes
 use Rattle.ncp_transcript.specs.After.{after_notes}
-use Rattle.ncp_proof_runs.specs.Peers.{FromBeginning, notes_of, called_for, bits_for, out_for, note_for, notes_for}
+use Rattle.ncp_proof_runs.specs.Peers.{FromBeginning, notes_of_peer, called_for, bits_for, out_for, note_for, notes_for}
 use Rattle.ncp_proof_runs.specs.Links.{told_on, is_quiet_told}
 use Rattle.ncp_proof_runs.specs.Making.{made_of}
 use Rattle.ncp_proof_runs.proofs.EachPeer.{each_peer}
@@ -56,26 +51,26 @@ Settled s = is_quiet s.slots ≡ true → Clear s.peer.phase
 
 -- Phases.
 
-asks-clear : (p : Phase) → p.owe ≡ false → Clear (asks p)
+asks-clear : (p : Phase) → p.owe ≡ false → Clear (phase_asks p)
 asks-clear p e = go p.want refl
   where
-    go : (b : Bool) → p.want ≡ b → Clear (if b then record p { down = false; want = false; wait = true; waiting = if list_any is_rst p.waiting then p.waiting else p.waiting ++ commands.Rst ∷ [] } else p)
+    go : (b : Bool) → p.want ≡ b → Clear (if b then record p { down = false; want = false; wait = true; waiting = if list_any is_rst p.waiting then p.waiting else p.waiting ++ Command.Rst ∷ [] } else p)
     go true f = (refl, e)
     go false f = (f, e)
 
-answers-owe : (p : Phase) → (answers p).owe ≡ false
+answers-owe : (p : Phase) → (phase_answers p).owe ≡ false
 answers-owe p = go p.owe refl
   where
-    go : (b : Bool) → p.owe ≡ b → (if b then record p { down = false; owe = false; waiting = if list_any is_rrp p.waiting then p.waiting else p.waiting ++ commands.Rrp ∷ [] } else p).owe ≡ false
+    go : (b : Bool) → p.owe ≡ b → (if b then record p { down = false; owe = false; waiting = if list_any is_rrp p.waiting then p.waiting else p.waiting ++ Command.Rrp ∷ [] } else p).owe ≡ false
     go true f = refl
     go false f = f
 
-settles-clear : (quiet : Bool) (p : Phase) → quiet ≡ true → Clear (phases.settles quiet p)
-settles-clear quiet p q = subst (λ (b : Bool). Clear (if b then asks (answers p) else p)) (sym q) (asks-clear (answers p) (answers-owe p))
+settles-clear : (quiet : Bool) (p : Phase) → quiet ≡ true → Clear (phase_settles quiet p)
+settles-clear quiet p q = subst (λ (b : Bool). Clear (if b then phase_asks (phase_answers p) else p)) (sym q) (asks-clear (phase_answers p) (answers-owe p))
 
-pub makes-clear : (cs : List Command) (p : Phase) → Clear p → Clear (phases.makes_all cs p)
+pub makes-clear : (cs : List Command) (p : Phase) → Clear p → Clear (makes_all cs p)
 makes-clear [] p k = k
-makes-clear (c ∷ cs) p k = makes-clear cs (phases.makes c p) (go (up p && is_other c) (has_place p))
+makes-clear (c ∷ cs) p k = makes-clear cs (phase_makes c p) (go (up p && is_other c) (has_place p))
   where
     go : (b d : Bool) → Clear (if b then (if d then queued c p else goes_down p) else p)
     go true true = k
@@ -83,46 +78,46 @@ makes-clear (c ∷ cs) p k = makes-clear cs (phases.makes c p) (go (up p && is_o
     go false d = k
 
 -- what is done while the host is up
-up-clear : (cs : List Command) (p now : Peer) → now.phase ≡ phases.makes_all cs p.phase → Clear p.phase → Clear (if up p.phase then now else p).phase
+up-clear : (cs : List Command) (p now : Peer) → now.phase ≡ makes_all cs p.phase → Clear p.phase → Clear (if up p.phase then now else p).phase
 up-clear cs p now is k = go (up p.phase)
   where
     go : (b : Bool) → Clear (if b then now else p).phase
     go true = subst Clear (sym is) (makes-clear cs p.phase k)
     go false = k
 
-reset-clear : (quiet : Bool) (p : Peer) → Clear p.phase → quiet ≡ true → Clear (peers.calls_reset quiet p).phase
+reset-clear : (quiet : Bool) (p : Peer) → Clear p.phase → quiet ≡ true → Clear (calls_reset quiet p).phase
 reset-clear quiet p k q = go (is_resetting p.phase)
   where
-    inner : (b : Bool) → Clear (if b then p.phase else phases.settles quiet (wants_reset p.phase))
+    inner : (b : Bool) → Clear (if b then p.phase else phase_settles quiet (wants_reset p.phase))
     inner true = k
     inner false = settles-clear quiet (wants_reset p.phase) q
 
-    go : (b : Bool) → Clear (if b then p else peers.cleared (phases.resets quiet p.phase) p).phase
+    go : (b : Bool) → Clear (if b then p else cleared (resets quiet p.phase) p).phase
     go true = k
     go false = inner (is_resetting p.phase)
 
-other-clear : (quiet : Bool) (c : Command) (p : Peer) → ((r : Reaction) → phases.hears c r p.phase ≡ (if up p.phase then (if r.full then goes_down p.phase else phases.makes_all r.replies p.phase) else p.phase))
-    → Clear p.phase → Clear (if up p.phase then peers.hears_other quiet c p else p).phase
+other-clear : (quiet : Bool) (c : Command) (p : Peer) → ((r : Reaction) → phase_hears c r p.phase ≡ (if up p.phase then (if r.full then goes_down p.phase else makes_all r.replies p.phase) else p.phase))
+    → Clear p.phase → Clear (if up p.phase then hears_other quiet c p else p).phase
 other-clear quiet c p is k = go (up p.phase)
   where
     r : Reaction
-    r = peers.reaction quiet c p
+    r = reaction quiet c p
 
-    full : (b : Bool) → Clear (if b then goes_down p.phase else phases.makes_all r.replies p.phase)
+    full : (b : Bool) → Clear (if b then goes_down p.phase else makes_all r.replies p.phase)
     full true = k
     full false = makes-clear r.replies p.phase k
 
-    inner : (b : Bool) → Clear (if b then (if r.full then goes_down p.phase else phases.makes_all r.replies p.phase) else p.phase)
+    inner : (b : Bool) → Clear (if b then (if r.full then goes_down p.phase else makes_all r.replies p.phase) else p.phase)
     inner true = full r.full
     inner false = k
 
-    go : (b : Bool) → Clear (if b then peers.hears_other quiet c p else p).phase
+    go : (b : Bool) → Clear (if b then hears_other quiet c p else p).phase
     go true = subst Clear (sym (is r)) (inner (up p.phase))
     go false = k
 
-command-clear : (quiet : Bool) (c : Command) (p : Peer) → Clear p.phase → quiet ≡ true → Clear (peers.hears quiet c p).phase
-command-clear quiet commands.Rst p k q = settles-clear quiet (owes_answer p.phase) q
-command-clear quiet commands.Rrp p k q = k
+command-clear : (quiet : Bool) (c : Command) (p : Peer) → Clear p.phase → quiet ≡ true → Clear (hears quiet c p).phase
+command-clear quiet Command.Rst p k q = settles-clear quiet (owes_answer p.phase) q
+command-clear quiet Command.Rrp p k q = k
 command-clear quiet c p k q = other-clear quiet c p (λ r. refl) k
 
 -- Slots: where they are quiet after a step that empties none, they were.
@@ -150,50 +145,50 @@ woken-quiet slots = was-quiet slots (all_woken slots) (λ link e. was (slot_at s
 
 -- Each note.
 
-pair-settled : (pair : Pair) (call : peers.Call) (s : PeerState) → Settled s → Settled (calls pair call s)
-pair-settled pair call s k = λ q. up-clear (happened_at pair call s.peer).made s.peer (peers.calls_up pair call s.peer) refl (k q)
+pair-settled : (pair : Pair) (call : PairCall) (s : PeerState) → Settled s → Settled (state_calls pair call s)
+pair-settled pair call s k = λ q. up-clear (happened_at pair call s.peer).made s.peer (calls_up pair call s.peer) refl (k q)
 
 called-settled : (call : Call) (s : PeerState) → Settled s → Settled (called_for call s)
-called-settled (calls_of.Reset peer) s k = λ q. reset-clear (is_quiet s.slots) s.peer (k q) q
-called-settled (calls_of.AskSend peer local remote size room) s k = pair-settled (sockets local remote) (Ask_to_send size room) s k
-called-settled (calls_of.AskReceive peer local remote room) s k = pair-settled (sockets local remote) (Ask_to_receive room) s k
-called-settled (calls_of.Give peer pair text) s k = pair-settled pair (Give text) s k
-called-settled (calls_of.Take peer pair bytes) s k = pair-settled pair (Take bytes) s k
-called-settled (calls_of.Allocate peer pair messages bits) s k = pair-settled pair (Allocate messages bits) s k
-called-settled (calls_of.CallBack peer pair fm fb) s k = pair-settled pair (Call_back fm fb) s k
-called-settled (calls_of.Interrupt peer pair) s k = pair-settled pair Interrupt s k
-called-settled (calls_of.Echo peer byte) s k = λ q. up-clear (made_by_call (echo_answer byte (is_full s.peer.phase) s.peer.echoes)) s.peer (peers.echo_called byte s.peer) refl (k q)
-called-settled (calls_of.Close peer pair) s k = pair-settled pair Close s k
-called-settled (calls_of.Wake peer) s k = λ q. k (woken-quiet s.slots q)
-called-settled (calls_of.State peer pair) s k = k
-called-settled (calls_of.Phase peer) s k = k
-called-settled (calls_of.Echoed peer) s k = k
-called-settled (calls_of.Errors peer) s k = k
-called-settled (calls_of.Counts peer) s k = k
-called-settled (calls_of.Waiting peer place) s k = k
-called-settled (calls_of.Kept peer link) s k = k
-called-settled calls_of.Ignored s k = k
+called-settled (Call.Reset peer) s k = λ q. reset-clear (is_quiet s.slots) s.peer (k q) q
+called-settled (Call.AskSend peer local remote size room) s k = pair-settled (sockets local remote) (Ask_to_send size room) s k
+called-settled (Call.AskReceive peer local remote room) s k = pair-settled (sockets local remote) (Ask_to_receive room) s k
+called-settled (Call.Give peer pair text) s k = pair-settled pair (Give text) s k
+called-settled (Call.Take peer pair bytes) s k = pair-settled pair (Take bytes) s k
+called-settled (Call.Allocate peer pair messages bits) s k = pair-settled pair (Allocate messages bits) s k
+called-settled (Call.CallBack peer pair fm fb) s k = pair-settled pair (Call_back fm fb) s k
+called-settled (Call.Interrupt peer pair) s k = pair-settled pair Interrupt s k
+called-settled (Call.Echo peer byte) s k = λ q. up-clear (made_by_call (echo_answer byte (is_full s.peer.phase) s.peer.echoes)) s.peer (echo_called byte s.peer) refl (k q)
+called-settled (Call.Close peer pair) s k = pair-settled pair Close s k
+called-settled (Call.Wake peer) s k = λ q. k (woken-quiet s.slots q)
+called-settled (Call.State peer pair) s k = k
+called-settled (Call.Phase peer) s k = k
+called-settled (Call.Echoed peer) s k = k
+called-settled (Call.Errors peer) s k = k
+called-settled (Call.Counts peer) s k = k
+called-settled (Call.Waiting peer place) s k = k
+called-settled (Call.Kept peer link) s k = k
+called-settled Call.Ignored s k = k
 
-heard-settled : (cs : List Command) (s : PeerState) → Settled s → Settled (hears_all cs s)
+heard-settled : (cs : List Command) (s : PeerState) → Settled s → Settled (state_hears_all cs s)
 heard-settled [] s k = k
-heard-settled (c ∷ cs) s k = heard-settled cs (hears c s) (λ q. command-clear (is_quiet s.slots) c s.peer (k q) q)
+heard-settled (c ∷ cs) s k = heard-settled cs (state_hears c s) (λ q. command-clear (is_quiet s.slots) c s.peer (k q) q)
 
 last-settled : (fault : Option CommandFault) (s : PeerState) → Settled s → Settled (hears_last fault s)
 last-settled None s k = k
-last-settled (Some fault) s k = λ q. up-clear (commands.Err fault.code fault.bytes ∷ []) s.peer (peers.makes (commands.Err fault.code fault.bytes ∷ []) s.peer) refl (k q)
+last-settled (Some fault) s k = λ q. up-clear (Command.Err fault.code fault.bytes ∷ []) s.peer (makes (Command.Err fault.code fault.bytes ∷ []) s.peer) refl (k q)
 
 message-settled : (on : ℕ) (bits : List Bool) (o : Result Message MessageFault) (s : PeerState) → Settled s → Settled (message_after on bits o s)
 message-settled on bits (Err fault) s k = k
 message-settled on bits (Ok m) s k = go (is_wrong_link on) (on == control_link)
   where
-    control : (b : Bool) → Settled (if b then hears_last (fault_in (bytes_of m.text)) (hears_all (commands_in (bytes_of m.text)) s) else record s { counts = record s.counts { wrong_size = one_more s.counts.wrong_size } })
-    control true = last-settled (fault_in (bytes_of m.text)) (hears_all (commands_in (bytes_of m.text)) s) (heard-settled (commands_in (bytes_of m.text)) s k)
+    control : (b : Bool) → Settled (if b then hears_last (fault_in (bytes_of m.text)) (state_hears_all (commands_in (bytes_of m.text)) s) else record s { counts = record s.counts { wrong_size = one_more s.counts.wrong_size } })
+    control true = last-settled (fault_in (bytes_of m.text)) (state_hears_all (commands_in (bytes_of m.text)) s) (heard-settled (commands_in (bytes_of m.text)) s k)
     control false = k
 
-    go : (a b : Bool) → Settled (if a then record s { counts = record s.counts { wrong_link = one_more s.counts.wrong_link } } else if b then control_after m s else text_after on (take 72 bits) m s)
+    go : (a b : Bool) → Settled (if a then record s { counts = record s.counts { wrong_link = one_more s.counts.wrong_link } } else if b then state_after_control m s else state_after_text on (take 72 bits) m s)
     go true b = k
     go false true = control (m.size == control_size)
-    go false false = λ q. up-clear (made_by_text (take 72 bits) m.text (answer (text_in on m.size m.text s.peer.ends))) s.peer (peers.takes_text on (take 72 bits) m.size m.text s.peer) refl (k q)
+    go false false = λ q. up-clear (made_by_text (take 72 bits) m.text (answer (text_in on m.size m.text s.peer.ends))) s.peer (takes_text on (take 72 bits) m.size m.text s.peer) refl (k q)
 
 bits-settled : (o : Result Leader Short) (bits : List Bool) (s : PeerState) → Settled s → Settled (bits_for o bits s)
 bits-settled (Err short) bits s k = k
@@ -227,7 +222,7 @@ out-settled : (o : Result Leader Short) (message : List Bool) (s : PeerState) �
 out-settled (Err short) message s k = k
 out-settled (Ok leader) message s k = λ q. by (slot_at s.slots leader.link) (k (with-quiet s.slots leader.link (Travelling message) (λ e. absurd (cc e)) q))
   where
-    made : (b : Bool) → Clear s.peer.phase → Clear (if b then peers.sends s.peer else peers.cuts leader.link s.peer).phase
+    made : (b : Bool) → Clear s.peer.phase → Clear (if b then peer_sends s.peer else cuts leader.link s.peer).phase
     made true c = c
     made false c = c
 
@@ -238,21 +233,21 @@ out-settled (Ok leader) message s k = λ q. by (slot_at s.slots leader.link) (k 
     by (Held m) c = c
 
 note-settled : (note : HostNote) (s : PeerState) → Settled s → Settled (note_for note s)
-note-settled (notes.Refused call fault) s k = k
-note-settled (notes.Done call) s k = called-settled call s k
-note-settled (notes.Took peer pair bytes text) s k = pair-settled pair (Take bytes) s k
-note-settled (notes.State peer pair r) s k = k
-note-settled (notes.Phase peer flags) s k = k
-note-settled (notes.Echoed peer byte) s k = k
-note-settled (notes.Errors peer errors) s k = k
-note-settled (notes.Counts peer counts) s k = k
-note-settled (notes.Waiting peer place command) s k = k
-note-settled (notes.Kept peer link message) s k = k
-note-settled (notes.Ignored ignored) s k = k
-note-settled (notes.Out message) s k = out-settled (leader_in message) message s k
-note-settled notes.Nothing s k = k
-note-settled (notes.In message received) s k = bits-settled (leader_in message) message s k
-note-settled (notes.Answered peer link how received) s k = answer-settled link how s k
+note-settled (HostNote.Refused call fault) s k = k
+note-settled (HostNote.Done call) s k = called-settled call s k
+note-settled (HostNote.Took peer pair bytes text) s k = pair-settled pair (Take bytes) s k
+note-settled (HostNote.State peer pair r) s k = k
+note-settled (HostNote.Phase peer flags) s k = k
+note-settled (HostNote.Echoed peer byte) s k = k
+note-settled (HostNote.Errors peer errors) s k = k
+note-settled (HostNote.Counts peer counts) s k = k
+note-settled (HostNote.Waiting peer place command) s k = k
+note-settled (HostNote.Kept peer link message) s k = k
+note-settled (HostNote.Ignored ignored) s k = k
+note-settled (HostNote.Out message) s k = out-settled (leader_in message) message s k
+note-settled HostNote.Nothing s k = k
+note-settled (HostNote.In message received) s k = bits-settled (leader_in message) message s k
+note-settled (HostNote.Answered peer link how received) s k = answer-settled link how s k
 
 run-settled : (all : List HostNote) (s : PeerState) → Settled s → Settled (notes_for all s)
 run-settled [] s k = k
@@ -262,13 +257,13 @@ turned : (a b : Bool) → a ≡ false → a ≡ not b → b ≡ true
 turned a true e f = refl
 turned a false e f = absurd (cc)
 
-pub settled-noted : (me : ℕ) (ns : List ℕ) (all : List HostNote) (n : ℕ) → FromBeginning me ns all → is_one_of n ns ≡ true → list_all (λ on. is_quiet_told (told_on on (notes_of n all))) data_links ≡ true
-    → ((made_of (notes_of n all)).gave_answer ≡ true) × ((made_of (notes_of n all)).did_reset ≡ true)
+pub settled-noted : (me : ℕ) (ns : List ℕ) (all : List HostNote) (n : ℕ) → FromBeginning me ns all → is_one_of n ns ≡ true → list_all (λ on. is_quiet_told (told_on on (notes_of_peer n all))) data_links ≡ true
+    → ((made_of (notes_of_peer n all)).gave_answer ≡ true) × ((made_of (notes_of_peer n all)).did_reset ≡ true)
 settled-noted me ns all n from peer quiet =
-    let s = notes_for (notes_of n all) new_state in
+    let s = notes_for (notes_of_peer n all) new_state in
     let there : state_of (after_notes all (new_host me ns)) n ≡ Some s = (each_peer me ns all n from peer).state in
     let q : is_quiet s.slots ≡ true = quiet_as_noted me ns all n s from there ∙ quiet in
-    let c : Clear s.peer.phase = run-settled (notes_of n all) new_state (λ e. (refl, refl)) q in
+    let c : Clear s.peer.phase = run-settled (notes_of_peer n all) new_state (λ e. (refl, refl)) q in
     let f = flags-noted me ns all n s from there in
-    let l = made_of (notes_of n all) in
+    let l = made_of (notes_of_peer n all) in
     (turned s.peer.phase.owe l.gave_answer c.1 f.3, turned s.peer.phase.want l.did_reset c.0 f.1)

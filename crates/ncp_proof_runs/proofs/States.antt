@@ -10,10 +10,9 @@ use Rattle.ncp_host.specs.Host.{Host, state_in, state_of, at_peer, changed, numb
 use Rattle.ncp_host.specs.Arrivals.{one_other, after_with, after_hearing, after_from}
 use Rattle.ncp_host.specs.Turns.{message_in_turn, after_turn, first_message, first_goes}
 use Rattle.ncp_transcript.specs.declared.call.Call.{Call}
-use Rattle.ncp_transcript.specs.declared.call.Call.TheVariants as calls_of
 use Rattle.ncp_transcript.specs.After.{after_call}
 use Rattle.ncp_transcript.specs.Noting.{is_answer, if_peer, answer_with}
-use Rattle.ncp_proof_runs.specs.Peers.{peer_of_call, peer_of_leader, is_number, called_for, bits_for}
+use Rattle.ncp_proof_runs.specs.Peers.{peer_of_call, peer_of_leader, is_this_number, called_for, bits_for}
 
 -- a peer's state, where the host has the peer, after what happened if it did
 abbrev pub done : Bool → (PeerState → PeerState) → Option PeerState → Option PeerState
@@ -58,26 +57,26 @@ at_peer-state (p ∷ ps) k n f = go (p.0 == k) (p.0 == n) refl refl (at_peer-sta
 pub changed-state : (h : Host) (k n : ℕ) (f : PeerState → PeerState) → state_of (changed k f h) n ≡ done (k == n) f (state_of h n)
 changed-state h k n f = at_peer-state h.peers k n f
 
-pub called-state : (call : Call) (h : Host) (n : ℕ) → state_of (after_call call h) n ≡ done (is_number n (peer_of_call call)) (called_for call) (state_of h n)
-called-state (calls_of.Reset peer) h n = changed-state h peer n _
-called-state (calls_of.AskSend peer local remote size room) h n = changed-state h peer n _
-called-state (calls_of.AskReceive peer local remote room) h n = changed-state h peer n _
-called-state (calls_of.Give peer pair text) h n = changed-state h peer n _
-called-state (calls_of.Take peer pair bytes) h n = changed-state h peer n _
-called-state (calls_of.Allocate peer pair messages bits) h n = changed-state h peer n _
-called-state (calls_of.CallBack peer pair fm fb) h n = changed-state h peer n _
-called-state (calls_of.Interrupt peer pair) h n = changed-state h peer n _
-called-state (calls_of.Echo peer byte) h n = changed-state h peer n _
-called-state (calls_of.Close peer pair) h n = changed-state h peer n _
-called-state (calls_of.Wake peer) h n = changed-state h peer n _
-called-state (calls_of.State peer pair) h n = done_nothing _ (state_of h n)
-called-state (calls_of.Phase peer) h n = done_nothing _ (state_of h n)
-called-state (calls_of.Echoed peer) h n = done_nothing _ (state_of h n)
-called-state (calls_of.Errors peer) h n = done_nothing _ (state_of h n)
-called-state (calls_of.Counts peer) h n = done_nothing _ (state_of h n)
-called-state (calls_of.Waiting peer place) h n = done_nothing _ (state_of h n)
-called-state (calls_of.Kept peer link) h n = done_nothing _ (state_of h n)
-called-state calls_of.Ignored h n = done_not (λ s. s) (state_of h n)
+pub called-state : (call : Call) (h : Host) (n : ℕ) → state_of (after_call call h) n ≡ done (is_this_number n (peer_of_call call)) (called_for call) (state_of h n)
+called-state (Call.Reset peer) h n = changed-state h peer n _
+called-state (Call.AskSend peer local remote size room) h n = changed-state h peer n _
+called-state (Call.AskReceive peer local remote room) h n = changed-state h peer n _
+called-state (Call.Give peer pair text) h n = changed-state h peer n _
+called-state (Call.Take peer pair bytes) h n = changed-state h peer n _
+called-state (Call.Allocate peer pair messages bits) h n = changed-state h peer n _
+called-state (Call.CallBack peer pair fm fb) h n = changed-state h peer n _
+called-state (Call.Interrupt peer pair) h n = changed-state h peer n _
+called-state (Call.Echo peer byte) h n = changed-state h peer n _
+called-state (Call.Close peer pair) h n = changed-state h peer n _
+called-state (Call.Wake peer) h n = changed-state h peer n _
+called-state (Call.State peer pair) h n = done_nothing _ (state_of h n)
+called-state (Call.Phase peer) h n = done_nothing _ (state_of h n)
+called-state (Call.Echoed peer) h n = done_nothing _ (state_of h n)
+called-state (Call.Errors peer) h n = done_nothing _ (state_of h n)
+called-state (Call.Counts peer) h n = done_nothing _ (state_of h n)
+called-state (Call.Waiting peer place) h n = done_nothing _ (state_of h n)
+called-state (Call.Kept peer link) h n = done_nothing _ (state_of h n)
+called-state Call.Ignored h n = done_not (λ s. s) (state_of h n)
 
 -- The order of turns.
 
@@ -97,9 +96,9 @@ itself : (n : ℕ) → (n == n) ≡ true
 itself n = grind arith
 
 -- a peer that is there is one of the numbers
-pub is_there : (ps : List (ℕ × PeerState)) (n : ℕ) (s : PeerState) → state_in ps n ≡ Some s → is_one_of n (numbers_of ps) ≡ true
-is_there [] n s e = absurd (cc)
-is_there (p ∷ ps) n s e = go (p.0 == n) (is_there ps n s) e
+pub peer_there : (ps : List (ℕ × PeerState)) (n : ℕ) (s : PeerState) → state_in ps n ≡ Some s → is_one_of n (numbers_of ps) ≡ true
+peer_there [] n s e = absurd (cc)
+peer_there (p ∷ ps) n s e = go (p.0 == n) (peer_there ps n s) e
   where
     go : (b : Bool) → (state_in ps n ≡ Some s → is_one_of n (numbers_of ps) ≡ true) → (if b then Some p.1 else state_in ps n) ≡ Some s → (b || is_one_of n (numbers_of ps)) ≡ true
     go true rest e = refl
@@ -129,7 +128,7 @@ turn (p ∷ ps) message d e = go (turn ps message (and_parts (not (is_one_of p.0
       where
         by : (b : Bool) → (p.0 == n) ≡ b → b ≡ false
         by true g =
-            let one : is_one_of p.0 (numbers_of ps) ≡ true = ap (λ (k : ℕ). is_one_of k (numbers_of ps)) (eqb-true p.0 n g) ∙ is_there ps n s f in
+            let one : is_one_of p.0 (numbers_of ps) ≡ true = ap (λ (k : ℕ). is_one_of k (numbers_of ps)) (eqb-true p.0 n g) ∙ peer_there ps n s f in
             let no : not true ≡ true = ap not (sym one) ∙ parts.0 in absurd (cc)
         by false g = refl
 
@@ -162,7 +161,7 @@ pub kind_first : (k : ℕ) (b : Bool) → (k == regular) ≡ b → is_kind k ≡
 kind_first k true e = ap (λ (b : Bool). b || k == rfnm || k == destination_dead || k == incomplete) e
 kind_first k false e = ap (λ (b : Bool). b || k == rfnm || k == destination_dead || k == incomplete) e
 
-pub bits-state : (r : Result Leader Short) (bits : List Bool) (h : Host) (n : ℕ) → answer_with r h ≡ None → state_of (after_with r bits h) n ≡ done (is_number n (peer_of_leader r)) (bits_for r bits) (state_of h n)
+pub bits-state : (r : Result Leader Short) (bits : List Bool) (h : Host) (n : ℕ) → answer_with r h ≡ None → state_of (after_with r bits h) n ≡ done (is_this_number n (peer_of_leader r)) (bits_for r bits) (state_of h n)
 bits-state (Err short) bits h n e = done_not (bits_for (Err short) bits) (state_of h n)
 bits-state (Ok leader) bits h n e = go (leader.kind == regular) refl
   where
@@ -188,7 +187,7 @@ bits-state (Ok leader) bits h n e = go (leader.kind == regular) refl
     rest true (Some s) g f none = absurd (cc)
     rest false o g f none = refl
 
-    go : (b : Bool) → (leader.kind == regular) ≡ b → state_of (after_hearing leader bits h) n ≡ done (is_number n (if b then Some leader.host else None)) (bits_for (Ok leader) bits) (state_of h n)
+    go : (b : Bool) → (leader.kind == regular) ≡ b → state_of (after_hearing leader bits h) n ≡ done (is_this_number n (if b then Some leader.host else None)) (bits_for (Ok leader) bits) (state_of h n)
     go true g = ap (λ (b : Bool). state_of (if b then after_from (state_of h leader.host) leader bits h else one_other h) n) (kind_first leader.kind true g) ∙ from g (state_of h leader.host) refl
     go false g =
         ap (λ (b : Bool). state_of (if b then after_from (state_of h leader.host) leader bits h else one_other h) n) (kind_first leader.kind false g)

@@ -2,7 +2,6 @@
 use Rattle.std.proofs.Common.{◌≡◌, ℕ, ◌+◌, ◌%◌, ◌==◌, Bool, true, false, not, ◌&&◌, ◌||◌, if◌then◌else◌, List, [], ◌∷◌, ◌++◌, length, take, drop, Option, None, Some, Result, Ok, Err, inl, inr, refl, sym, ap, ◌∙◌}
 use Rattle.std.specs.FinMap.{get}
 use Rattle.ncp_terms.specs.declared.command.Command.{Command}
-use Rattle.ncp_terms.specs.declared.command.Command.TheVariants as commands
 use Rattle.ncp_model.specs.declared.pair.Pair.{Pair}
 use Rattle.ncp_model.specs.declared.call_fault.CallFault.{CallFault}
 use Rattle.ncp_model.specs.declared.call_fault.CallFault.TheVariants.{NotUp, Closing, NotOpen, WrongEnd, NotWhole, Busy, NoRoom, TooMuch, QueueFull, OutOfMemory}
@@ -11,24 +10,21 @@ use Rattle.ncp_model.specs.End.{End, is_going}
 use Rattle.ncp_model.specs.Act.{Act, Stays, Becomes, answer, leaves, closing}
 use Rattle.ncp_model.specs.Calls.{close, fits, give, bits_to_take, emptied, take_bits, take_held, is_too_much, allocate, call_back, interrupting, interrupt}
 use Rattle.ncp_model.specs.Echo.{echo_answer}
-use Rattle.ncp_model.specs.Happenings.{Outcome, Accepted, Refused, of_call, of_take}
+use Rattle.ncp_model.specs.Happenings.{Outcome, Accepted, Refused, outcome_of_call, of_take}
 use Rattle.ncp_model.specs.Phase.{up, is_resetting, reset_answer}
 use Rattle.ncp_model.specs.Sending.{is_full}
-use Rattle.ncp_model.specs.Peers.{Peer, Close, Give, Take, Allocate, Call_back, Interrupt, happened_at, comes_of, reply, reply_of_take, accepted, reply_of_echo}
-use Rattle.ncp_model.specs.Peers as peers
+use Rattle.ncp_model.specs.Peers.{Peer, Close, Give, Take, Allocate, Call_back, Interrupt, happened_at, comes_of, reply, reply_of_take, call_accepted, reply_of_echo, PairCall}
 use Rattle.ncp_conn.specs.declared.record.Record.{Record}
 use Rattle.ncp_conn.specs.Records.{record_in}
 use Rattle.ncp_host.specs.Calls.{record_answer, flags_of}
 use Rattle.ncp_host.specs.PeerState.{PeerState}
 use Rattle.ncp_host.specs.Host.{Host, state_of, new_host, if_known}
 use Rattle.ncp_transcript.specs.declared.call.Call.{Call}
-use Rattle.ncp_transcript.specs.declared.call.Call.TheVariants as calls_of
 use Rattle.ncp_transcript.specs.declared.note.HostNote.{HostNote}
-use Rattle.ncp_transcript.specs.declared.note.HostNote.TheVariants as notes
 use Rattle.ncp_transcript.specs.Notes.{done_or_refused, told_or_refused}
 use Rattle.ncp_transcript.specs.Answers.{answer_to, takes_memory}
 use Rattle.ncp_transcript.specs.After.{after_notes}
-use Rattle.ncp_transcript.specs.Runs.{IsSaid}
+use Rattle.ncp_transcript.specs.Runs.{IsHostSaid}
 use Rattle.ncp_proof_runs.specs.Peers.{FromBeginning, is_request}
 use Rattle.ncp_proof_runs.proofs.InRuns.{before_note}
 
@@ -67,10 +63,10 @@ judged-unwanted {A} of (t ∷ ts) x is none last e = go t.0 (judged-unwanted of 
 
 -- The calls on an end that are no requests.
 
-give-unwanted : (pair : Pair) (text : List Bool) (before : Option End) → of_call (answer (give pair text before)) ≡ Refused OutOfMemory → ⊥
+give-unwanted : (pair : Pair) (text : List Bool) (before : Option End) → outcome_of_call (answer (give pair text before)) ≡ Refused OutOfMemory → ⊥
 give-unwanted pair text None e = absurd (cc)
 give-unwanted pair text (Some x) e =
-    judged-unwanted {A = Unit {0}} of_call ((is_going x, Closing) ∷ (not (x.asked && x.heard), NotOpen) ∷ (not (sends pair), WrongEnd) ∷ (not (length text % x.size == 0), NotWhole) ∷ (not (fits text x), NoRoom) ∷ [])
+    judged-unwanted {A = Unit {0}} outcome_of_call ((is_going x, Closing) ∷ (not (x.asked && x.heard), NotOpen) ∷ (not (sends pair), WrongEnd) ∷ (not (length text % x.size == 0), NotWhole) ∷ (not (fits text x), NoRoom) ∷ [])
     (Becomes (record x { stored = x.stored ++ text }) (Ok tt)) (λ f. refl) refl good e
   where
     good : Accepted ≡ Refused OutOfMemory → ⊥
@@ -88,34 +84,34 @@ take-unwanted pair bytes None e = absurd (cc)
 take-unwanted pair bytes (Some x) e =
     judged-unwanted of_take ((x.left, Closing) ∷ (not x.opened, NotOpen) ∷ (not (receives pair), WrongEnd) ∷ []) (take_bits pair (bits_to_take bytes x) x) (λ f. refl) refl (bits-unwanted pair (bits_to_take bytes x) x) e
 
-allocate-unwanted : (pair : Pair) (messages bits : ℕ) (full : Bool) (before : Option End) → of_call (answer (allocate pair messages bits full before)) ≡ Refused OutOfMemory → ⊥
+allocate-unwanted : (pair : Pair) (messages bits : ℕ) (full : Bool) (before : Option End) → outcome_of_call (answer (allocate pair messages bits full before)) ≡ Refused OutOfMemory → ⊥
 allocate-unwanted pair messages bits full None e = absurd (cc)
 allocate-unwanted pair messages bits full (Some x) e =
-    judged-unwanted of_call ((is_going x, Closing) ∷ (not (x.asked && x.heard), NotOpen) ∷ (not (receives pair), WrongEnd) ∷ (is_too_much messages bits x, TooMuch) ∷ (full, QueueFull) ∷ [])
-    (Becomes (record x { messages = x.messages + messages; bits = x.bits + bits }) (Ok (commands.All x.link messages bits))) (λ f. refl) refl (λ f. absurd (cc)) e
+    judged-unwanted outcome_of_call ((is_going x, Closing) ∷ (not (x.asked && x.heard), NotOpen) ∷ (not (receives pair), WrongEnd) ∷ (is_too_much messages bits x, TooMuch) ∷ (full, QueueFull) ∷ [])
+    (Becomes (record x { messages = x.messages + messages; bits = x.bits + bits }) (Ok (Command.All x.link messages bits))) (λ f. refl) refl (λ f. absurd (cc)) e
 
-call_back-unwanted : (pair : Pair) (messages bits : ℕ) (full : Bool) (before : Option End) → of_call (answer (call_back pair messages bits full before)) ≡ Refused OutOfMemory → ⊥
+call_back-unwanted : (pair : Pair) (messages bits : ℕ) (full : Bool) (before : Option End) → outcome_of_call (answer (call_back pair messages bits full before)) ≡ Refused OutOfMemory → ⊥
 call_back-unwanted pair messages bits full None e = absurd (cc)
 call_back-unwanted pair messages bits full (Some x) e =
-    judged-unwanted of_call ((is_going x, Closing) ∷ (not (x.asked && x.heard), NotOpen) ∷ (not (receives pair), WrongEnd) ∷ (x.recall, Busy) ∷ (full, QueueFull) ∷ [])
-    (Becomes (record x { recall = true }) (Ok (commands.Gvb x.link messages bits))) (λ f. refl) refl (λ f. absurd (cc)) e
+    judged-unwanted outcome_of_call ((is_going x, Closing) ∷ (not (x.asked && x.heard), NotOpen) ∷ (not (receives pair), WrongEnd) ∷ (x.recall, Busy) ∷ (full, QueueFull) ∷ [])
+    (Becomes (record x { recall = true }) (Ok (Command.Gvb x.link messages bits))) (λ f. refl) refl (λ f. absurd (cc)) e
 
-interrupt-unwanted : (pair : Pair) (full : Bool) (before : Option End) → of_call (answer (interrupt pair full before)) ≡ Refused OutOfMemory → ⊥
+interrupt-unwanted : (pair : Pair) (full : Bool) (before : Option End) → outcome_of_call (answer (interrupt pair full before)) ≡ Refused OutOfMemory → ⊥
 interrupt-unwanted pair full None e = absurd (cc)
 interrupt-unwanted pair full (Some x) e =
-    judged-unwanted of_call ((is_going x, Closing) ∷ (not (x.asked && x.heard), NotOpen) ∷ (full, QueueFull) ∷ []) (Becomes x (Ok (interrupting pair x))) (λ f. refl) refl (λ f. absurd (cc)) e
+    judged-unwanted outcome_of_call ((is_going x, Closing) ∷ (not (x.asked && x.heard), NotOpen) ∷ (full, QueueFull) ∷ []) (Becomes x (Ok (interrupting pair x))) (λ f. refl) refl (λ f. absurd (cc)) e
 
 abbrev closes : Pair → End → Bool → Act (Result (Option Command) CallFault)
 closes pair x b = if b then Becomes (record x { leaving = true; stored = [] }) (Ok None) else Becomes (leaves x) (Ok (Some (closing pair)))
 
-closes-unwanted : (pair : Pair) (x : End) (b : Bool) → of_call (answer (closes pair x b)) ≡ Refused OutOfMemory → ⊥
+closes-unwanted : (pair : Pair) (x : End) (b : Bool) → outcome_of_call (answer (closes pair x b)) ≡ Refused OutOfMemory → ⊥
 closes-unwanted pair x true e = absurd (cc)
 closes-unwanted pair x false e = absurd (cc)
 
-close-unwanted : (pair : Pair) (full : Bool) (before : Option End) → of_call (answer (close pair full before)) ≡ Refused OutOfMemory → ⊥
+close-unwanted : (pair : Pair) (full : Bool) (before : Option End) → outcome_of_call (answer (close pair full before)) ≡ Refused OutOfMemory → ⊥
 close-unwanted pair full None e = absurd (cc)
 close-unwanted pair full (Some x) e =
-    judged-unwanted of_call ((x.left || (x.leaving && sends pair), Closing) ∷ (full, QueueFull) ∷ []) (closes pair x (sends pair && x.busy)) (λ f. refl) refl (closes-unwanted pair x (sends pair && x.busy)) e
+    judged-unwanted outcome_of_call ((x.left || (x.leaving && sends pair), Closing) ∷ (full, QueueFull) ∷ []) (closes pair x (sends pair && x.busy)) (λ f. refl) refl (closes-unwanted pair x (sends pair && x.busy)) e
 
 -- What a host replies.
 
@@ -127,7 +123,7 @@ taking-refused : (o : Outcome) → reply_of_take o ≡ Err OutOfMemory → o ≡
 taking-refused (Refused fault) e = let same : fault ≡ OutOfMemory = cc in ap Refused same
 taking-refused o e = absurd (cc)
 
-comes-unwanted : (pair : Pair) (call : peers.Call) (p : Peer) → ((happened_at pair call p).outcome ≡ Refused OutOfMemory → ⊥) → comes_of pair call p ≡ Refused OutOfMemory → ⊥
+comes-unwanted : (pair : Pair) (call : PairCall) (p : Peer) → ((happened_at pair call p).outcome ≡ Refused OutOfMemory → ⊥) → comes_of pair call p ≡ Refused OutOfMemory → ⊥
 comes-unwanted pair call p none e = go (up p.phase) e
   where
     go : (b : Bool) → (if b then (happened_at pair call p).outcome else Refused NotUp) ≡ Refused OutOfMemory → ⊥
@@ -137,12 +133,12 @@ comes-unwanted pair call p none e = go (up p.phase) e
 echo-unwanted : (byte : ℕ) (p : Peer) → reply_of_echo byte p ≡ Err OutOfMemory → ⊥
 echo-unwanted byte p e = go (up p.phase) e
   where
-    inner : (a b : Bool) → accepted (if a then Err Busy else if b then Err QueueFull else Ok (commands.Eco byte)) ≡ Err OutOfMemory → ⊥
+    inner : (a b : Bool) → call_accepted (if a then Err Busy else if b then Err QueueFull else Ok (Command.Eco byte)) ≡ Err OutOfMemory → ⊥
     inner true b e = absurd (cc)
     inner false true e = absurd (cc)
     inner false false e = absurd (cc)
 
-    go : (b : Bool) → (if b then accepted (echo_answer byte (is_full p.phase) p.echoes) else Err NotUp) ≡ Err OutOfMemory → ⊥
+    go : (b : Bool) → (if b then call_accepted (echo_answer byte (is_full p.phase) p.echoes) else Err NotUp) ≡ Err OutOfMemory → ⊥
     go true e = inner p.echoes.awaited (is_full p.phase) e
     go false e = absurd (cc)
 
@@ -155,20 +151,20 @@ reset-unwanted s e = go (is_resetting s.peer.phase) e
 
 -- What a note says of a call.
 
-done-unwanted : (call : Call) (o : Option PeerState) (f : PeerState → Result (Unit {0}) CallFault) → ((s : PeerState) → f s ≡ Err OutOfMemory → ⊥) → done_or_refused call (if_known o f) ≡ notes.Refused call OutOfMemory → ⊥
+done-unwanted : (call : Call) (o : Option PeerState) (f : PeerState → Result (Unit {0}) CallFault) → ((s : PeerState) → f s ≡ Err OutOfMemory → ⊥) → done_or_refused call (if_known o f) ≡ HostNote.Refused call OutOfMemory → ⊥
 done-unwanted call None f none e = absurd (cc)
 done-unwanted call (Some s) f none e = go (f s) refl e
   where
-    go : (r : Result (Unit {0}) CallFault) → f s ≡ r → done_or_refused call r ≡ notes.Refused call OutOfMemory → ⊥
+    go : (r : Result (Unit {0}) CallFault) → f s ≡ r → done_or_refused call r ≡ HostNote.Refused call OutOfMemory → ⊥
     go (Ok it) g e = absurd (cc)
     go (Err fault) g e = let same : fault ≡ OutOfMemory = cc in none s (g ∙ ap Err same)
 
-told-unwanted : {A : Type 0} (call : Call) (told : A → HostNote) (o : Option PeerState) (f : PeerState → Result A CallFault) → ((x : A) → told x ≡ notes.Refused call OutOfMemory → ⊥)
-    → ((s : PeerState) → f s ≡ Err OutOfMemory → ⊥) → told_or_refused call told (if_known o f) ≡ notes.Refused call OutOfMemory → ⊥
+told-unwanted : {A : Type 0} (call : Call) (told : A → HostNote) (o : Option PeerState) (f : PeerState → Result A CallFault) → ((x : A) → told x ≡ HostNote.Refused call OutOfMemory → ⊥)
+    → ((s : PeerState) → f s ≡ Err OutOfMemory → ⊥) → told_or_refused call told (if_known o f) ≡ HostNote.Refused call OutOfMemory → ⊥
 told-unwanted call told None f other none e = absurd (cc)
 told-unwanted {A} call told (Some s) f other none e = go (f s) refl e
   where
-    go : (r : Result A CallFault) → f s ≡ r → told_or_refused call told r ≡ notes.Refused call OutOfMemory → ⊥
+    go : (r : Result A CallFault) → f s ≡ r → told_or_refused call told r ≡ HostNote.Refused call OutOfMemory → ⊥
     go (Ok it) g e = other it e
     go (Err fault) g e = let same : fault ≡ OutOfMemory = cc in none s (g ∙ ap Err same)
 
@@ -176,48 +172,48 @@ record-unwanted : (o : Option Record) → record_answer o ≡ Err OutOfMemory �
 record-unwanted None e = absurd (cc)
 record-unwanted (Some r) e = absurd (cc)
 
-refuses-none : (call : Call) (h : Host) → answer_to call h ≡ notes.Refused call OutOfMemory → is_request call ≡ true
-refuses-none (calls_of.AskSend peer local remote size room) h e = refl
-refuses-none (calls_of.AskReceive peer local remote room) h e = refl
-refuses-none (calls_of.Reset peer) h e = absurd (done-unwanted (calls_of.Reset peer) (state_of h peer) (λ s. reset_answer s.peer.phase) reset-unwanted e)
-refuses-none (calls_of.Give peer pair text) h e =
-    absurd (done-unwanted (calls_of.Give peer pair text) (state_of h peer) (λ s. reply (comes_of pair (Give text) s.peer))
+refuses-none : (call : Call) (h : Host) → answer_to call h ≡ HostNote.Refused call OutOfMemory → is_request call ≡ true
+refuses-none (Call.AskSend peer local remote size room) h e = refl
+refuses-none (Call.AskReceive peer local remote room) h e = refl
+refuses-none (Call.Reset peer) h e = absurd (done-unwanted (Call.Reset peer) (state_of h peer) (λ s. reset_answer s.peer.phase) reset-unwanted e)
+refuses-none (Call.Give peer pair text) h e =
+    absurd (done-unwanted (Call.Give peer pair text) (state_of h peer) (λ s. reply (comes_of pair (Give text) s.peer))
     (λ s f. comes-unwanted pair (Give text) s.peer (give-unwanted pair text (get s.peer.ends pair)) (reply-refused (comes_of pair (Give text) s.peer) f)) e)
-refuses-none (calls_of.Take peer pair bytes) h e =
-    absurd (told-unwanted (calls_of.Take peer pair bytes) (notes.Took peer pair bytes) (state_of h peer) (λ s. reply_of_take (comes_of pair (Take bytes) s.peer)) (λ x f. absurd (cc))
+refuses-none (Call.Take peer pair bytes) h e =
+    absurd (told-unwanted (Call.Take peer pair bytes) (HostNote.Took peer pair bytes) (state_of h peer) (λ s. reply_of_take (comes_of pair (Take bytes) s.peer)) (λ x f. absurd (cc))
     (λ s f. comes-unwanted pair (Take bytes) s.peer (take-unwanted pair bytes (get s.peer.ends pair)) (taking-refused (comes_of pair (Take bytes) s.peer) f)) e)
-refuses-none (calls_of.Allocate peer pair messages bits) h e =
-    absurd (done-unwanted (calls_of.Allocate peer pair messages bits) (state_of h peer) (λ s. reply (comes_of pair (Allocate messages bits) s.peer))
+refuses-none (Call.Allocate peer pair messages bits) h e =
+    absurd (done-unwanted (Call.Allocate peer pair messages bits) (state_of h peer) (λ s. reply (comes_of pair (Allocate messages bits) s.peer))
     (λ s f. comes-unwanted pair (Allocate messages bits) s.peer (allocate-unwanted pair messages bits (is_full s.peer.phase) (get s.peer.ends pair)) (reply-refused (comes_of pair (Allocate messages bits) s.peer) f)) e)
-refuses-none (calls_of.CallBack peer pair fm fb) h e =
-    absurd (done-unwanted (calls_of.CallBack peer pair fm fb) (state_of h peer) (λ s. reply (comes_of pair (Call_back fm fb) s.peer))
+refuses-none (Call.CallBack peer pair fm fb) h e =
+    absurd (done-unwanted (Call.CallBack peer pair fm fb) (state_of h peer) (λ s. reply (comes_of pair (Call_back fm fb) s.peer))
     (λ s f. comes-unwanted pair (Call_back fm fb) s.peer (call_back-unwanted pair fm fb (is_full s.peer.phase) (get s.peer.ends pair)) (reply-refused (comes_of pair (Call_back fm fb) s.peer) f)) e)
-refuses-none (calls_of.Interrupt peer pair) h e =
-    absurd (done-unwanted (calls_of.Interrupt peer pair) (state_of h peer) (λ s. reply (comes_of pair Interrupt s.peer))
+refuses-none (Call.Interrupt peer pair) h e =
+    absurd (done-unwanted (Call.Interrupt peer pair) (state_of h peer) (λ s. reply (comes_of pair Interrupt s.peer))
     (λ s f. comes-unwanted pair Interrupt s.peer (interrupt-unwanted pair (is_full s.peer.phase) (get s.peer.ends pair)) (reply-refused (comes_of pair Interrupt s.peer) f)) e)
-refuses-none (calls_of.Echo peer byte) h e = absurd (done-unwanted (calls_of.Echo peer byte) (state_of h peer) (λ s. reply_of_echo byte s.peer) (λ s. echo-unwanted byte s.peer) e)
-refuses-none (calls_of.Close peer pair) h e =
-    absurd (done-unwanted (calls_of.Close peer pair) (state_of h peer) (λ s. reply (comes_of pair Close s.peer))
+refuses-none (Call.Echo peer byte) h e = absurd (done-unwanted (Call.Echo peer byte) (state_of h peer) (λ s. reply_of_echo byte s.peer) (λ s. echo-unwanted byte s.peer) e)
+refuses-none (Call.Close peer pair) h e =
+    absurd (done-unwanted (Call.Close peer pair) (state_of h peer) (λ s. reply (comes_of pair Close s.peer))
     (λ s f. comes-unwanted pair Close s.peer (close-unwanted pair (is_full s.peer.phase) (get s.peer.ends pair)) (reply-refused (comes_of pair Close s.peer) f)) e)
-refuses-none (calls_of.Wake peer) h e = absurd (done-unwanted (calls_of.Wake peer) (state_of h peer) (λ s. Ok tt) (λ s f. absurd (cc)) e)
-refuses-none (calls_of.State peer pair) h e = absurd (told-unwanted (calls_of.State peer pair) (notes.State peer pair) (state_of h peer) (λ s. record_answer (record_in pair s.peer.ends)) (λ x f. absurd (cc)) (λ s. record-unwanted (record_in pair s.peer.ends)) e)
-refuses-none (calls_of.Phase peer) h e = absurd (told-unwanted (calls_of.Phase peer) (notes.Phase peer) (state_of h peer) (λ s. Ok (flags_of s.peer.phase)) (λ x f. absurd (cc)) (λ s f. absurd (cc)) e)
-refuses-none (calls_of.Echoed peer) h e = absurd (told-unwanted (calls_of.Echoed peer) (notes.Echoed peer) (state_of h peer) (λ s. Ok s.peer.echoes.echoed) (λ x f. absurd (cc)) (λ s f. absurd (cc)) e)
-refuses-none (calls_of.Errors peer) h e = absurd (told-unwanted (calls_of.Errors peer) (notes.Errors peer) (state_of h peer) (λ s. Ok s.peer.echoes.errors) (λ x f. absurd (cc)) (λ s f. absurd (cc)) e)
-refuses-none (calls_of.Counts peer) h e = absurd (told-unwanted (calls_of.Counts peer) (notes.Counts peer) (state_of h peer) (λ s. Ok s.counts) (λ x f. absurd (cc)) (λ s f. absurd (cc)) e)
-refuses-none (calls_of.Waiting peer place) h e = absurd (cc)
-refuses-none (calls_of.Kept peer link) h e = absurd (cc)
-refuses-none calls_of.Ignored h e = absurd (cc)
+refuses-none (Call.Wake peer) h e = absurd (done-unwanted (Call.Wake peer) (state_of h peer) (λ s. Ok tt) (λ s f. absurd (cc)) e)
+refuses-none (Call.State peer pair) h e = absurd (told-unwanted (Call.State peer pair) (HostNote.State peer pair) (state_of h peer) (λ s. record_answer (record_in pair s.peer.ends)) (λ x f. absurd (cc)) (λ s. record-unwanted (record_in pair s.peer.ends)) e)
+refuses-none (Call.Phase peer) h e = absurd (told-unwanted (Call.Phase peer) (HostNote.Phase peer) (state_of h peer) (λ s. Ok (flags_of s.peer.phase)) (λ x f. absurd (cc)) (λ s f. absurd (cc)) e)
+refuses-none (Call.Echoed peer) h e = absurd (told-unwanted (Call.Echoed peer) (HostNote.Echoed peer) (state_of h peer) (λ s. Ok s.peer.echoes.echoed) (λ x f. absurd (cc)) (λ s f. absurd (cc)) e)
+refuses-none (Call.Errors peer) h e = absurd (told-unwanted (Call.Errors peer) (HostNote.Errors peer) (state_of h peer) (λ s. Ok s.peer.echoes.errors) (λ x f. absurd (cc)) (λ s f. absurd (cc)) e)
+refuses-none (Call.Counts peer) h e = absurd (told-unwanted (Call.Counts peer) (HostNote.Counts peer) (state_of h peer) (λ s. Ok s.counts) (λ x f. absurd (cc)) (λ s f. absurd (cc)) e)
+refuses-none (Call.Waiting peer place) h e = absurd (cc)
+refuses-none (Call.Kept peer link) h e = absurd (cc)
+refuses-none Call.Ignored h e = absurd (cc)
 
 -- the calls that may be noted so
 takes : (call : Call) → takes_memory call ≡ true → is_request call ≡ true
-takes (calls_of.AskSend peer local remote size room) e = refl
-takes (calls_of.AskReceive peer local remote room) e = refl
+takes (Call.AskSend peer local remote size room) e = refl
+takes (Call.AskReceive peer local remote room) e = refl
 takes call e = absurd (cc)
 
-pub want-said : (me : ℕ) (ns : List ℕ) (before after : List HostNote) (call : Call) → FromBeginning me ns (before ++ notes.Refused call OutOfMemory ∷ after) → is_request call ≡ true
-want-said me ns before after call from = by (before_note me ns before after (notes.Refused call OutOfMemory) from).said
+pub want-said : (me : ℕ) (ns : List ℕ) (before after : List HostNote) (call : Call) → FromBeginning me ns (before ++ HostNote.Refused call OutOfMemory ∷ after) → is_request call ≡ true
+want-said me ns before after call from = by (before_note me ns before after (HostNote.Refused call OutOfMemory) from).said
   where
-    by : IsSaid (notes.Refused call OutOfMemory) (after_notes before (new_host me ns)) → is_request call ≡ true
+    by : IsHostSaid (HostNote.Refused call OutOfMemory) (after_notes before (new_host me ns)) → is_request call ≡ true
     by (inl e) = refuses-none call (after_notes before (new_host me ns)) e
     by (inr want) = takes call want.takes

@@ -24,21 +24,18 @@ use Rattle.ncp_slot.specs.Slots.{LinkSlot, slot_at, is_quiet}
 use Rattle.ncp_model.specs.declared.pair.Pair.{Pair}
 use Rattle.ncp_model.specs.Pairs.{same}
 use Rattle.ncp_model.specs.End.{End}
-use Rattle.ncp_model.specs.Texts as texts
+use Rattle.ncp_model.specs.Texts
 use Rattle.ncp_model.specs.Ends.{Ends, pair_of, receiver_on, sender_on, leads_to}
 use Rattle.ncp_model.specs.Happenings.{Happening, Outcome, Happened, Accepted, Text_comes, Text_goes_out, Is_answered, Is_cleared, happens}
 use Rattle.ncp_model.specs.Leading.{suits, comes}
 use Rattle.ncp_model.specs.Phase.{Phase, up, is_resetting}
 use Rattle.ncp_model.specs.Sending.{is_full}
-use Rattle.ncp_model.specs.Peers.{Peer, Ask_to_send, Ask_to_receive, Close, Give, Take, Allocate, Call_back, Interrupt, called}
-use Rattle.ncp_model.specs.Peers as peers
+use Rattle.ncp_model.specs.Peers.{Peer, Ask_to_send, Ask_to_receive, Close, Give, Take, Allocate, Call_back, Interrupt, called, PairCall, calls_up, echo_called, frees_up, hears_fault, hears_other, takes_text}
 use Rattle.ncp_host.specs.PeerState.{PeerState, new_state, control_link, is_answered}
-use Rattle.ncp_host.specs.Hearing.{control_size, is_wrong_link, hears, hears_all}
+use Rattle.ncp_host.specs.Hearing.{control_size, is_wrong_link, state_hears, state_hears_all}
 use Rattle.ncp_host.specs.Calls.{sockets}
 use Rattle.ncp_transcript.specs.declared.call.Call.{Call}
-use Rattle.ncp_transcript.specs.declared.call.Call.TheVariants as calls
 use Rattle.ncp_transcript.specs.declared.note.HostNote.{HostNote}
-use Rattle.ncp_transcript.specs.declared.note.HostNote.TheVariants as notes
 use Rattle.ncp_proof_runs.specs.Peers.{note_for}
 
 -- what was done or came, how it was answered, and the commands that it made
@@ -65,35 +62,35 @@ gone_down q = if up q then [] else was_cleared ∷ []
 
 -- By each call, while the host is up; and a reset that is accepted clears.
 
-abbrev pub acts_called : Pair → Pair → peers.Call → PeerState → List Acted
+abbrev pub acts_called : Pair → Pair → PairCall → PeerState → List Acted
 acts_called pair p call s =
     if up s.peer.phase
-    then act_at pair (Some p) (Some (called call (is_full s.peer.phase) s.peer.ends)) s.peer.ends ++ gone_down (peers.calls_up p call s.peer).phase
+    then act_at pair (Some p) (Some (called call (is_full s.peer.phase) s.peer.ends)) s.peer.ends ++ gone_down (calls_up p call s.peer).phase
     else []
 
 abbrev pub acts_echoed : ℕ → PeerState → List Acted
-acts_echoed byte s = if up s.peer.phase then gone_down (peers.echo_called byte s.peer).phase else []
+acts_echoed byte s = if up s.peer.phase then gone_down (echo_called byte s.peer).phase else []
 
 abbrev pub acts_reset : PeerState → List Acted
 acts_reset s = if is_resetting s.peer.phase then [] else was_cleared ∷ []
 
 abbrev pub acts_of_call : Pair → Call → PeerState → List Acted
-acts_of_call pair (calls.Reset peer) s = acts_reset s
-acts_of_call pair (calls.AskSend peer local remote size room) s = acts_called pair (sockets local remote) (Ask_to_send size room) s
-acts_of_call pair (calls.AskReceive peer local remote room) s = acts_called pair (sockets local remote) (Ask_to_receive room) s
-acts_of_call pair (calls.Give peer p text) s = acts_called pair p (Give text) s
-acts_of_call pair (calls.Take peer p bytes) s = acts_called pair p (Take bytes) s
-acts_of_call pair (calls.Allocate peer p messages bits) s = acts_called pair p (Allocate messages bits) s
-acts_of_call pair (calls.CallBack peer p fm fb) s = acts_called pair p (Call_back fm fb) s
-acts_of_call pair (calls.Interrupt peer p) s = acts_called pair p Interrupt s
-acts_of_call pair (calls.Echo peer byte) s = acts_echoed byte s
-acts_of_call pair (calls.Close peer p) s = acts_called pair p Close s
+acts_of_call pair (Call.Reset peer) s = acts_reset s
+acts_of_call pair (Call.AskSend peer local remote size room) s = acts_called pair (sockets local remote) (Ask_to_send size room) s
+acts_of_call pair (Call.AskReceive peer local remote room) s = acts_called pair (sockets local remote) (Ask_to_receive room) s
+acts_of_call pair (Call.Give peer p text) s = acts_called pair p (Give text) s
+acts_of_call pair (Call.Take peer p bytes) s = acts_called pair p (Take bytes) s
+acts_of_call pair (Call.Allocate peer p messages bits) s = acts_called pair p (Allocate messages bits) s
+acts_of_call pair (Call.CallBack peer p fm fb) s = acts_called pair p (Call_back fm fb) s
+acts_of_call pair (Call.Interrupt peer p) s = acts_called pair p Interrupt s
+acts_of_call pair (Call.Echo peer byte) s = acts_echoed byte s
+acts_of_call pair (Call.Close peer p) s = acts_called pair p Close s
 acts_of_call pair other s = []
 
 -- By each command that comes, and by the fault of a control text. An RST clears.
 
 abbrev pub acts_heard_up : Bool → Pair → Command → Peer → List Acted
-acts_heard_up quiet pair c p = act_at pair (leads_to c p.ends) (comes c p.ends) p.ends ++ gone_down (peers.hears_other quiet c p).phase
+acts_heard_up quiet pair c p = act_at pair (leads_to c p.ends) (comes c p.ends) p.ends ++ gone_down (hears_other quiet c p).phase
 
 abbrev pub acts_heard : Bool → Pair → Command → Peer → List Acted
 acts_heard quiet pair Rst p = was_cleared ∷ []
@@ -102,23 +99,23 @@ acts_heard quiet pair c p = if up p.phase then acts_heard_up quiet pair c p else
 
 abbrev pub acts_heard_all : Pair → List Command → PeerState → List Acted
 acts_heard_all pair [] s = []
-acts_heard_all pair (c ∷ cs) s = acts_heard (is_quiet s.slots) pair c s.peer ++ acts_heard_all pair cs (hears c s)
+acts_heard_all pair (c ∷ cs) s = acts_heard (is_quiet s.slots) pair c s.peer ++ acts_heard_all pair cs (state_hears c s)
 
 abbrev pub acts_of_fault : Option CommandFault → Peer → List Acted
 acts_of_fault None p = []
-acts_of_fault (Some fault) p = if up p.phase then gone_down (peers.hears_fault fault p).phase else []
+acts_of_fault (Some fault) p = if up p.phase then gone_down (hears_fault fault p).phase else []
 
 abbrev pub acts_of_control : Pair → Message → PeerState → List Acted
 acts_of_control pair m s =
     acts_heard_all pair (commands_in (bytes_of m.text)) s
-    ++ acts_of_fault (fault_in (bytes_of m.text)) (hears_all (commands_in (bytes_of m.text)) s).peer
+    ++ acts_of_fault (fault_in (bytes_of m.text)) (state_hears_all (commands_in (bytes_of m.text)) s).peer
 
 -- By each message that comes.
 
 abbrev pub acts_of_text : Pair → ℕ → List Bool → Message → Peer → List Acted
 acts_of_text pair on head m p =
     if up p.phase
-    then act_at pair (pair_of (receiver_on on p.ends)) (Some (Text_comes head m.size m.text)) p.ends ++ gone_down (peers.takes_text on head m.size m.text p).phase
+    then act_at pair (pair_of (receiver_on on p.ends)) (Some (Text_comes head m.size m.text)) p.ends ++ gone_down (takes_text on head m.size m.text p).phase
     else []
 
 abbrev pub acts_of_message : Pair → ℕ → List Bool → Result Message MessageFault → PeerState → List Acted
@@ -150,7 +147,7 @@ acts_of_out pair (Ok leader) s = acts_of_output pair (slot_at s.slots leader.lin
 abbrev pub acts_of_freeing : Pair → ℕ → Peer → List Acted
 acts_of_freeing pair on p =
     if up p.phase
-    then act_at pair (pair_of (sender_on on p.ends)) (Some (Is_answered texts.Rfnm)) p.ends ++ gone_down (peers.frees_up on p).phase
+    then act_at pair (pair_of (sender_on on p.ends)) (Some (Is_answered Texts.Rfnm)) p.ends ++ gone_down (frees_up on p).phase
     else []
 
 abbrev pub acts_of_answer : Pair → ℕ → Answer → Peer → List Acted
@@ -164,11 +161,11 @@ acts_answered pair on how s = if is_answered on s then acts_of_answer pair on ho
 -- By each note, the first note first.
 
 abbrev pub acts_by : Pair → HostNote → PeerState → List Acted
-acts_by pair (notes.Done call) s = acts_of_call pair call s
-acts_by pair (notes.Took peer p bytes text) s = acts_called pair p (Take bytes) s
-acts_by pair (notes.Out message) s = acts_of_out pair (leader_in message) s
-acts_by pair (notes.In message told) s = acts_of_bits pair (leader_in message) message s
-acts_by pair (notes.Answered peer link how told) s = acts_answered pair link how s
+acts_by pair (HostNote.Done call) s = acts_of_call pair call s
+acts_by pair (HostNote.Took peer p bytes text) s = acts_called pair p (Take bytes) s
+acts_by pair (HostNote.Out message) s = acts_of_out pair (leader_in message) s
+acts_by pair (HostNote.In message told) s = acts_of_bits pair (leader_in message) message s
+acts_by pair (HostNote.Answered peer link how told) s = acts_answered pair link how s
 acts_by pair other s = []
 
 abbrev pub acts_from : Pair → List HostNote → PeerState → List Acted

@@ -12,35 +12,33 @@ use Rattle.ncp_terms.specs.declared.fault.CommandFault.{CommandFault}
 use Rattle.ncp_control.specs.Reading.{fault_in}
 use Rattle.ncp_model.specs.declared.pair.Pair.{Pair}
 use Rattle.ncp_model.specs.declared.limits.TheConstants.{MAX_COUNT}
-use Rattle.ncp_model.specs.declared.outcomes.Took.TheVariants as took
+use Rattle.ncp_model.specs.declared.outcomes.Took.{Took}
 use Rattle.ncp_model.specs.End.{End}
 use Rattle.ncp_model.specs.Ends.{Ends, sender_on, receiver_on}
 use Rattle.ncp_model.specs.Phase.{up}
 use Rattle.ncp_model.specs.Peers.{Peer}
 use Rattle.ncp_host.specs.declared.counts.Counts.{Counts}
 use Rattle.ncp_host.specs.declared.received.Received.{Received}
-use Rattle.ncp_host.specs.declared.received.Received.TheVariants as received
 use Rattle.ncp_host.specs.Counting.{no_counts}
 use Rattle.ncp_host.specs.PeerState.{PeerState, new_state}
-use Rattle.ncp_host.specs.Hearing.{hears, hears_all}
+use Rattle.ncp_host.specs.Hearing.{state_hears, state_hears_all}
 use Rattle.ncp_transcript.specs.declared.note.HostNote.{HostNote}
-use Rattle.ncp_transcript.specs.declared.note.HostNote.TheVariants as notes
 use Rattle.ncp_proof_runs.specs.Peers.{note_for}
-use Rattle.ncp_proof_runs.specs.Echoing.{EchoHistory, no_echo, while_up, echo_heard, commands_of, echo_by}
+use Rattle.ncp_proof_runs.specs.Echoing.{EchoHistory, no_echo, while_up, echo_heard, commands_in_message, echo_by}
 
 abbrev pub one_if : Bool → ℕ → ℕ
 one_if it n = if it then n + 1 else n
 
 -- what the note says became of a message or of an answer
 abbrev pub counted_as : Received → Counts → Counts
-counted_as received.Stray n = record n { stray = n.stray + 1 }
-counted_as (received.Fault fault) n = record n { faults = n.faults + 1 }
-counted_as received.WrongLink n = record n { wrong_link = n.wrong_link + 1 }
-counted_as received.WrongSize n = record n { wrong_size = n.wrong_size + 1 }
-counted_as received.NotUp n = record n { not_up = n.not_up + 1 }
-counted_as (received.Text took.Late) n = record n { late = n.late + 1 }
-counted_as (received.Text took.WrongSize) n = record n { wrong_size = n.wrong_size + 1 }
-counted_as (received.Text took.Over) n = record n { over = n.over + 1 }
+counted_as Received.Stray n = record n { stray = n.stray + 1 }
+counted_as (Received.Fault fault) n = record n { faults = n.faults + 1 }
+counted_as Received.WrongLink n = record n { wrong_link = n.wrong_link + 1 }
+counted_as Received.WrongSize n = record n { wrong_size = n.wrong_size + 1 }
+counted_as Received.NotUp n = record n { not_up = n.not_up + 1 }
+counted_as (Received.Text Took.Late) n = record n { late = n.late + 1 }
+counted_as (Received.Text Took.WrongSize) n = record n { wrong_size = n.wrong_size + 1 }
+counted_as (Received.Text Took.Over) n = record n { over = n.over + 1 }
 counted_as told n = n
 
 -- Late is a command that names a link, of an end that is leaving or left.
@@ -71,7 +69,7 @@ counted_heard c p t n = if up p.phase then counted_up c p t n else record n { no
 abbrev pub counted_heard_all : List Command → PeerState → EchoHistory → Counts → Counts
 counted_heard_all [] s t n = n
 counted_heard_all (c ∷ cs) s t n =
-    counted_heard_all cs (hears c s) (while_up s.peer.phase (hears c s).peer.phase (echo_heard (up s.peer.phase) c t)) (counted_heard c s.peer t n)
+    counted_heard_all cs (state_hears c s) (while_up s.peer.phase (state_hears c s).peer.phase (echo_heard (up s.peer.phase) c t)) (counted_heard c s.peer t n)
 
 -- the fault of a control text, which is dropped while the host is not up
 
@@ -85,10 +83,10 @@ counted_fault (Some fault) p n = record n { not_up = one_if (not (up p.phase)) n
 
 -- By each note: of a control message that came its commands count one by one, and then its fault.
 abbrev pub counted_by : HostNote → PeerState → EchoHistory → Counts → Counts
-counted_by (notes.In message (received.Control count)) s t n =
-    counted_fault (fault_read (message_in message)) (hears_all (commands_of message) s).peer (counted_heard_all (commands_of message) s t n)
-counted_by (notes.In message told) s t n = counted_as told n
-counted_by (notes.Answered peer link how told) s t n = counted_as told n
+counted_by (HostNote.In message (Received.Control count)) s t n =
+    counted_fault (fault_read (message_in message)) (state_hears_all (commands_in_message message) s).peer (counted_heard_all (commands_in_message message) s t n)
+counted_by (HostNote.In message told) s t n = counted_as told n
+counted_by (HostNote.Answered peer link how told) s t n = counted_as told n
 counted_by note s t n = n
 
 -- the first note first
@@ -97,12 +95,12 @@ counted_from [] s t n = n
 counted_from (note ∷ rest) s t n = counted_from rest (note_for note s) (echo_by note s t) (counted_by note s t n)
 
 -- by all the notes of a peer
-abbrev pub counted_of : List HostNote → Counts
-counted_of all = counted_from all new_state no_echo no_counts
+abbrev pub counted_so_far : List HostNote → Counts
+counted_so_far all = counted_from all new_state no_echo no_counts
 
 -- what a host keeps of these sums
-abbrev pub counts_told : Counts → Counts
-counts_told n = record {
+abbrev pub counts_capped : Counts → Counts
+counts_capped n = record {
   stray = min n.stray MAX_COUNT;
   faults = min n.faults MAX_COUNT;
   wrong_link = min n.wrong_link MAX_COUNT;

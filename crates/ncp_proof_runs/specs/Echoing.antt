@@ -8,19 +8,16 @@ use Rattle.ncp_leader.specs.declared.fault.MessageFault.{MessageFault}
 use Rattle.ncp_leader.specs.Message.{Message, message_in}
 use Rattle.ncp_terms.specs.declared.command.Command.{Command}
 use Rattle.ncp_terms.specs.declared.command.Command.TheVariants.{Rst, Erp}
-use Rattle.ncp_terms.specs.declared.command.Command.TheVariants as commands
 use Rattle.ncp_control.specs.Reading.{commands_in}
 use Rattle.ncp_model.specs.declared.outcomes.Error.{Error}
 use Rattle.ncp_model.specs.declared.limits.TheConstants.{MAX_ERRORS}
 use Rattle.ncp_model.specs.Echo.{Echoes}
 use Rattle.ncp_model.specs.Phase.{Phase, up}
-use Rattle.ncp_host.specs.declared.received.Received.TheVariants as received
+use Rattle.ncp_host.specs.declared.received.Received.{Received}
 use Rattle.ncp_host.specs.PeerState.{PeerState, new_state}
-use Rattle.ncp_host.specs.Hearing.{hears, hears_all}
+use Rattle.ncp_host.specs.Hearing.{state_hears, state_hears_all}
 use Rattle.ncp_transcript.specs.declared.call.Call.{Call}
-use Rattle.ncp_transcript.specs.declared.call.Call.TheVariants as calls
 use Rattle.ncp_transcript.specs.declared.note.HostNote.{HostNote}
-use Rattle.ncp_transcript.specs.declared.note.HostNote.TheVariants as notes
 use Rattle.ncp_proof_runs.specs.Peers.{note_for}
 
 -- what was noted so far
@@ -53,15 +50,15 @@ while_up before after t = if up before then (if up after then t else echo_cleare
 -- By each call that was done.
 
 abbrev pub echo_done : Call → EchoHistory → EchoHistory
-echo_done (calls.Reset peer) t = echo_cleared t
-echo_done (calls.Echo peer byte) t = echo_accepted t
+echo_done (Call.Reset peer) t = echo_cleared t
+echo_done (Call.Echo peer byte) t = echo_accepted t
 echo_done call t = t
 
 -- By each command that comes, to a host that is up or not. An RST clears.
 
 abbrev pub echo_heard_up : Command → EchoHistory → EchoHistory
 echo_heard_up (Erp byte) t = erp_came byte t
-echo_heard_up (commands.Err code data_bytes) t = err_came (record { code = code; bytes = data_bytes }) t
+echo_heard_up (Command.Err code data_bytes) t = err_came (record { code = code; bytes = data_bytes }) t
 echo_heard_up c t = t
 
 abbrev pub echo_heard : Bool → Command → EchoHistory → EchoHistory
@@ -70,7 +67,7 @@ echo_heard is_up c t = if is_up then echo_heard_up c t else t
 
 abbrev pub echo_heard_all : List Command → PeerState → EchoHistory → EchoHistory
 echo_heard_all [] s t = t
-echo_heard_all (c ∷ cs) s t = echo_heard_all cs (hears c s) (while_up s.peer.phase (hears c s).peer.phase (echo_heard (up s.peer.phase) c t))
+echo_heard_all (c ∷ cs) s t = echo_heard_all cs (state_hears c s) (while_up s.peer.phase (state_hears c s).peer.phase (echo_heard (up s.peer.phase) c t))
 
 -- By each note. Of a control message that came its commands count one by one, and then its fault, for which the
 -- host may go down.
@@ -79,17 +76,17 @@ abbrev pub commands_read : Result Message MessageFault → List Command
 commands_read (Err fault) = []
 commands_read (Ok m) = commands_in (bytes_of m.text)
 
-abbrev pub commands_of : List Bool → List Command
-commands_of message = commands_read (message_in message)
+abbrev pub commands_in_message : List Bool → List Command
+commands_in_message message = commands_read (message_in message)
 
 abbrev pub echo_noted : HostNote → EchoHistory → EchoHistory
-echo_noted (notes.Done call) t = echo_done call t
+echo_noted (HostNote.Done call) t = echo_done call t
 echo_noted note t = t
 
 abbrev pub echo_by : HostNote → PeerState → EchoHistory → EchoHistory
-echo_by (notes.In message (received.Control count)) s t =
-    while_up (hears_all (commands_of message) s).peer.phase (note_for (notes.In message (received.Control count)) s).peer.phase
-    (echo_heard_all (commands_of message) s t)
+echo_by (HostNote.In message (Received.Control count)) s t =
+    while_up (state_hears_all (commands_in_message message) s).peer.phase (note_for (HostNote.In message (Received.Control count)) s).peer.phase
+    (echo_heard_all (commands_in_message message) s t)
 echo_by note s t = while_up s.peer.phase (note_for note s).peer.phase (echo_noted note t)
 
 -- the first note first

@@ -1,18 +1,17 @@
 -- Notes by which the definitions show what they mean.
 use Rattle.std.specs.Prelude.{Some, Bool, true, false, List, [], ◌∷◌, ◌++◌, replicate}
-use Rattle.ncp_terms.specs.declared.command.Command.TheVariants as commands
+use Rattle.ncp_terms.specs.declared.command.Command.{Command}
 use Rattle.ncp_terms.specs.declared.answer.Answer.TheVariants.{Rfnm, Incomplete, Dead}
 use Rattle.ncp_model.specs.Rows.{ones}
 use Rattle.ncp_model.specs.declared.outcomes.Error.{Error}
 use Rattle.ncp_model.specs.Phase.{up_phase}
 use Rattle.ncp_model.specs.Peers.{new_peer}
-use Rattle.ncp_model.specs.Happenings as all
+use Rattle.ncp_model.specs.Happenings.{Happening, Outcome}
 use Rattle.ncp_model.specs.declared.call_fault.CallFault.TheVariants.{UnknownPeer}
-use Rattle.ncp_host.specs.declared.received.Received.TheVariants as received
+use Rattle.ncp_host.specs.declared.received.Received.{Received}
 use Rattle.ncp_host.specs.PeerState.{PeerState, new_state}
-use Rattle.ncp_transcript.specs.declared.call.Call.TheVariants as calls
+use Rattle.ncp_transcript.specs.declared.call.Call.{Call}
 use Rattle.ncp_transcript.specs.declared.note.HostNote.{HostNote}
-use Rattle.ncp_transcript.specs.declared.note.HostNote.TheVariants as notes
 use Rattle.ncp_proof_runs.specs.Acts.{Acted}
 use Rattle.ncp_proof_runs.specs.Echoing.{EchoHistory}
 
@@ -20,11 +19,11 @@ use Rattle.ncp_proof_runs.specs.Echoing.{EchoHistory}
 -- peer, three bits, and what was ignored
 abbrev pub two_peers : List HostNote
 two_peers =
-    notes.Done (calls.Reset 2)
-    ∷ notes.Phase 3 (record { down = true; want = false; owe = false; wait = false })
-    ∷ notes.Refused (calls.Reset 4) UnknownPeer
-    ∷ notes.In (true ∷ true ∷ true ∷ []) received.Short
-    ∷ notes.Ignored (record { short = 1; other = 0; unknown = 0 })
+    HostNote.Done (Call.Reset 2)
+    ∷ HostNote.Phase 3 (record { down = true; want = false; owe = false; wait = false })
+    ∷ HostNote.Refused (Call.Reset 4) UnknownPeer
+    ∷ HostNote.In (true ∷ true ∷ true ∷ []) Received.Short
+    ∷ HostNote.Ignored (record { short = 1; other = 0; unknown = 0 })
     ∷ []
 
 -- messages to peer 2, no more than their leaders: on link 0, and on link 2
@@ -41,52 +40,52 @@ message_on_2 = replicate 8 false ++ byte_of_two ++ byte_of_two ++ replicate 8 fa
 -- the first goes out and is lost; it goes out again, and its destination is dead; then an answer comes that
 -- none awaits, and the second goes out; the first is asked for, goes out once more, and is taken
 
-abbrev pub lost : List HostNote
-lost = notes.Out message_on_0 ∷ notes.Answered 2 0 Incomplete received.Answered ∷ []
+abbrev pub notes_lost : List HostNote
+notes_lost = HostNote.Out message_on_0 ∷ HostNote.Answered 2 0 Incomplete Received.Answered ∷ []
 
-abbrev pub held : List HostNote
-held = lost ++ notes.Out message_on_0 ∷ notes.Answered 2 0 Dead received.Answered ∷ []
+abbrev pub notes_held : List HostNote
+notes_held = notes_lost ++ HostNote.Out message_on_0 ∷ HostNote.Answered 2 0 Dead Received.Answered ∷ []
 
-abbrev pub stray : List HostNote
-stray = notes.Answered 2 0 Rfnm received.Stray ∷ notes.Out message_on_2 ∷ []
+abbrev pub notes_stray : List HostNote
+notes_stray = HostNote.Answered 2 0 Rfnm Received.Stray ∷ HostNote.Out message_on_2 ∷ []
 
-abbrev pub woken : List HostNote
-woken = notes.Done (calls.Wake 2) ∷ []
+abbrev pub notes_woken : List HostNote
+notes_woken = HostNote.Done (Call.Wake 2) ∷ []
 
-abbrev pub taken : List HostNote
-taken = notes.Out message_on_0 ∷ notes.Answered 2 0 Rfnm received.Answered ∷ []
+abbrev pub notes_taken : List HostNote
+notes_taken = HostNote.Out message_on_0 ∷ HostNote.Answered 2 0 Rfnm Received.Answered ∷ []
 
 -- acts on a pair that receives: both requests, an allocation and a text of two bytes; the peer's CLS, which is
 -- not matched while they are held; and a taking that leaves nothing, and makes the own CLS
 
-abbrev pub asks : Acted
-asks = record { what = all.Asks_to_receive 64 2 0 false; outcome = all.Accepted; made = commands.Rts 2 3 2 ∷ [] }
+abbrev pub asking : Acted
+asking = record { what = Happening.Asks_to_receive 64 2 0 false; outcome = Outcome.Accepted; made = Command.Rts 2 3 2 ∷ [] }
 
 abbrev pub is_asked : Acted
-is_asked = record { what = all.Str_comes 8 0; outcome = all.Accepted; made = [] }
+is_asked = record { what = Happening.Str_comes 8 0; outcome = Outcome.Accepted; made = [] }
 
-abbrev pub allocates : Acted
-allocates = record { what = all.Allocates 3 32 false; outcome = all.Accepted; made = commands.All 2 3 32 ∷ [] }
+abbrev pub allocating : Acted
+allocating = record { what = Happening.Allocates 3 32 false; outcome = Outcome.Accepted; made = Command.All 2 3 32 ∷ [] }
 
 abbrev pub gets : Acted
-gets = record { what = all.Text_comes [] 8 (ones 16); outcome = all.Admitted; made = [] }
+gets = record { what = Happening.Text_comes [] 8 (ones 16); outcome = Outcome.Admitted; made = [] }
 
 abbrev pub cls_comes : Acted
-cls_comes = record { what = all.Cls_comes; outcome = all.Accepted; made = [] }
+cls_comes = record { what = Happening.Cls_comes; outcome = Outcome.Accepted; made = [] }
 
-abbrev pub takes : Acted
-takes = record { what = all.Takes 2; outcome = all.Took_out (ones 16); made = commands.Cls 2 3 ∷ [] }
+abbrev pub taking : Acted
+taking = record { what = Happening.Takes 2; outcome = Outcome.Took_out (ones 16); made = Command.Cls 2 3 ∷ [] }
 
 -- a close, which makes its CLS; a request that was refused; and a GVB that is answered, at a sender
 
 abbrev pub closes : Acted
-closes = record { what = all.Closes false; outcome = all.Accepted; made = commands.Cls 2 3 ∷ [] }
+closes = record { what = Happening.Closes false; outcome = Outcome.Accepted; made = Command.Cls 2 3 ∷ [] }
 
 abbrev pub asked_wrongly : Acted
-asked_wrongly = record { what = all.Str_comes 0 0; outcome = all.Erred (commands.Err 3 []); made = commands.Err 3 [] ∷ [] }
+asked_wrongly = record { what = Happening.Str_comes 0 0; outcome = Outcome.Erred (Command.Err 3 []); made = Command.Err 3 [] ∷ [] }
 
 abbrev pub gives_back : Acted
-gives_back = record { what = all.Gvb_comes 2 64 128; outcome = all.Accepted; made = commands.Ret 2 1 16 ∷ [] }
+gives_back = record { what = Happening.Gvb_comes 2 64 128; outcome = Outcome.Accepted; made = Command.Ret 2 1 16 ∷ [] }
 
 -- a host that is up, without a connection; it awaits an echo, after one that was answered and an ERR that came
 

@@ -20,16 +20,13 @@ use Rattle.ncp_model.specs.Happenings.{Happening, Happened, Text_comes, happens}
 use Rattle.ncp_model.specs.Leading.{comes}
 use Rattle.ncp_model.specs.Phase.{up}
 use Rattle.ncp_model.specs.Sending.{is_full}
-use Rattle.ncp_model.specs.Peers.{Ask_to_send, Ask_to_receive, Close, Give, Take, Allocate, Call_back, Interrupt, called}
-use Rattle.ncp_model.specs.Peers as peers
+use Rattle.ncp_model.specs.Peers.{Ask_to_send, Ask_to_receive, Close, Give, Take, Allocate, Call_back, Interrupt, called, PairCall}
 use Rattle.ncp_proof_watch.specs.Histories.{Past, no_past, adds, opens}
 use Rattle.ncp_host.specs.PeerState.{PeerState, new_state, control_link}
-use Rattle.ncp_host.specs.Hearing.{control_size, is_wrong_link, hears}
+use Rattle.ncp_host.specs.Hearing.{control_size, is_wrong_link, state_hears}
 use Rattle.ncp_host.specs.Calls.{sockets}
 use Rattle.ncp_transcript.specs.declared.call.Call.{Call}
-use Rattle.ncp_transcript.specs.declared.call.Call.TheVariants as calls
 use Rattle.ncp_transcript.specs.declared.note.HostNote.{HostNote}
-use Rattle.ncp_transcript.specs.declared.note.HostNote.TheVariants as notes
 use Rattle.ncp_proof_runs.specs.Peers.{note_for}
 
 -- something happened to a pair: it begins anew where the connection opened
@@ -43,7 +40,7 @@ past_at pair p what m past = past
 
 -- What a call, a command that comes, and a text that comes say, while the host is up.
 
-abbrev pub past_called : Pair → Pair → peers.Call → PeerState → Past → Past
+abbrev pub past_called : Pair → Pair → PairCall → PeerState → Past → Past
 past_called pair p call s past = if up s.peer.phase then past_at pair (Some p) (Some (called call (is_full s.peer.phase) s.peer.ends)) s.peer.ends past else past
 
 abbrev pub past_heard : Pair → Command → PeerState → Past → Past
@@ -51,7 +48,7 @@ past_heard pair c s past = if up s.peer.phase then past_at pair (leads_to c s.pe
 
 abbrev pub past_heard_all : Pair → List Command → PeerState → Past → Past
 past_heard_all pair [] s past = past
-past_heard_all pair (c ∷ cs) s past = past_heard_all pair cs (hears c s) (past_heard pair c s past)
+past_heard_all pair (c ∷ cs) s past = past_heard_all pair cs (state_hears c s) (past_heard pair c s past)
 
 abbrev pub past_text : Pair → ℕ → List Bool → Message → PeerState → Past → Past
 past_text pair on head m s past =
@@ -69,20 +66,20 @@ past_bits pair (Err short) bits s past = past
 past_bits pair (Ok leader) bits s past = past_message pair leader.link bits (message_in bits) s past
 
 abbrev pub past_of_call : Pair → Call → PeerState → Past → Past
-past_of_call pair (calls.AskSend peer local remote size room) s past = past_called pair (sockets local remote) (Ask_to_send size room) s past
-past_of_call pair (calls.AskReceive peer local remote room) s past = past_called pair (sockets local remote) (Ask_to_receive room) s past
-past_of_call pair (calls.Give peer p text) s past = past_called pair p (Give text) s past
-past_of_call pair (calls.Take peer p bytes) s past = past_called pair p (Take bytes) s past
-past_of_call pair (calls.Allocate peer p messages bits) s past = past_called pair p (Allocate messages bits) s past
-past_of_call pair (calls.CallBack peer p fm fb) s past = past_called pair p (Call_back fm fb) s past
-past_of_call pair (calls.Interrupt peer p) s past = past_called pair p Interrupt s past
-past_of_call pair (calls.Close peer p) s past = past_called pair p Close s past
+past_of_call pair (Call.AskSend peer local remote size room) s past = past_called pair (sockets local remote) (Ask_to_send size room) s past
+past_of_call pair (Call.AskReceive peer local remote room) s past = past_called pair (sockets local remote) (Ask_to_receive room) s past
+past_of_call pair (Call.Give peer p text) s past = past_called pair p (Give text) s past
+past_of_call pair (Call.Take peer p bytes) s past = past_called pair p (Take bytes) s past
+past_of_call pair (Call.Allocate peer p messages bits) s past = past_called pair p (Allocate messages bits) s past
+past_of_call pair (Call.CallBack peer p fm fb) s past = past_called pair p (Call_back fm fb) s past
+past_of_call pair (Call.Interrupt peer p) s past = past_called pair p Interrupt s past
+past_of_call pair (Call.Close peer p) s past = past_called pair p Close s past
 past_of_call pair other s past = past
 
 abbrev pub past_by : Pair → HostNote → PeerState → Past → Past
-past_by pair (notes.Done call) s past = past_of_call pair call s past
-past_by pair (notes.Took peer p bytes text) s past = past_called pair p (Take bytes) s past
-past_by pair (notes.In message told) s past = past_bits pair (leader_in message) message s past
+past_by pair (HostNote.Done call) s past = past_of_call pair call s past
+past_by pair (HostNote.Took peer p bytes text) s past = past_called pair p (Take bytes) s past
+past_by pair (HostNote.In message told) s past = past_bits pair (leader_in message) message s past
 past_by pair other s past = past
 
 abbrev pub past_from : Pair → List HostNote → PeerState → Past → Past
@@ -90,5 +87,5 @@ past_from pair [] s past = past
 past_from pair (note ∷ rest) s past = past_from pair rest (note_for note s) (past_by pair note s past)
 
 -- by all the notes of a peer
-abbrev pub past_of : Pair → List HostNote → Past
-past_of pair all = past_from pair all new_state no_past
+abbrev pub past_so_far : Pair → List HostNote → Past
+past_so_far pair all = past_from pair all new_state no_past

@@ -13,7 +13,6 @@ use Rattle.ncp_leader.specs.Leader.{leader_in}
 use Rattle.ncp_leader.specs.Message.{Message, message_in}
 use Rattle.ncp_terms.specs.declared.command.Command.{Command}
 use Rattle.ncp_terms.specs.declared.command.Command.TheVariants.{Rst, Rrp}
-use Rattle.ncp_terms.specs.declared.command.Command.TheVariants as commands
 use Rattle.ncp_terms.specs.declared.fault.CommandFault.{CommandFault}
 use Rattle.ncp_control.specs.Reading.{commands_in, fault_in}
 use Rattle.ncp_terms.specs.Spelling.{spellings}
@@ -24,24 +23,20 @@ use Rattle.ncp_slot.specs.Slots.{LinkSlots, slot_at, with_slot, is_quiet}
 use Rattle.ncp_model.specs.declared.pair.Pair.{Pair}
 use Rattle.ncp_model.specs.Act.{answer, made_if_any, made_by_call, made_by_hearing}
 use Rattle.ncp_model.specs.Texts.{made_by_text}
-use Rattle.ncp_model.specs.Texts as texts
+use Rattle.ncp_model.specs.Texts
 use Rattle.ncp_model.specs.Ends.{hear, text_in, answered_in}
 use Rattle.ncp_model.specs.Echo.{echo_answer}
-use Rattle.ncp_model.specs.Phase.{Phase, up, is_rst, is_rrp, is_reset, is_other, is_resetting, has_place, wants_reset, owes_answer}
-use Rattle.ncp_model.specs.Phase as phases
+use Rattle.ncp_model.specs.Phase.{Phase, up, is_rst, is_rrp, is_reset, is_other, is_resetting, has_place, wants_reset, owes_answer, phase_answers, phase_makes}
 use Rattle.ncp_model.specs.Sending.{is_full, next_commands}
-use Rattle.ncp_model.specs.Peers.{Peer, Ask_to_send, Ask_to_receive, Close, Give, Take, Allocate, Call_back, Interrupt, happened_at, is_full_up, echo_replies}
-use Rattle.ncp_model.specs.Peers as peers
+use Rattle.ncp_model.specs.Peers.{Peer, Ask_to_send, Ask_to_receive, Close, Give, Take, Allocate, Call_back, Interrupt, happened_at, is_full_up, echo_replies, PairCall}
 use Rattle.ncp_host.specs.PeerState.{PeerState, new_state, control_link, is_answered, frees_on}
-use Rattle.ncp_host.specs.Hearing.{control_size, is_wrong_link, hears, hears_all}
+use Rattle.ncp_host.specs.Hearing.{control_size, is_wrong_link, state_hears, state_hears_all}
 use Rattle.ncp_host.specs.Output.{message_to}
 use Rattle.ncp_host.specs.Calls.{sockets}
 use Rattle.ncp_transcript.specs.declared.call.Call.{Call}
-use Rattle.ncp_transcript.specs.declared.call.Call.TheVariants as calls
 use Rattle.ncp_transcript.specs.declared.note.HostNote.{HostNote}
-use Rattle.ncp_transcript.specs.declared.note.HostNote.TheVariants as notes
-use Rattle.ncp_proof_runs.specs.Peers.{is_number, note_for}
-use Rattle.ncp_proof_runs.specs.Links.{LinkHistory, nothing_told, is_fresh, link_of_leader, told_by}
+use Rattle.ncp_proof_runs.specs.Peers.{is_this_number, note_for}
+use Rattle.ncp_proof_runs.specs.Links.{LinkSoFar, nothing_told, goes_fresh, link_of_leader, told_by}
 
 pub record Made : Type 0 where
   pub all : List Command  -- made, and not struck; the oldest first
@@ -65,8 +60,8 @@ abbrev pub made : Command → Made → Made
 made c l = record l { all = l.all ++ c ∷ [] }
 
 -- a command comes while the host is up
-abbrev pub heard : Command → Made → Made
-heard c l = record l { came = l.came ++ c ∷ [] }
+abbrev pub made_heard : Command → Made → Made
+made_heard c l = record l { came = l.came ++ c ∷ [] }
 
 -- A clearing strikes what has not gone out, all but RST and RRP; and what is made and comes counts anew from it on.
 
@@ -87,15 +82,15 @@ went_down l = record (struck l) { began = false }
 abbrev pub reset_asked : Made → Made
 reset_asked l = record (struck l) { did_reset = false }
 
-abbrev pub rst_came : Made → Made
-rst_came l = record (struck l) { gave_answer = false }
+abbrev pub made_rst_came : Made → Made
+made_rst_came l = record (struck l) { gave_answer = false }
 
 abbrev pub rrp_came : Made → Made
 rrp_came l = record l { got_answer = true }
 
 -- the next of them go out
-abbrev pub sent : Made → Made
-sent l = record l { gone = l.gone + length (next_commands (drop l.gone l.all)) }
+abbrev pub made_sent : Made → Made
+made_sent l = record l { gone = l.gone + length (next_commands (drop l.gone l.all)) }
 
 -- What is made in a phase: a command of a call or a reply, while up; where it has no place the host goes
 -- down. And where the data links are quiet the RRP that is owed, and then the RST that is wanted. Where one
@@ -112,7 +107,7 @@ made_in c p l = if up p && is_other c then (if has_place p then made c l else we
 
 abbrev pub all_made_in : List Command → Phase → Made → Made
 all_made_in [] p l = l
-all_made_in (c ∷ cs) p l = all_made_in cs (phases.makes c p) (made_in c p l)
+all_made_in (c ∷ cs) p l = all_made_in cs (phase_makes c p) (made_in c p l)
 
 abbrev pub answer_made : Phase → Made → Made
 answer_made p l = if p.owe then counts_rrp (if list_any is_rrp p.waiting then l else made Rrp l) else l
@@ -121,11 +116,11 @@ abbrev pub reset_made : Phase → Made → Made
 reset_made p l = if p.want then counts_rst (if list_any is_rst p.waiting then l else made Rst l) else l
 
 abbrev pub settling_made : Bool → Phase → Made → Made
-settling_made quiet p l = if quiet then reset_made (phases.answers p) (answer_made p l) else l
+settling_made quiet p l = if quiet then reset_made (phase_answers p) (answer_made p l) else l
 
 -- By each call.
 
-abbrev pub by_pair_call : Pair → peers.Call → PeerState → Made → Made
+abbrev pub by_pair_call : Pair → PairCall → PeerState → Made → Made
 by_pair_call pair call s l = if up s.peer.phase then all_made_in (happened_at pair call s.peer).made s.peer.phase l else l
 
 abbrev pub by_echo : ℕ → PeerState → Made → Made
@@ -135,16 +130,16 @@ abbrev pub by_reset : PeerState → Made → Made
 by_reset s l = if is_resetting s.peer.phase then l else settling_made (is_quiet s.slots) (wants_reset s.peer.phase) (reset_asked l)
 
 abbrev pub by_call : Call → PeerState → Made → Made
-by_call (calls.Reset peer) s l = by_reset s l
-by_call (calls.AskSend peer local remote size room) s l = by_pair_call (sockets local remote) (Ask_to_send size room) s l
-by_call (calls.AskReceive peer local remote room) s l = by_pair_call (sockets local remote) (Ask_to_receive room) s l
-by_call (calls.Give peer pair text) s l = by_pair_call pair (Give text) s l
-by_call (calls.Take peer pair bytes) s l = by_pair_call pair (Take bytes) s l
-by_call (calls.Allocate peer pair messages bits) s l = by_pair_call pair (Allocate messages bits) s l
-by_call (calls.CallBack peer pair fm fb) s l = by_pair_call pair (Call_back fm fb) s l
-by_call (calls.Interrupt peer pair) s l = by_pair_call pair Interrupt s l
-by_call (calls.Echo peer byte) s l = by_echo byte s l
-by_call (calls.Close peer pair) s l = by_pair_call pair Close s l
+by_call (Call.Reset peer) s l = by_reset s l
+by_call (Call.AskSend peer local remote size room) s l = by_pair_call (sockets local remote) (Ask_to_send size room) s l
+by_call (Call.AskReceive peer local remote room) s l = by_pair_call (sockets local remote) (Ask_to_receive room) s l
+by_call (Call.Give peer pair text) s l = by_pair_call pair (Give text) s l
+by_call (Call.Take peer pair bytes) s l = by_pair_call pair (Take bytes) s l
+by_call (Call.Allocate peer pair messages bits) s l = by_pair_call pair (Allocate messages bits) s l
+by_call (Call.CallBack peer pair fm fb) s l = by_pair_call pair (Call_back fm fb) s l
+by_call (Call.Interrupt peer pair) s l = by_pair_call pair Interrupt s l
+by_call (Call.Echo peer byte) s l = by_echo byte s l
+by_call (Call.Close peer pair) s l = by_pair_call pair Close s l
 by_call other s l = l
 
 -- By each command that comes, and by the fault of a control text.
@@ -152,26 +147,26 @@ by_call other s l = l
 abbrev pub by_other : Command → Peer → Made → Made
 by_other c p l =
     if up p.phase
-    then (if is_full_up (answer (hear c p.ends)) then went_down l else all_made_in (made_by_hearing (answer (hear c p.ends)) ++ echo_replies c) p.phase (heard c l))
+    then (if is_full_up (answer (hear c p.ends)) then went_down l else all_made_in (made_by_hearing (answer (hear c p.ends)) ++ echo_replies c) p.phase (made_heard c l))
     else l
 
 abbrev pub by_command : Bool → Command → Peer → Made → Made
-by_command quiet Rst p l = settling_made quiet (owes_answer p.phase) (rst_came l)
+by_command quiet Rst p l = settling_made quiet (owes_answer p.phase) (made_rst_came l)
 by_command quiet Rrp p l = rrp_came l
 by_command quiet c p l = by_other c p l
 
 abbrev pub by_commands : List Command → PeerState → Made → Made
 by_commands [] s l = l
-by_commands (c ∷ cs) s l = by_commands cs (hears c s) (by_command (is_quiet s.slots) c s.peer l)
+by_commands (c ∷ cs) s l = by_commands cs (state_hears c s) (by_command (is_quiet s.slots) c s.peer l)
 
 abbrev pub by_fault : Option CommandFault → PeerState → Made → Made
 by_fault None s l = l
-by_fault (Some fault) s l = if up s.peer.phase then all_made_in (commands.Err fault.code fault.bytes ∷ []) s.peer.phase l else l
+by_fault (Some fault) s l = if up s.peer.phase then all_made_in (Command.Err fault.code fault.bytes ∷ []) s.peer.phase l else l
 
 abbrev pub by_control : Message → PeerState → Made → Made
 by_control m s l =
     if m.size == control_size
-    then by_fault (fault_in (bytes_of m.text)) (hears_all (commands_in (bytes_of m.text)) s) (by_commands (commands_in (bytes_of m.text)) s l)
+    then by_fault (fault_in (bytes_of m.text)) (state_hears_all (commands_in (bytes_of m.text)) s) (by_commands (commands_in (bytes_of m.text)) s l)
     else l
 
 abbrev pub by_text : ℕ → List Bool → Message → PeerState → Made → Made
@@ -188,7 +183,7 @@ by_bits (Ok leader) bits s l = by_message leader.link bits (message_in bits) s l
 -- By an answer: a text that was taken frees its sender, and the host settles.
 
 abbrev pub by_freeing : ℕ → Peer → Made → Made
-by_freeing on p l = if on == control_link then l else if up p.phase then all_made_in (made_if_any (answer (answered_in on texts.Rfnm p.ends))) p.phase l else l
+by_freeing on p l = if on == control_link then l else if up p.phase then all_made_in (made_if_any (answer (answered_in on Texts.Rfnm p.ends))) p.phase l else l
 
 abbrev pub by_answer : ℕ → Answer → LinkSlots → Peer → Made → Made
 by_answer on Rfnm slots p l = settling_made (is_quiet slots) (frees_on on p).phase (by_freeing on p l)
@@ -200,18 +195,18 @@ by_answered on how s l = if is_answered on s then by_answer on how (with_slot s.
 
 -- By each note: what goes out fresh on link 0 takes the next of what was made.
 
-abbrev pub by_out : Result Leader Short → LinkHistory → Made → Made
-by_out r t l = if is_number control_link (link_of_leader r) then (if is_fresh t then sent l else l) else l
+abbrev pub by_out : Result Leader Short → LinkSoFar → Made → Made
+by_out r t l = if is_this_number control_link (link_of_leader r) then (if goes_fresh t then made_sent l else l) else l
 
-abbrev pub made_by_note : HostNote → PeerState → LinkHistory → Made → Made
-made_by_note (notes.Done call) s t l = by_call call s l
-made_by_note (notes.Took peer pair bytes text) s t l = by_pair_call pair (Take bytes) s l
-made_by_note (notes.Out message) s t l = by_out (leader_in message) t l
-made_by_note (notes.In message told) s t l = by_bits (leader_in message) message s l
-made_by_note (notes.Answered peer link how told) s t l = by_answered link how s l
+abbrev pub made_by_note : HostNote → PeerState → LinkSoFar → Made → Made
+made_by_note (HostNote.Done call) s t l = by_call call s l
+made_by_note (HostNote.Took peer pair bytes text) s t l = by_pair_call pair (Take bytes) s l
+made_by_note (HostNote.Out message) s t l = by_out (leader_in message) t l
+made_by_note (HostNote.In message told) s t l = by_bits (leader_in message) message s l
+made_by_note (HostNote.Answered peer link how told) s t l = by_answered link how s l
 made_by_note other s t l = l
 
-abbrev pub made_from : List HostNote → PeerState → LinkHistory → Made → Made
+abbrev pub made_from : List HostNote → PeerState → LinkSoFar → Made → Made
 made_from [] s t l = l
 made_from (note ∷ rest) s t l = made_from rest (note_for note s) (told_by control_link note t) (made_by_note note s t l)
 

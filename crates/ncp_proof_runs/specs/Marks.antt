@@ -4,7 +4,6 @@
 -- profile's).
 use Rattle.std.specs.Prelude.{ℕ, ◌+◌, ◌-◌, min, Bool, true, false, not, ◌&&◌, ◌||◌, if◌then◌else◌, List, [], ◌∷◌, ◌++◌, length, drop, Option, None, Some}
 use Rattle.ncp_terms.specs.declared.command.Command.{Command}
-use Rattle.ncp_terms.specs.declared.command.Command.TheVariants as commands
 use Rattle.ncp_model.specs.declared.pair.Pair.{Pair}
 use Rattle.ncp_model.specs.declared.limits.TheConstants.{MAX_COUNT}
 use Rattle.ncp_model.specs.Amounts.{returned_messages, returned_bits}
@@ -12,8 +11,7 @@ use Rattle.ncp_model.specs.Texts.{Rfnm, Incomplete, Dead}
 use Rattle.ncp_model.specs.Pairs.{sends}
 use Rattle.ncp_model.specs.End.{End}
 use Rattle.ncp_model.specs.Happenings.{Happening, Outcome}
-use Rattle.ncp_model.specs.Happenings as all
-use Rattle.ncp_proof_watch.specs.Histories.{is_accepted, is_admitted, taken_out}
+use Rattle.ncp_proof_watch.specs.Histories.{is_outcome_accepted, is_admitted, taken_out}
 use Rattle.ncp_conn.specs.declared.record.Record.{Record}
 use Rattle.ncp_conn.specs.Records.{record_if_any}
 use Rattle.ncp_transcript.specs.declared.note.HostNote.{HostNote}
@@ -67,20 +65,20 @@ no_marks = record {
 
 -- The requests: the pair opens where both are there, and no CLS was made.
 
-abbrev pub met : Marks → Marks
-met m = record m { opened = m.opened || (m.asked && m.heard && not m.left) }
+abbrev pub marks_met : Marks → Marks
+marks_met m = record m { opened = m.opened || (m.asked && m.heard && not m.left) }
 
 abbrev pub asked_size : Bool → ℕ → ℕ → Marks → Marks
-asked_size it of_size with_room m = met (record m { asked = m.asked || it; size = if it then of_size else m.size; room = if it then with_room else m.room })
+asked_size it of_size with_room m = marks_met (record m { asked = m.asked || it; size = if it then of_size else m.size; room = if it then with_room else m.room })
 
 abbrev pub asked_link : Bool → ℕ → ℕ → Marks → Marks
-asked_link it on with_room m = met (record m { asked = m.asked || it; link = if it then on else m.link; room = if it then with_room else m.room })
+asked_link it on with_room m = marks_met (record m { asked = m.asked || it; link = if it then on else m.link; room = if it then with_room else m.room })
 
-abbrev pub heard_size : Bool → ℕ → Marks → Marks
-heard_size it of_size m = met (record m { heard = m.heard || it; size = if it then of_size else m.size })
+abbrev pub marks_heard_size : Bool → ℕ → Marks → Marks
+marks_heard_size it of_size m = marks_met (record m { heard = m.heard || it; size = if it then of_size else m.size })
 
-abbrev pub heard_link : Bool → ℕ → Marks → Marks
-heard_link it on m = met (record m { heard = m.heard || it; link = if it then on else m.link })
+abbrev pub marks_heard_link : Bool → ℕ → Marks → Marks
+marks_heard_link it on m = marks_met (record m { heard = m.heard || it; link = if it then on else m.link })
 
 -- Closing: with the own CLS and the peer's the end is there, and nothing stands any more.
 
@@ -107,8 +105,8 @@ granted it of_messages of_bits m = record m {
 abbrev pub returned : ℕ → ℕ → Marks → Marks
 returned of_messages of_bits m = record m { returned_messages = m.returned_messages + of_messages; returned_bits = m.returned_bits + of_bits }
 
-abbrev pub interrupted : Bool → Marks → Marks
-interrupted it m = record m { interrupts = if it then min (m.interrupts + 1) MAX_COUNT else m.interrupts }
+abbrev pub marks_interrupted : Bool → Marks → Marks
+marks_interrupted it m = record m { interrupts = if it then min (m.interrupts + 1) MAX_COUNT else m.interrupts }
 
 abbrev pub came_in : Bool → List Bool → Marks → Marks
 came_in it text m = record m {
@@ -119,30 +117,30 @@ came_in it text m = record m {
 
 -- What an outcome or the commands that were made say.
 
-abbrev pub went_out : Outcome → Marks → Marks
-went_out (all.Sent of_size text) m = record m {
+abbrev pub marks_went_out : Outcome → Marks → Marks
+marks_went_out (Outcome.Sent of_size text) m = record m {
   used_messages = m.used_messages + 1;
   used_bits = m.used_bits + length text;
   drawn = m.drawn ++ text;
   busy = true;
 }
-went_out outcome m = m
+marks_went_out outcome m = m
 
-abbrev pub is_cls : Command → Bool
-is_cls (commands.Cls my your) = true
-is_cls c = false
+abbrev pub is_cls_command : Command → Bool
+is_cls_command (Command.Cls my your) = true
+is_cls_command c = false
 
 abbrev pub makes_cls : List Command → Bool
 makes_cls [] = false
-makes_cls (c ∷ cs) = is_cls c
+makes_cls (c ∷ cs) = is_cls_command c
 
-abbrev pub link_in : Command → ℕ
-link_in (commands.Rts receive send on) = on
-link_in c = 0
+abbrev pub link_in_rts : Command → ℕ
+link_in_rts (Command.Rts receive send on) = on
+link_in_rts c = 0
 
 abbrev pub link_asked : List Command → ℕ
 link_asked [] = 0
-link_asked (c ∷ cs) = link_in c
+link_asked (c ∷ cs) = link_in_rts c
 
 abbrev pub messages_back : List Command → ℕ
 messages_back [] = 0
@@ -154,29 +152,29 @@ bits_back (c ∷ cs) = returned_bits c
 
 -- By each act. A close that is accepted makes its CLS, or has it due.
 abbrev pub marks_by : Happening → Outcome → List Command → Marks → Marks
-marks_by (all.Asks_to_send of_size with_room own full) o made m = asked_size (is_accepted o) of_size with_room m
-marks_by (all.Asks_to_receive with_room on own full) o made m = asked_link (is_accepted o) (link_asked made) with_room m
-marks_by (all.Closes full) o made m = cls_made (makes_cls made) (closed (is_accepted o) m)
-marks_by (all.Gives text) o made m = record m { entered = m.entered ++ (if is_accepted o then text else []) }
-marks_by (all.Takes bytes) o made m = cls_made (makes_cls made) (record m { drawn = m.drawn ++ taken_out o })
-marks_by (all.Allocates of_messages of_bits full) o made m = granted (is_accepted o) of_messages of_bits m
-marks_by (all.Calls_back of_messages of_bits full) o made m = record m { recall = m.recall || is_accepted o }
-marks_by (all.Interrupts full) o made m = m
-marks_by (all.Rts_comes on taken by_peer) o made m = heard_link (is_accepted o) on m
-marks_by (all.Str_comes of_size by_peer) o made m = heard_size (is_accepted o) of_size m
-marks_by all.Cls_comes o made m = cls_made (makes_cls made) (cls_came (is_accepted o) m)
-marks_by (all.All_comes on of_messages of_bits) o made m = granted (is_accepted o) of_messages of_bits m
-marks_by (all.Gvb_comes on of_messages of_bits) o made m = returned (messages_back made) (bits_back made) m
-marks_by (all.Ret_comes on of_messages of_bits) o made m =
-    returned (if is_accepted o then of_messages else 0) (if is_accepted o then of_bits else 0) (record m { recall = m.recall && not (is_accepted o) })
-marks_by (all.Inr_comes on) o made m = interrupted (is_accepted o) m
-marks_by (all.Ins_comes on) o made m = interrupted (is_accepted o) m
-marks_by (all.Text_comes head of_size text) o made m = came_in (is_admitted o) text m
-marks_by all.Text_goes_out o made m = went_out o m
-marks_by (all.Is_answered Rfnm) o made m = cls_made (makes_cls made) (record m { busy = false })
-marks_by (all.Is_answered Incomplete) o made m = m
-marks_by (all.Is_answered Dead) o made m = m
-marks_by all.Is_cleared o made m = no_marks
+marks_by (Happening.Asks_to_send of_size with_room own full) o made m = asked_size (is_outcome_accepted o) of_size with_room m
+marks_by (Happening.Asks_to_receive with_room on own full) o made m = asked_link (is_outcome_accepted o) (link_asked made) with_room m
+marks_by (Happening.Closes full) o made m = cls_made (makes_cls made) (closed (is_outcome_accepted o) m)
+marks_by (Happening.Gives text) o made m = record m { entered = m.entered ++ (if is_outcome_accepted o then text else []) }
+marks_by (Happening.Takes bytes) o made m = cls_made (makes_cls made) (record m { drawn = m.drawn ++ taken_out o })
+marks_by (Happening.Allocates of_messages of_bits full) o made m = granted (is_outcome_accepted o) of_messages of_bits m
+marks_by (Happening.Calls_back of_messages of_bits full) o made m = record m { recall = m.recall || is_outcome_accepted o }
+marks_by (Happening.Interrupts full) o made m = m
+marks_by (Happening.Rts_comes on taken by_peer) o made m = marks_heard_link (is_outcome_accepted o) on m
+marks_by (Happening.Str_comes of_size by_peer) o made m = marks_heard_size (is_outcome_accepted o) of_size m
+marks_by Happening.Cls_comes o made m = cls_made (makes_cls made) (cls_came (is_outcome_accepted o) m)
+marks_by (Happening.All_comes on of_messages of_bits) o made m = granted (is_outcome_accepted o) of_messages of_bits m
+marks_by (Happening.Gvb_comes on of_messages of_bits) o made m = returned (messages_back made) (bits_back made) m
+marks_by (Happening.Ret_comes on of_messages of_bits) o made m =
+    returned (if is_outcome_accepted o then of_messages else 0) (if is_outcome_accepted o then of_bits else 0) (record m { recall = m.recall && not (is_outcome_accepted o) })
+marks_by (Happening.Inr_comes on) o made m = marks_interrupted (is_outcome_accepted o) m
+marks_by (Happening.Ins_comes on) o made m = marks_interrupted (is_outcome_accepted o) m
+marks_by (Happening.Text_comes head of_size text) o made m = came_in (is_admitted o) text m
+marks_by Happening.Text_goes_out o made m = marks_went_out o m
+marks_by (Happening.Is_answered Rfnm) o made m = cls_made (makes_cls made) (record m { busy = false })
+marks_by (Happening.Is_answered Incomplete) o made m = m
+marks_by (Happening.Is_answered Dead) o made m = m
+marks_by Happening.Is_cleared o made m = no_marks
 
 -- the first act first
 abbrev pub marks_from : List Acted → Marks → Marks
@@ -190,23 +188,23 @@ marks_of pair all_notes = marks_from (acts_of pair all_notes) no_marks
 -- What the marks say: the end is there while one stands; it is live from its opening on, open until it is
 -- shut, left once its CLS was made, and leaving where it is live and neither of these.
 
-abbrev pub is_there : Marks → Bool
-is_there m = m.asked || m.heard || m.left || m.cls
+abbrev pub is_marked_there : Marks → Bool
+is_marked_there m = m.asked || m.heard || m.left || m.cls
 
-abbrev pub is_open : Marks → Bool
-is_open m = m.opened && not m.shut
+abbrev pub is_marked_open : Marks → Bool
+is_marked_open m = m.opened && not m.shut
 
 abbrev pub is_leaving : Marks → Bool
-is_leaving m = m.opened && not (is_open m) && not m.left
+is_leaving m = m.opened && not (is_marked_open m) && not m.left
 
 -- what was stored was dropped: of a sender that is shut, and where the CLS was made
-abbrev pub is_dropped : Pair → Marks → Bool
-is_dropped pair m = m.left || (sends pair && m.shut)
+abbrev pub is_marked_dropped : Pair → Marks → Bool
+is_marked_dropped pair m = m.left || (sends pair && m.shut)
 
 -- The end of a pair, and what a user is told of it, as its marks and sums say.
 
-abbrev pub end_told : Pair → Marks → End
-end_told pair m = record {
+abbrev pub end_of_marks : Pair → Marks → End
+end_of_marks pair m = record {
   asked = m.asked;
   heard = m.heard;
   opened = m.opened;
@@ -217,7 +215,7 @@ end_told pair m = record {
   size = m.size;
   messages = m.granted_messages - m.returned_messages - m.used_messages;
   bits = m.granted_bits - m.returned_bits - m.used_bits;
-  stored = if is_dropped pair m then [] else drop (length m.drawn) m.entered;
+  stored = if is_marked_dropped pair m then [] else drop (length m.drawn) m.entered;
   room = m.room;
   busy = m.busy;
   recall = m.recall;
@@ -225,7 +223,7 @@ end_told pair m = record {
 }
 
 abbrev pub end_marked : Pair → Marks → Option End
-end_marked pair m = if is_there m then Some (end_told pair m) else None
+end_marked pair m = if is_marked_there m then Some (end_of_marks pair m) else None
 
 abbrev pub record_marked : Pair → Marks → Option Record
 record_marked pair m = record_if_any pair (end_marked pair m)

@@ -8,52 +8,49 @@ use Rattle.ncp_leader.specs.Message.{message_in}
 use Rattle.ncp_model.specs.Peers.{Ask_to_send, Ask_to_receive, Close, Give, Take, Allocate, Call_back, Interrupt}
 use Rattle.ncp_host.specs.declared.counts.Ignored.{Ignored}
 use Rattle.ncp_host.specs.declared.received.Received.{Received}
-use Rattle.ncp_host.specs.declared.received.Received.TheVariants as received
 use Rattle.ncp_host.specs.Counting.{one_more}
-use Rattle.ncp_host.specs.PeerState.{PeerState, calls, calls_reset, calls_echo, calls_wake, answer_comes}
+use Rattle.ncp_host.specs.PeerState.{PeerState, state_calls, state_calls_reset, state_calls_echo, state_calls_wake, answer_comes}
 use Rattle.ncp_host.specs.Hearing.{regular, message_after}
 use Rattle.ncp_host.specs.Output.{after_output}
 use Rattle.ncp_host.specs.Host.{is_one_of, are_distinct, new_host}
 use Rattle.ncp_host.specs.Calls.{sockets}
 use Rattle.ncp_transcript.specs.declared.call.Call.{Call}
-use Rattle.ncp_transcript.specs.declared.call.Call.TheVariants as calls_of
 use Rattle.ncp_transcript.specs.declared.note.HostNote.{HostNote}
-use Rattle.ncp_transcript.specs.declared.note.HostNote.TheVariants as notes
-use Rattle.ncp_transcript.specs.Runs.{IsRun}
+use Rattle.ncp_transcript.specs.Runs.{IsHostRun}
 
 -- the notes of a host from its beginning: its peers are distinct, and each number has a place in a leader
 pub record FromBeginning (me : ℕ) (ns : List ℕ) (notes : List HostNote) : Type 0 where
   pub distinct : are_distinct ns ≡ true
   pub places : (n : ℕ) → is_one_of n ns ≡ true → n < 256
-  pub run : IsRun notes (new_host me ns)
+  pub run : IsHostRun notes (new_host me ns)
 
 -- Which peer a note names.
 
 abbrev pub peer_of_call : Call → Option ℕ
-peer_of_call (calls_of.Reset peer) = Some peer
-peer_of_call (calls_of.AskSend peer local remote size room) = Some peer
-peer_of_call (calls_of.AskReceive peer local remote room) = Some peer
-peer_of_call (calls_of.Give peer pair text) = Some peer
-peer_of_call (calls_of.Take peer pair bytes) = Some peer
-peer_of_call (calls_of.Allocate peer pair messages bits) = Some peer
-peer_of_call (calls_of.CallBack peer pair fm fb) = Some peer
-peer_of_call (calls_of.Interrupt peer pair) = Some peer
-peer_of_call (calls_of.Echo peer byte) = Some peer
-peer_of_call (calls_of.Close peer pair) = Some peer
-peer_of_call (calls_of.Wake peer) = Some peer
-peer_of_call (calls_of.State peer pair) = Some peer
-peer_of_call (calls_of.Phase peer) = Some peer
-peer_of_call (calls_of.Echoed peer) = Some peer
-peer_of_call (calls_of.Errors peer) = Some peer
-peer_of_call (calls_of.Counts peer) = Some peer
-peer_of_call (calls_of.Waiting peer place) = Some peer
-peer_of_call (calls_of.Kept peer link) = Some peer
-peer_of_call calls_of.Ignored = None
+peer_of_call (Call.Reset peer) = Some peer
+peer_of_call (Call.AskSend peer local remote size room) = Some peer
+peer_of_call (Call.AskReceive peer local remote room) = Some peer
+peer_of_call (Call.Give peer pair text) = Some peer
+peer_of_call (Call.Take peer pair bytes) = Some peer
+peer_of_call (Call.Allocate peer pair messages bits) = Some peer
+peer_of_call (Call.CallBack peer pair fm fb) = Some peer
+peer_of_call (Call.Interrupt peer pair) = Some peer
+peer_of_call (Call.Echo peer byte) = Some peer
+peer_of_call (Call.Close peer pair) = Some peer
+peer_of_call (Call.Wake peer) = Some peer
+peer_of_call (Call.State peer pair) = Some peer
+peer_of_call (Call.Phase peer) = Some peer
+peer_of_call (Call.Echoed peer) = Some peer
+peer_of_call (Call.Errors peer) = Some peer
+peer_of_call (Call.Counts peer) = Some peer
+peer_of_call (Call.Waiting peer place) = Some peer
+peer_of_call (Call.Kept peer link) = Some peer
+peer_of_call Call.Ignored = None
 
 -- the requests: of all calls they alone take memory, for the bits of their pair
 abbrev pub is_request : Call → Bool
-is_request (calls_of.AskSend peer local remote size room) = true
-is_request (calls_of.AskReceive peer local remote room) = true
+is_request (Call.AskSend peer local remote size room) = true
+is_request (Call.AskReceive peer local remote room) = true
 is_request call = false
 
 -- a regular message names the host of its leader: where it comes from, or goes to (BBN 1822, section 3)
@@ -61,47 +58,47 @@ abbrev pub peer_of_leader : Result Leader Short → Option ℕ
 peer_of_leader (Err short) = None
 peer_of_leader (Ok leader) = if leader.kind == regular then Some leader.host else None
 
-abbrev pub peer_of : HostNote → Option ℕ
-peer_of (notes.Refused call fault) = peer_of_call call
-peer_of (notes.Done call) = peer_of_call call
-peer_of (notes.Took peer pair bytes text) = Some peer
-peer_of (notes.State peer pair record_read) = Some peer
-peer_of (notes.Phase peer flags) = Some peer
-peer_of (notes.Echoed peer byte) = Some peer
-peer_of (notes.Errors peer errors) = Some peer
-peer_of (notes.Counts peer counts) = Some peer
-peer_of (notes.Waiting peer place command) = Some peer
-peer_of (notes.Kept peer link message) = Some peer
-peer_of (notes.Ignored ignored) = None
-peer_of (notes.Out message) = peer_of_leader (leader_in message)
-peer_of notes.Nothing = None
-peer_of (notes.In message received) = peer_of_leader (leader_in message)
-peer_of (notes.Answered peer link answer received) = Some peer
+abbrev pub peer_of_note : HostNote → Option ℕ
+peer_of_note (HostNote.Refused call fault) = peer_of_call call
+peer_of_note (HostNote.Done call) = peer_of_call call
+peer_of_note (HostNote.Took peer pair bytes text) = Some peer
+peer_of_note (HostNote.State peer pair record_read) = Some peer
+peer_of_note (HostNote.Phase peer flags) = Some peer
+peer_of_note (HostNote.Echoed peer byte) = Some peer
+peer_of_note (HostNote.Errors peer errors) = Some peer
+peer_of_note (HostNote.Counts peer counts) = Some peer
+peer_of_note (HostNote.Waiting peer place command) = Some peer
+peer_of_note (HostNote.Kept peer link message) = Some peer
+peer_of_note (HostNote.Ignored ignored) = None
+peer_of_note (HostNote.Out message) = peer_of_leader (leader_in message)
+peer_of_note HostNote.Nothing = None
+peer_of_note (HostNote.In message received) = peer_of_leader (leader_in message)
+peer_of_note (HostNote.Answered peer link answer received) = Some peer
 
-abbrev pub is_number : ℕ → Option ℕ → Bool
-is_number n None = false
-is_number n (Some m) = m == n
+abbrev pub is_this_number : ℕ → Option ℕ → Bool
+is_this_number n None = false
+is_this_number n (Some m) = m == n
 
 abbrev pub names : ℕ → HostNote → Bool
-names n note = is_number n (peer_of note)
+names n note = is_this_number n (peer_of_note note)
 
-abbrev pub notes_of : ℕ → List HostNote → List HostNote
-notes_of n all = filter (names n) all
+abbrev pub notes_of_peer : ℕ → List HostNote → List HostNote
+notes_of_peer n all = filter (names n) all
 
 -- What a note makes of what is kept for the peer that it names.
 
 abbrev pub called_for : Call → PeerState → PeerState
-called_for (calls_of.Reset peer) s = calls_reset s
-called_for (calls_of.AskSend peer local remote size room) s = calls (sockets local remote) (Ask_to_send size room) s
-called_for (calls_of.AskReceive peer local remote room) s = calls (sockets local remote) (Ask_to_receive room) s
-called_for (calls_of.Give peer pair text) s = calls pair (Give text) s
-called_for (calls_of.Take peer pair bytes) s = calls pair (Take bytes) s
-called_for (calls_of.Allocate peer pair messages bits) s = calls pair (Allocate messages bits) s
-called_for (calls_of.CallBack peer pair fm fb) s = calls pair (Call_back fm fb) s
-called_for (calls_of.Interrupt peer pair) s = calls pair Interrupt s
-called_for (calls_of.Echo peer byte) s = calls_echo byte s
-called_for (calls_of.Close peer pair) s = calls pair Close s
-called_for (calls_of.Wake peer) s = calls_wake s
+called_for (Call.Reset peer) s = state_calls_reset s
+called_for (Call.AskSend peer local remote size room) s = state_calls (sockets local remote) (Ask_to_send size room) s
+called_for (Call.AskReceive peer local remote room) s = state_calls (sockets local remote) (Ask_to_receive room) s
+called_for (Call.Give peer pair text) s = state_calls pair (Give text) s
+called_for (Call.Take peer pair bytes) s = state_calls pair (Take bytes) s
+called_for (Call.Allocate peer pair messages bits) s = state_calls pair (Allocate messages bits) s
+called_for (Call.CallBack peer pair fm fb) s = state_calls pair (Call_back fm fb) s
+called_for (Call.Interrupt peer pair) s = state_calls pair Interrupt s
+called_for (Call.Echo peer byte) s = state_calls_echo byte s
+called_for (Call.Close peer pair) s = state_calls pair Close s
+called_for (Call.Wake peer) s = state_calls_wake s
 called_for reading s = s
 
 abbrev pub bits_for : Result Leader Short → List Bool → PeerState → PeerState
@@ -113,11 +110,11 @@ out_for (Err short) message s = s
 out_for (Ok leader) message s = after_output leader.link message s
 
 abbrev pub note_for : HostNote → PeerState → PeerState
-note_for (notes.Done call) s = called_for call s
-note_for (notes.Took peer pair bytes text) s = calls pair (Take bytes) s
-note_for (notes.Out message) s = out_for (leader_in message) message s
-note_for (notes.In message received) s = bits_for (leader_in message) message s
-note_for (notes.Answered peer link answer received) s = answer_comes link answer s
+note_for (HostNote.Done call) s = called_for call s
+note_for (HostNote.Took peer pair bytes text) s = state_calls pair (Take bytes) s
+note_for (HostNote.Out message) s = out_for (leader_in message) message s
+note_for (HostNote.In message received) s = bits_for (leader_in message) message s
+note_for (HostNote.Answered peer link answer received) s = answer_comes link answer s
 note_for other s = s
 
 -- the first note first
@@ -128,13 +125,13 @@ notes_for (note ∷ rest) s = notes_for rest (note_for note s)
 -- What is ignored: messages too short for a leader, of another type, and of a host that is no peer.
 
 abbrev pub ignored_more : Received → Ignored → Ignored
-ignored_more received.Short i = record i { short = one_more i.short }
-ignored_more (received.Other kind) i = record i { other = one_more i.other }
-ignored_more received.Unknown i = record i { unknown = one_more i.unknown }
+ignored_more Received.Short i = record i { short = one_more i.short }
+ignored_more (Received.Other kind) i = record i { other = one_more i.other }
+ignored_more Received.Unknown i = record i { unknown = one_more i.unknown }
 ignored_more told i = i
 
 abbrev pub ignored_after : HostNote → Ignored → Ignored
-ignored_after (notes.In message told) i = ignored_more told i
+ignored_after (HostNote.In message told) i = ignored_more told i
 ignored_after other i = i
 
 abbrev pub ignored_by : List HostNote → Ignored → Ignored

@@ -12,28 +12,28 @@ use Rattle.ncp_host.specs.Host.{Host, state_of, new_host}
 use Rattle.ncp_transcript.specs.declared.note.HostNote.{HostNote}
 use Rattle.ncp_transcript.specs.declared.note.HostNote.TheVariants.{Out}
 use Rattle.ncp_transcript.specs.After.{after_notes}
-use Rattle.ncp_proof_runs.specs.Peers.{FromBeginning, notes_of}
-use Rattle.ncp_proof_runs.specs.Histories.{past_of}
+use Rattle.ncp_proof_runs.specs.Peers.{FromBeginning, notes_of_peer}
+use Rattle.ncp_proof_runs.specs.Histories.{past_so_far}
 use Rattle.ncp_proof_runs.specs.Marks.{Marks, marks_of}
 
 -- of the notes of each peer, and what the host has for it after them
 abbrev pub FromNotes : (List HostNote → PeerState → Type 0) → Type 0
 FromNotes holds =
-    (me : ℕ) (ns : List ℕ) (all : List HostNote) (n : ℕ) (s : PeerState) → FromBeginning me ns all → state_of (after_notes all (new_host me ns)) n ≡ Some s → holds (notes_of n all) s
+    (me : ℕ) (ns : List ℕ) (all : List HostNote) (n : ℕ) (s : PeerState) → FromBeginning me ns all → state_of (after_notes all (new_host me ns)) n ≡ Some s → holds (notes_of_peer n all) s
 
 -- the same with each pair of sockets; and with its end, where there is one, by what the notes mark at it
 abbrev pub OfEachPair : (Pair → List HostNote → PeerState → Type 0) → Type 0
 OfEachPair holds =
-    (me : ℕ) (ns : List ℕ) (all : List HostNote) (n : ℕ) (s : PeerState) (pair : Pair) → FromBeginning me ns all → state_of (after_notes all (new_host me ns)) n ≡ Some s → holds pair (notes_of n all) s
+    (me : ℕ) (ns : List ℕ) (all : List HostNote) (n : ℕ) (s : PeerState) (pair : Pair) → FromBeginning me ns all → state_of (after_notes all (new_host me ns)) n ≡ Some s → holds pair (notes_of_peer n all) s
 
 abbrev pub OfEachEnd : (Pair → Marks → End → Type 0) → Type 0
 OfEachEnd holds =
-    (me : ℕ) (ns : List ℕ) (all : List HostNote) (n : ℕ) (s : PeerState) (pair : Pair) (e : End) → FromBeginning me ns all → state_of (after_notes all (new_host me ns)) n ≡ Some s → get s.peer.ends pair ≡ Some e → holds pair (marks_of pair (notes_of n all)) e
+    (me : ℕ) (ns : List ℕ) (all : List HostNote) (n : ℕ) (s : PeerState) (pair : Pair) (e : End) → FromBeginning me ns all → state_of (after_notes all (new_host me ns)) n ≡ Some s → get s.peer.ends pair ≡ Some e → holds pair (marks_of pair (notes_of_peer n all)) e
 
 -- of each receiver that has opened, with its history; of each end that has not opened
 abbrev pub OfOpenedReceivers : (Past → End → Type 0) → Type 0
 OfOpenedReceivers holds =
-    (me : ℕ) (ns : List ℕ) (all : List HostNote) (n : ℕ) (s : PeerState) (pair : Pair) (e : End) → FromBeginning me ns all → state_of (after_notes all (new_host me ns)) n ≡ Some s → receives pair ≡ true → get s.peer.ends pair ≡ Some e → e.opened ≡ true → holds (past_of pair (notes_of n all)) e
+    (me : ℕ) (ns : List ℕ) (all : List HostNote) (n : ℕ) (s : PeerState) (pair : Pair) (e : End) → FromBeginning me ns all → state_of (after_notes all (new_host me ns)) n ≡ Some s → receives pair ≡ true → get s.peer.ends pair ≡ Some e → e.opened ≡ true → holds (past_so_far pair (notes_of_peer n all)) e
 
 abbrev pub OfUnopenedEnds : (End → Type 0) → Type 0
 OfUnopenedEnds holds =
@@ -42,13 +42,13 @@ OfUnopenedEnds holds =
 -- of the notes of a peer before a certain note of a run
 abbrev pub BeforeNote : ℕ → HostNote → (List HostNote → Type 0) → Type 0
 BeforeNote n note holds =
-    (me : ℕ) (ns : List ℕ) (before after : List HostNote) → FromBeginning me ns (before ++ note ∷ after) → holds (notes_of n before)
+    (me : ℕ) (ns : List ℕ) (before after : List HostNote) → FromBeginning me ns (before ++ note ∷ after) → holds (notes_of_peer n before)
 
 -- of each message that goes out to a peer on a link, and the notes of the peer before that
 abbrev pub WhenOut : (ℕ → ℕ → List Bool → List HostNote → Type 0) → Type 0
 WhenOut holds =
-    (me : ℕ) (ns : List ℕ) (before after : List HostNote) (message : List Bool) (n on : ℕ) → FromBeginning me ns (before ++ Out message ∷ after) → leader_in message ≡ Ok (leader_to n on) → holds n on message (notes_of n before)
+    (me : ℕ) (ns : List ℕ) (before after : List HostNote) (message : List Bool) (n on : ℕ) → FromBeginning me ns (before ++ Out message ∷ after) → leader_in message ≡ Ok (leader_to n on) → holds n on message (notes_of_peer n before)
 
 -- of the notes of each peer that a host has, and what it has for it
 abbrev pub EachPeer : Host → List HostNote → (List HostNote → PeerState → Type 0) → Type 0
-EachPeer host notes holds = (n : ℕ) (s : PeerState) → state_of host n ≡ Some s → holds (notes_of n notes) s
+EachPeer host notes holds = (n : ℕ) (s : PeerState) → state_of host n ≡ Some s → holds (notes_of_peer n notes) s

@@ -13,11 +13,11 @@ ghost use Rattle.ncp_model.specs.Rows.{outward};
 ghost use Rattle.ncp_host.specs.declared.counts.Counts.{Counts as Counted};
 ghost use Rattle.ncp_host.specs.Counting.{no_counts};
 ghost use Rattle.ncp_host.specs.PeerState.{new_state};
-ghost use Rattle.ncp_transcript.specs.declared.note.HostNote.{HostNote as Note};
+ghost use Rattle.ncp_transcript.specs.declared.note.HostNote.{HostNote};
 ghost use Rattle.ncp_proof_runs.specs.Reconstructed.{FromNotes, BeforeNote};
-ghost use Rattle.ncp_proof_runs.specs.Peers.{FromBeginning, notes_of};
+ghost use Rattle.ncp_proof_runs.specs.Peers.{FromBeginning, notes_of_peer};
 ghost use Rattle.ncp_proof_runs.specs.Echoing.{no_echo, while_up, echo_heard_all, echo_from, echo_of, last_of};
-ghost use Rattle.ncp_proof_runs.specs.Counted.{is_late_end, counted_as, counted_heard_all, counted_fault, counted_of, counts_told};
+ghost use Rattle.ncp_proof_runs.specs.Counted.{is_late_end, counted_as, counted_heard_all, counted_fault, counted_so_far, counts_capped};
 ghost use Rattle.ncp_proof_runs.specs.Examples.{up_state, echo_before, one_error, other_error, many_errors};
 
 use ncp_host::{Received, Took};
@@ -36,14 +36,14 @@ pub fn echoes_and_errors_are_what_their_notes_say()
     ensures accepted { (n byte : ℕ) → BeforeNote n (Done (Echo n byte)) (λ told. (echo_of told).asked ≡ false) }
     ensures busy { (n byte : ℕ) → BeforeNote n (Refused (Echo n byte) Busy) (λ told. (echo_of told).asked ≡ true) }
     ensures byte_noted { (n : ℕ) (byte : Option ℕ) → BeforeNote n (Echoed n byte) (λ told. byte ≡ (echo_of told).byte) }
-    ensures errors_noted { (me : ℕ) (ns : List ℕ) (before after : List Note) (n : ℕ) (errors : List Error) → FromBeginning me ns (before ++ HostNote.Errors n errors ∷ after) → errors ≡ last_of MAX_ERRORS (echo_of (notes_of n before)).errors }
+    ensures errors_noted { (me : ℕ) (ns : List ℕ) (before after : List HostNote) (n : ℕ) (errors : List Error) → FromBeginning me ns (before ++ HostNote.Errors n errors ∷ after) → errors ≡ last_of MAX_ERRORS (echo_of (notes_of_peer n before)).errors }
 {}
 
 /// What a host has counted of a peer after any run is what the notes of the peer say: of each kind the sum of what
 /// was to be counted, or the greatest number that a count has. A note that reads the counts says the same.
 pub fn counts_are_what_their_notes_say()
-    ensures counts { FromNotes (λ told s. s.counts ≡ counts_told (counted_of told)) }
-    ensures noted { (n : ℕ) (counts : Counted) → BeforeNote n (Counts n counts) (λ told. counts ≡ counts_told (counted_of told)) }
+    ensures counts { FromNotes (λ told s. s.counts ≡ counts_capped (counted_so_far told)) }
+    ensures noted { (n : ℕ) (counts : Counted) → BeforeNote n (Counts n counts) (λ told. counts ≡ counts_capped (counted_so_far told)) }
 {}
 
 /// That this speaks of something: an echo is asked for and answered; an ERP that answers none changes nothing, and
@@ -87,5 +87,5 @@ pub fn each_kind_is_counted_for_itself()
     ensures late_when_due { is_late_end (Some (outward, record new_end { leaving = true })) ≡ true }
     ensures late_when_left { is_late_end (Some (outward, record new_end { left = true })) ≡ true }
     ensures not_late_otherwise { is_late_end (Some (outward, new_end)) ≡ false }
-    ensures most { counts_told (record no_counts { stray = MAX_COUNT + 1; late = 7 }) ≡ record no_counts { stray = MAX_COUNT; late = 7 } }
+    ensures most { counts_capped (record no_counts { stray = MAX_COUNT + 1; late = 7 }) ≡ record no_counts { stray = MAX_COUNT; late = 7 } }
 {}

@@ -8,22 +8,22 @@ ghost use Rattle.ncp_host.specs.PeerState.{new_state};
 ghost use Rattle.ncp_host.specs.Output.{leader_to, links};
 ghost use Rattle.ncp_host.specs.Host.{is_one_of, new_host};
 ghost use Rattle.ncp_host.specs.Readiness.{IsNext};
-ghost use Rattle.ncp_host.specs.declared.received.Received.{Received as What};
-ghost use Rattle.ncp_terms.specs.declared.answer.Answer.{Answer as How};
+ghost use Rattle.ncp_host.specs.declared.received.Received.{Received};
+ghost use Rattle.ncp_terms.specs.declared.answer.Answer.{Answer};
 ghost use Rattle.ncp_terms.specs.declared.answer.Answer.TheVariants.{Dead};
-ghost use Rattle.ncp_transcript.specs.declared.note.HostNote.{HostNote as Note};
+ghost use Rattle.ncp_transcript.specs.declared.note.HostNote.{HostNote};
 ghost use Rattle.ncp_transcript.specs.After.{after_notes};
 ghost use Rattle.ncp_proof_runs.specs.Reconstructed.{FromNotes, WhenOut};
-ghost use Rattle.ncp_proof_runs.specs.Peers.{FromBeginning, notes_of, notes_for};
-ghost use Rattle.ncp_proof_runs.specs.Links.{is_fresh, told_on, came_on, is_quiet_told, slot_told, received_told, ready_told};
-ghost use Rattle.ncp_proof_runs.specs.Examples.{message_on_0, message_on_2, lost, held, stray, woken, taken};
+ghost use Rattle.ncp_proof_runs.specs.Peers.{FromBeginning, notes_of_peer, notes_for};
+ghost use Rattle.ncp_proof_runs.specs.Links.{goes_fresh, told_on, came_on, is_quiet_told, slot_so_far, received_told, ready_told};
+ghost use Rattle.ncp_proof_runs.specs.Examples.{message_on_0, message_on_2, notes_lost, notes_held, notes_stray, notes_woken, notes_taken};
 
 use ncp_host::Received;
 use ncp_transcript::HostNote;
 
 /// What a host keeps for a link to a peer after any run is what the notes of that link say.
 pub fn links_are_what_their_notes_say()
-    ensures { FromNotes (λ told s. (on : ℕ) → slot_at s.slots on ≡ slot_told (told_on on told)) }
+    ensures { FromNotes (λ told s. (on : ℕ) → slot_at s.slots on ≡ slot_so_far (told_on on told)) }
 {}
 
 /// The data links to a peer are quiet after any run exactly where the notes of each of them say so.
@@ -35,42 +35,42 @@ pub fn links_are_quiet_as_their_notes_say()
 /// the one that is ready there; and one that is not fresh is the last fresh one once more, after Destination
 /// Dead only if a wake was accepted since.
 pub fn messages_go_out_one_by_one()
-    ensures addressed { (me : ℕ) (ns : List ℕ) (before after : List Note) (message : List Bool) → FromBeginning me ns (before ++ HostNote.Out message ∷ after) → (n : ℕ) × (on : ℕ) × (is_one_of n ns ≡ true) × (is_one_of on links ≡ true) × (leader_in message ≡ Ok (leader_to n on)) }
+    ensures addressed { (me : ℕ) (ns : List ℕ) (before after : List HostNote) (message : List Bool) → FromBeginning me ns (before ++ HostNote.Out message ∷ after) → (n : ℕ) × (on : ℕ) × (is_one_of n ns ≡ true) × (is_one_of on links ≡ true) × (leader_in message ≡ Ok (leader_to n on)) }
     ensures ready { WhenOut (λ n on out own. ready_told n on (told_on on own) (notes_for own new_state).peer ≡ Some out) }
     ensures alone { WhenOut (λ n on out own. (told_on on own).unanswered ≡ false) }
-    ensures again { WhenOut (λ n on out own. is_fresh (told_on on own) ≡ false → out ≡ (told_on on own).fresh) }
+    ensures again { WhenOut (λ n on out own. goes_fresh (told_on on own) ≡ false → out ≡ (told_on on own).fresh) }
     ensures woken { WhenOut (λ n on out own. (told_on on own).answer ≡ Some Dead → (told_on on own).woken ≡ true) }
 {}
 
 /// What goes out is the message on the first link that is ready, to the first of the peers that has one; and
 /// a host is asked in vain only where no link to any peer is ready.
 pub fn what_goes_out_is_first()
-    ensures out { (me : ℕ) (ns : List ℕ) (before after : List Note) (message : List Bool) → FromBeginning me ns (before ++ HostNote.Out message ∷ after) → IsNext (Some message) (after_notes before (new_host me ns)).peers }
-    ensures nothing { (me : ℕ) (ns : List ℕ) (before after : List Note) → FromBeginning me ns (before ++ HostNote.Nothing ∷ after) → IsNext None (after_notes before (new_host me ns)).peers }
+    ensures out { (me : ℕ) (ns : List ℕ) (before after : List HostNote) (message : List Bool) → FromBeginning me ns (before ++ HostNote.Out message ∷ after) → IsNext (Some message) (after_notes before (new_host me ns)).peers }
+    ensures nothing { (me : ℕ) (ns : List ℕ) (before after : List HostNote) → FromBeginning me ns (before ++ HostNote.Nothing ∷ after) → IsNext None (after_notes before (new_host me ns)).peers }
 {}
 
 /// An answer comes from a peer; and it is stray exactly where no message on its link is unanswered.
 pub fn answers_to_nothing_are_stray()
-    ensures peer { (me : ℕ) (ns : List ℕ) (before after : List Note) (n on : ℕ) (how : How) (told : What) → FromBeginning me ns (before ++ HostNote.Answered n on how told ∷ after) → is_one_of n ns ≡ true }
-    ensures told { (me : ℕ) (ns : List ℕ) (before after : List Note) (n on : ℕ) (how : How) (told : What) → FromBeginning me ns (before ++ HostNote.Answered n on how told ∷ after) → told ≡ received_told (told_on on (notes_of n before)) }
+    ensures peer { (me : ℕ) (ns : List ℕ) (before after : List HostNote) (n on : ℕ) (how : Answer) (told : Received) → FromBeginning me ns (before ++ HostNote.Answered n on how told ∷ after) → is_one_of n ns ≡ true }
+    ensures told { (me : ℕ) (ns : List ℕ) (before after : List HostNote) (n on : ℕ) (how : Answer) (told : Received) → FromBeginning me ns (before ++ HostNote.Answered n on how told ∷ after) → told ≡ received_told (told_on on (notes_of_peer n before)) }
 {}
 
 /// A host is asked in vain for a message only where none is ready, on any link to any of its peers.
 pub fn nothing_goes_out_where_none_is_ready()
-    ensures { (me : ℕ) (ns : List ℕ) (before after : List Note) (n on : ℕ) → FromBeginning me ns (before ++ HostNote.Nothing ∷ after) → is_one_of n ns ≡ true → is_one_of on links ≡ true → ready_told n on (told_on on (notes_of n before)) (notes_for (notes_of n before) new_state).peer ≡ None }
+    ensures { (me : ℕ) (ns : List ℕ) (before after : List HostNote) (n on : ℕ) → FromBeginning me ns (before ++ HostNote.Nothing ∷ after) → is_one_of n ns ≡ true → is_one_of on links ≡ true → ready_told n on (told_on on (notes_of_peer n before)) (notes_for (notes_of_peer n before) new_state).peer ≡ None }
 {}
 
 /// That these laws speak of something: a message that is lost, then held, since its destination is dead,
 /// while another answer is stray and another link goes on, and woken, and taken; and one that comes.
 pub fn one_message_on_its_link()
-    ensures lost { slot_told (told_on 0 lost) ≡ Ready message_on_0 }
-    ensures held { slot_told (told_on 0 held) ≡ Held message_on_0 }
-    ensures stray { told_on 0 (held ++ stray) ≡ told_on 0 held }
-    ensures stray_unanswered { (told_on 0 held).unanswered ≡ false }
-    ensures stray_elsewhere { slot_told (told_on 2 (held ++ stray)) ≡ Travelling message_on_2 }
-    ensures woken { slot_told (told_on 0 (held ++ stray ++ woken)) ≡ Ready message_on_0 }
-    ensures woken_not_fresh { is_fresh (told_on 0 (held ++ stray ++ woken)) ≡ false }
-    ensures taken { slot_told (told_on 0 (held ++ stray ++ woken ++ taken)) ≡ Empty }
-    ensures taken_fresh { is_fresh (told_on 0 (held ++ stray ++ woken ++ taken)) ≡ true }
-    ensures came { came_on 2 (held ++ HostNote.In message_on_2 Received.NotUp ∷ stray) ≡ message_on_2 ∷ [] }
+    ensures lost { slot_so_far (told_on 0 notes_lost) ≡ Ready message_on_0 }
+    ensures held { slot_so_far (told_on 0 notes_held) ≡ Held message_on_0 }
+    ensures stray { told_on 0 (notes_held ++ notes_stray) ≡ told_on 0 notes_held }
+    ensures stray_unanswered { (told_on 0 notes_held).unanswered ≡ false }
+    ensures stray_elsewhere { slot_so_far (told_on 2 (notes_held ++ notes_stray)) ≡ Travelling message_on_2 }
+    ensures woken { slot_so_far (told_on 0 (notes_held ++ notes_stray ++ notes_woken)) ≡ Ready message_on_0 }
+    ensures woken_not_fresh { goes_fresh (told_on 0 (notes_held ++ notes_stray ++ notes_woken)) ≡ false }
+    ensures taken { slot_so_far (told_on 0 (notes_held ++ notes_stray ++ notes_woken ++ notes_taken)) ≡ Empty }
+    ensures taken_fresh { goes_fresh (told_on 0 (notes_held ++ notes_stray ++ notes_woken ++ notes_taken)) ≡ true }
+    ensures came { came_on 2 (notes_held ++ HostNote.In message_on_2 Received.NotUp ∷ notes_stray) ≡ message_on_2 ∷ [] }
 {}

@@ -9,7 +9,7 @@ use Rattle.ncp_model.specs.Ends.{no_ends, cut_in}
 use Rattle.ncp_proof_machine.proofs.Standing.{nothing_out}
 use Rattle.ncp_host.specs.PeerState.{PeerState, new_state}
 use Rattle.ncp_host.specs.Output.{next_of, links, first_or, first_output, output_by, output_on, text_message}
-use Rattle.ncp_transcript_two.specs.Subnet.{Subnet, Free}
+use Rattle.ncp_transcript_two.specs.Subnet.{TransitByLink, Free}
 use Rattle.ncp_transcript_two.specs.Between.{new_hosts}
 use Rattle.ncp_transcript_two.specs.Transcript.{IsTranscript}
 use Rattle.ncp_transcript_two.specs.Seen.{seen}
@@ -31,7 +31,7 @@ none-new n on = ap (λ (x : LinkSlot). output_by x n on new_state.peer) (slot_at
 pub new-none : (there : ℕ) → next_of there new_state ≡ None
 new-none there = none-first there new_state links (none-new there)
 
-new-still : (there : ℕ) (s : PeerState) (u : Subnet) → s ≡ new_state → ((on : ℕ) → u on ≡ Free) → IsStill there s u
+new-still : (there : ℕ) (s : PeerState) (u : TransitByLink) → s ≡ new_state → ((on : ℕ) → u on ≡ Free) → IsStill there s u
 new-still there s u e f = subst (λ (x : PeerState). IsStill there x u) (sym e) (record {
   out = new-none there;
   free = λ on h. f on;

@@ -2,7 +2,7 @@
 use Rattle.std.proofs.Common.{◌≡◌, ℕ, ◌==◌, Bool, true, false, List, nat_le, length, Ok, refl, sym, ap, ◌∙◌, subst, arith}
 use Rattle.std.specs.FinMap.{get}
 use Rattle.std.proofs.lemmas.Bool.{eqb-true}
-use Rattle.ncp_slot.specs.declared.slot.Slot.TheVariants as slots
+use Rattle.ncp_slot.specs.declared.slot.Slot.{Slot}
 use Rattle.ncp_slot.specs.Slots.{HasSlot, slot_at}
 use Rattle.ncp_model.specs.declared.pair.Pair.{Pair}
 use Rattle.ncp_model.specs.Pairs.{turned}
@@ -12,10 +12,9 @@ use Rattle.ncp_model.specs.declared.limits.TheConstants.{MAX_CALLED}
 use Rattle.ncp_model.specs.Phase.{up, reset_answer}
 use Rattle.ncp_model.specs.Sending.{is_full}
 use Rattle.ncp_model.specs.Peers.{Peer}
-use Rattle.ncp_proof_machine.specs.Hosts.{Node, Pasts, peer_of, past_of}
-use Rattle.ncp_proof_machine.specs.Hosts as hosts
+use Rattle.ncp_proof_machine.specs.Hosts.{Node, Pasts, peer_of, past_of, TwoNodes, run}
 use Rattle.ncp_host.specs.PeerState.{PeerState}
-use Rattle.ncp_transcript_two.specs.Subnet.{Subnet}
+use Rattle.ncp_transcript_two.specs.Subnet.{TransitByLink}
 use Rattle.ncp_transcript_two.specs.World.{World}
 use Rattle.ncp_transcript_two.specs.Tie.{Stands}
 use Rattle.ncp_transcript_two.specs.declared.note.Note.{Note}
@@ -32,7 +31,7 @@ use Rattle.ncp_proof_settling.proofs.OfModel.{Quiet, quiet-one, settled-of}
 data-link : (on : ℕ) → HasSlot on → (on == 0) ≡ false → is_data_link on ≡ true
 data-link on h z = let a = h.0 in let b = h.1 in grind (arith, a, b, z)
 
-nothing-left : (there : ℕ) (n : Node) (s : PeerState) (u : Subnet) → Stands there n s u → IsStill there s u → IsAtRest n → HasNothingLeft s
+nothing-left : (there : ℕ) (n : Node) (s : PeerState) (u : TransitByLink) → Stands there n s u → IsStill there s u → IsAtRest n → HasNothingLeft s
 nothing-left there n s u k q r = record {
   slots = λ on h. go on h (on == 0) refl;
   waiting = ap (λ (p : Peer). p.phase.waiting) k.peer ∙ r.idle.waiting;
@@ -47,7 +46,7 @@ nothing-left there n s u k q r = record {
     quiet : Quiet n s
     quiet = quiet-one there n s u k q
 
-    go : (on : ℕ) → HasSlot on → (b : Bool) → (on == 0) ≡ b → slot_at s.slots on ≡ slots.Empty
+    go : (on : ℕ) → HasSlot on → (b : Bool) → (on == 0) ≡ b → slot_at s.slots on ≡ Slot.Empty
     go on h true z = ap (λ (i : ℕ). slot_at s.slots i) (eqb-true on 0 z) ∙ quiet.slot
     go on h false z = quiet.slots on (data-link on h z)
 
@@ -64,7 +63,7 @@ as-seen pair n m s t p q a b c d f =
 pub ends-finished : (ns : List Note) (w : Hosts) → IsTranscript ns w → EndsFinished ns w
 ends-finished ns w t q =
     let m = of-model ns w t in
-    let x : hosts.World = hosts.run m.0 in
+    let x : TwoNodes = run m.0 in
     let v : World = seen w in
     let f = ever-finished m.0 (settled-of x v m.1 q) in
     record {

@@ -21,19 +21,18 @@ use Rattle.ncp_model.specs.Act.{answer}
 use Rattle.ncp_model.specs.Ends.{cut_in}
 use Rattle.ncp_model.specs.Happenings.{of_cut}
 use Rattle.ncp_model.specs.Sending.{next_commands}
-use Rattle.ncp_model.specs.Peers.{Peer}
-use Rattle.ncp_model.specs.Peers as peers
+use Rattle.ncp_model.specs.Peers.{Peer, cuts, frees, peer_sends}
 use Rattle.ncp_host.specs.PeerState.{PeerState, control_link, after_answer, answer_comes, answer_taken, frees_on, is_answered}
-use Rattle.ncp_host.specs.Hearing.{hears, hears_all, hears_last, hears_text, control_after, control_size, is_wrong_link, message_after, text_after, answer_of, after_bits, regular}
+use Rattle.ncp_host.specs.Hearing.{state_hears, state_hears_all, hears_last, state_hears_text, state_after_control, control_size, is_wrong_link, message_after, state_after_text, answer_of, after_bits, regular}
 use Rattle.ncp_host.specs.Output.{made_on, after_made, after_by, output_by, output_on, after_output, control_message, text_message}
 use Rattle.ncp_proof_progress.specs.Work.{causes_all, queue_work, peer_work, takes_away}
 use Rattle.ncp_proof_progress.proofs.PeerWork.{comes-work, fault-work, text-work, cut-work, sends-work, free-work, settle-work}
 use Rattle.ncp_proof_settling.specs.HostWork.{fault_brings, control_brings, message_brings, bits_bring}
 
-all-work : (cs : List Command) (s : PeerState) → peer_work (hears_all cs s).peer ≤ peer_work s.peer + causes_all cs
+all-work : (cs : List Command) (s : PeerState) → peer_work (state_hears_all cs s).peer ≤ peer_work s.peer + causes_all cs
 unfolding causes_all
 all-work [] s = omega arith
-all-work (c ∷ cs) s = let h = all-work cs (hears c s) in let k = comes-work (is_quiet s.slots) c s.peer in omega (arith, h, k)
+all-work (c ∷ cs) s = let h = all-work cs (state_hears c s) in let k = comes-work (is_quiet s.slots) c s.peer in omega (arith, h, k)
 
 last-work : (fault : Option CommandFault) (s : PeerState) → peer_work (hears_last fault s).peer ≤ peer_work s.peer + fault_brings fault
 last-work None s = omega arith
@@ -47,25 +46,25 @@ choose false x y n k j g h = h
 same : (s : PeerState) → peer_work s.peer ≤ peer_work s.peer + 0
 same s = omega arith
 
-control-work : (m : Message) (s : PeerState) → peer_work (control_after m s).peer ≤ peer_work s.peer + control_brings m
+control-work : (m : Message) (s : PeerState) → peer_work (state_after_control m s).peer ≤ peer_work s.peer + control_brings m
 control-work m s =
     let cs = commands_in (bytes_of m.text) in
     let h = all-work cs s in
-    let k = last-work (fault_in (bytes_of m.text)) (hears_all cs s) in
-    choose (m.size == control_size) (hears_text cs (fault_in (bytes_of m.text)) s) (record s { counts = record s.counts { wrong_size = one_more s.counts.wrong_size } })
+    let k = last-work (fault_in (bytes_of m.text)) (state_hears_all cs s) in
+    choose (m.size == control_size) (state_hears_text cs (fault_in (bytes_of m.text)) s) (record s { counts = record s.counts { wrong_size = one_more s.counts.wrong_size } })
     (peer_work s.peer) (causes_all cs + fault_brings (fault_in (bytes_of m.text))) 0 (omega (arith, h, k)) (same s)
 
 pub message-work : (on : ℕ) (bits : List Bool) (r : Result Message MessageFault) (s : PeerState) → peer_work (message_after on bits r s).peer ≤ peer_work s.peer + message_brings on r
 message-work on bits (Err fault) s = same s
 message-work on bits (Ok m) s =
-    choose (is_wrong_link on) (record s { counts = record s.counts { wrong_link = one_more s.counts.wrong_link } }) (cond (on == control_link) (control_after m s) (text_after on (take FRONT_BITS bits) m s))
+    choose (is_wrong_link on) (record s { counts = record s.counts { wrong_link = one_more s.counts.wrong_link } }) (cond (on == control_link) (state_after_control m s) (state_after_text on (take FRONT_BITS bits) m s))
     (peer_work s.peer) 0 (cond (on == control_link) (control_brings m) 1) (same s)
-    (choose (on == control_link) (control_after m s) (text_after on (take FRONT_BITS bits) m s) (peer_work s.peer) (control_brings m) 1 (control-work m s) (text-work on (take FRONT_BITS bits) m.size m.text s.peer))
+    (choose (on == control_link) (state_after_control m s) (state_after_text on (take FRONT_BITS bits) m s) (peer_work s.peer) (control_brings m) 1 (control-work m s) (text-work on (take FRONT_BITS bits) m.size m.text s.peer))
 
 freed-work : (on : ℕ) (p : Peer) → peer_work (frees_on on p) ≤ peer_work p
 freed-work on p = go (on == control_link)
   where
-    go : (b : Bool) → peer_work (cond b p (peers.frees on p)) ≤ peer_work p
+    go : (b : Bool) → peer_work (cond b p (frees on p)) ≤ peer_work p
     go true = omega arith
     go false = free-work on p
 
@@ -103,7 +102,7 @@ some-text number on (Some text) m e = omega arith
 pub made-work : (number on : ℕ) (p : Peer) (m : List Bool) → made_on number on p ≡ Some m → peer_work (after_made on p) + 1 ≤ peer_work p
 made-work number on p m e = go (on == control_link) e
   where
-    go : (b : Bool) → cond b (control_message number (next_commands p.phase.waiting)) (text_message number on (answer (cut_in on p.ends))) ≡ Some m → peer_work (cond b (peers.sends p) (peers.cuts on p)) + 1 ≤ peer_work p
+    go : (b : Bool) → cond b (control_message number (next_commands p.phase.waiting)) (text_message number on (answer (cut_in on p.ends))) ≡ Some m → peer_work (cond b (peer_sends p) (cuts on p)) + 1 ≤ peer_work p
     go true e = let h = sends-work p in let k = some-control number (next_commands p.phase.waiting) m e in omega (arith, h, k)
     go false e = let h = cut-work on p in let k = some-text number on (answer (cut_in on p.ends)) m e in omega (arith, h, k)
 

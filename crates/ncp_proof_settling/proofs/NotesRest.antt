@@ -3,10 +3,9 @@ use Rattle.std.proofs.Common.{ℕ, List, sym, ap, ◌∙◌, subst}
 use Rattle.std.specs.FinMap.{get}
 use Rattle.ncp_model.specs.declared.pair.Pair.{Pair}
 use Rattle.ncp_model.specs.Peers.{Peer}
-use Rattle.ncp_proof_machine.specs.Hosts.{Node, quiet}
-use Rattle.ncp_proof_machine.specs.Hosts as hosts
+use Rattle.ncp_proof_machine.specs.Hosts.{Node, quiet, run}
 use Rattle.ncp_host.specs.PeerState.{PeerState}
-use Rattle.ncp_transcript_two.specs.Subnet.{Subnet}
+use Rattle.ncp_transcript_two.specs.Subnet.{TransitByLink}
 use Rattle.ncp_transcript_two.specs.Tie.{Stands}
 use Rattle.ncp_transcript_two.specs.declared.note.Note.{Note}
 use Rattle.ncp_transcript_two.specs.Between.{Hosts}
@@ -19,7 +18,7 @@ use Rattle.ncp_proof_progress.proofs.LeavingEnds.{leaving-ever}
 use Rattle.ncp_proof_progress.proofs.ResetsWait.{ever-wait}
 use Rattle.ncp_proof_settling.specs.Resting.{LeftWaits}
 
-one : (there : ℕ) (n : Node) (s : PeerState) (u : Subnet) → Stands there n s u → ResetsWait n → ((pair : Pair) → LeavingAt pair (get n.ends pair)) → LeftWaits s
+one : (there : ℕ) (n : Node) (s : PeerState) (u : TransitByLink) → Stands there n s u → ResetsWait n → ((pair : Pair) → LeavingAt pair (get n.ends pair)) → LeftWaits s
 one there n s u k r l = record {
   want = λ e. ap (λ (p : Peer). p.phase.want) k.peer ∙ r.want (sym (quiet-is there n.texts s.slots u k.texts) ∙ e);
   owe = λ e. ap (λ (p : Peer). p.phase.owe) k.peer ∙ r.owe (sym (quiet-is there n.texts s.slots u k.texts) ∙ e);
@@ -30,6 +29,6 @@ pub left-waits : (ns : List Note) (w : Hosts) → IsTranscript ns w → LeftWait
 left-waits ns w t =
     let m = of-model ns w t in
     let r = ever-wait m.0 in (
-      one (seen w).there (hosts.run m.0).this (seen w).this (seen w).going m.1.this r.0 (λ pair. (leaving-ever m.0 pair).0),
-      one (seen w).here (hosts.run m.0).that (seen w).that (seen w).coming m.1.that r.1 (λ pair. (leaving-ever m.0 pair).1),
+      one (seen w).there (run m.0).this (seen w).this (seen w).going m.1.this r.0 (λ pair. (leaving-ever m.0 pair).0),
+      one (seen w).here (run m.0).that (seen w).that (seen w).coming m.1.that r.1 (λ pair. (leaving-ever m.0 pair).1),
     )

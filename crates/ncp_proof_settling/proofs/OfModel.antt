@@ -8,7 +8,6 @@ use Rattle.std.proofs.lemmas.List.Elements.{All-head}
 use Rattle.ncp_terms.specs.declared.command.Command.{Command}
 use Rattle.ncp_terms.specs.Spelling.{IsCommand, spelling}
 use Rattle.ncp_control.proofs.Reading.{spelling_short}
-use Rattle.ncp_slot.specs.declared.slot.Slot.TheVariants as slots
 use Rattle.ncp_slot.specs.Slot.{ready_message}
 use Rattle.ncp_slot.specs.Slots.{HasSlot, LinkSlot, slot_at}
 use Rattle.ncp_model.specs.declared.limits.TheConstants.{DATA_LINKS, FIRST_LINK, MAX_CONTROL}
@@ -17,20 +16,19 @@ use Rattle.ncp_model.specs.Ends.{cut_in}
 use Rattle.ncp_model.specs.Sending.{fitting, next_commands}
 use Rattle.ncp_model.specs.Peers.{Peer}
 use Rattle.ncp_proof_resets.specs.Delivery.{Slot, Link, idle}
-use Rattle.ncp_proof_resets.specs.Delivery as model
+use Rattle.ncp_proof_resets.specs.Delivery
 use Rattle.ncp_proof_resets.specs.Resets.{This, That}
-use Rattle.ncp_proof_machine.specs.Hosts.{TextOut, Node, swap, Step, Sends, Sends_text, Hears, Hears_text, Loses, Loses_text, Dies, Text_dies, Is_answered, Text_is_answered, Wakes}
-use Rattle.ncp_proof_machine.specs.Hosts as hosts
-use Rattle.ncp_proof_machine.specs.Moving.{put_if_any, first_of, as_text}
+use Rattle.ncp_proof_machine.specs.Hosts.{TextOut, Node, nodes_swapped, NodeStep, Sends, Sends_text, Hears, Hears_text, Loses, Loses_text, Dies, Text_dies, Is_answered, Text_is_answered, Wakes, TwoNodes}
+use Rattle.ncp_proof_machine.specs.Moving.{put_if_any, first_waiting, as_text}
 use Rattle.ncp_host.specs.PeerState.{PeerState}
 use Rattle.ncp_host.specs.Host.{is_one_of}
 use Rattle.ncp_host.specs.Output.{links, output_by, output_on, control_message, text_message}
 use Rattle.ncp_proof_runs.proofs.Ready.{none_is}
-use Rattle.ncp_transcript_two.specs.Subnet.{Holds, Subnet, Free}
+use Rattle.ncp_transcript_two.specs.Subnet.{Holds, TransitByLink, Free}
 use Rattle.ncp_transcript_two.specs.World.{World}
-use Rattle.ncp_transcript_two.specs.Tie.{Place, Nowhere, Waits, Goes, Came, Failed, Died, Kept, slot_of, model_of, holds_of, Carries, control_bits, text_bits, AreCommands, IsTextOn, Stands, Tied}
-use Rattle.ncp_proof_progress.specs.HostsWork.{OnLink, moved, held_texts, one_if_any, one_if_accepted, one_if_told, one_if_held}
-use Rattle.ncp_proof_progress.specs.Idle as model_idle
+use Rattle.ncp_transcript_two.specs.Tie.{Whereabouts, Nowhere, Waits, Goes, Came, Failed, Died, Kept, slot_of, model_of, holds_of, Carries, control_bits, text_as_message, AreCommands, IsTextOn, Stands, Tied}
+use Rattle.ncp_proof_progress.specs.HostsWork.{IsOnDataLink, moved, held_texts, one_if_any, one_if_accepted, one_if_told, one_if_held}
+use Rattle.ncp_proof_progress.specs.Idle.{IsSettledInModel}
 use Rattle.ncp_proof_settling.specs.Settled.{is_held, IsStill, IsSettled}
 
 -- the links of a host are those on which a message may be
@@ -62,10 +60,10 @@ none-has : HasSlot 0
 none-has = (λ e. omega (arith, e), omega arith)
 
 -- a link on which nothing is in transit, held or ready has nothing
-nothing-there : {M : Type 0} (write : M → List Bool) (P : M → Type 0) (l : Link M) (s : LinkSlot) (h : Holds) → Carries write P l s h → h ≡ Free → is_held s ≡ false → ((r : List Bool) → s ≡ slots.Ready r → ⊥) → (l ≡ idle) × (s ≡ slots.Empty)
+nothing-there : {M : Type 0} (write : M → List Bool) (P : M → Type 0) (l : Link M) (s : LinkSlot) (h : Holds) → Carries write P l s h → h ≡ Free → is_held s ≡ false → ((r : List Bool) → s ≡ Slot.Ready r → ⊥) → (l ≡ idle) × (s ≡ Slot.Empty)
 nothing-there write P l s h c f k n = go c.place c.model c.in_slot c.in_subnet
   where
-    go : (place : Place _) → l ≡ model_of place → s ≡ slot_of write place → h ≡ holds_of write place → (l ≡ idle) × (s ≡ slots.Empty)
+    go : (place : Whereabouts _) → l ≡ model_of place → s ≡ slot_of write place → h ≡ holds_of write place → (l ≡ idle) × (s ≡ Slot.Empty)
     go Nowhere a b d = (a, b)
     go (Waits m) a b d = absurd (n (write m) b)
     go (Goes m) a b d = absurd (cc (sym f ∙ d))
@@ -74,7 +72,7 @@ nothing-there write P l s h c f k n = go c.place c.model c.in_slot c.in_subnet
     go (Died m) a b d = absurd (cc (sym f ∙ d))
     go (Kept m) a b d = absurd (both_ways (is_held s) k (ap is_held b))
 
-pub not-ready : (on number : ℕ) (s : PeerState) → output_on number on s ≡ None → (r : List Bool) → slot_at s.slots on ≡ slots.Ready r → ⊥
+pub not-ready : (on number : ℕ) (s : PeerState) → output_on number on s ≡ None → (r : List Bool) → slot_at s.slots on ≡ Slot.Ready r → ⊥
 not-ready on number s o r e = cc (sym (ap (λ (x : LinkSlot). output_by x number on s.peer) e) ∙ o)
 
 -- and where no message is made nothing waits
@@ -101,16 +99,16 @@ no-text-made number on (Some t) e = absurd (cc e)
 -- one host, and what it has in transit
 pub record Quiet (n : Node) (s : PeerState) : Type 0 where
   pub control : n.control ≡ idle
-  pub slot : slot_at s.slots 0 ≡ slots.Empty
+  pub slot : slot_at s.slots 0 ≡ Slot.Empty
   pub waiting : n.host.phase.waiting ≡ []
   pub texts : (on : ℕ) → is_data_link on ≡ true → n.texts on ≡ idle
-  pub slots : (on : ℕ) → is_data_link on ≡ true → slot_at s.slots on ≡ slots.Empty
+  pub slots : (on : ℕ) → is_data_link on ≡ true → slot_at s.slots on ≡ Slot.Empty
   pub sendable : (on : ℕ) → is_data_link on ≡ true → answer (cut_in on n.ends) ≡ None
 
 not-control : (on : ℕ) → is_data_link on ≡ true → (on == 0) ≡ false
 not-control on d = grind (arith, d)
 
-pub quiet-one : (there : ℕ) (n : Node) (s : PeerState) (u : Subnet) → Stands there n s u → IsStill there s u → Quiet n s
+pub quiet-one : (there : ℕ) (n : Node) (s : PeerState) (u : TransitByLink) → Stands there n s u → IsStill there s u → Quiet n s
 quiet-one there n s u k q = record {
   control = control.0;
   slot = control.1;
@@ -123,11 +121,11 @@ quiet-one there n s u k q = record {
     out : (on : ℕ) → is_one_of on links ≡ true → output_on there on s ≡ None
     out on h = none_is there s links on q.out h
 
-    control : (n.control ≡ idle) × (slot_at s.slots 0 ≡ slots.Empty)
+    control : (n.control ≡ idle) × (slot_at s.slots 0 ≡ Slot.Empty)
     control = nothing-there (control_bits there) AreCommands n.control (slot_at s.slots 0) (u 0) k.control (q.free 0 none-has) (q.awake 0 none-has) (not-ready 0 there s (out 0 refl))
 
-    text : (on : ℕ) → is_data_link on ≡ true → (n.texts on ≡ idle) × (slot_at s.slots on ≡ slots.Empty)
-    text on d = nothing-there (text_bits there on) (IsTextOn on) (n.texts on) (slot_at s.slots on) (u on) (k.texts on (not-control on d)) (q.free on (has-slot on d)) (q.awake on (has-slot on d)) (not-ready on there s (out on (a-link on d)))
+    text : (on : ℕ) → is_data_link on ≡ true → (n.texts on ≡ idle) × (slot_at s.slots on ≡ Slot.Empty)
+    text on d = nothing-there (text_as_message there on) (IsTextOn on) (n.texts on) (slot_at s.slots on) (u on) (k.texts on (not-control on d)) (q.free on (has-slot on d)) (q.awake on (has-slot on d)) (not-ready on there s (out on (a-link on d)))
 
     made : (on : ℕ) → is_data_link on ≡ true → text_message there on (answer (cut_in on s.peer.ends)) ≡ None
     made on d =
@@ -147,13 +145,13 @@ no-texts-held texts (suc many) from h =
 in-range : (on : ℕ) → FIRST_LINK ≤ on → on < FIRST_LINK + DATA_LINKS → is_data_link on ≡ true
 in-range on l h = grind arith
 
-nothing-moves : (w : hosts.World) (s t : PeerState) → Quiet w.this s → Quiet w.that t → (step : Step) → OnLink step → moved step w ≡ 0
+nothing-moves : (w : TwoNodes) (s t : PeerState) → Quiet w.this s → Quiet w.that t → (step : NodeStep) → IsOnDataLink step → moved step w ≡ 0
 nothing-moves w s t a b (Sends n) l =
-    ap (λ (k : Link (List Command)). one_if_any (ready_message (put_if_any (first_of n w.this.host.phase.waiting) k.slot))) a.control
-    ∙ ap (λ (q : List Command). one_if_any (ready_message (put_if_any (first_of n q) model.Empty))) a.waiting
+    ap (λ (k : Link (List Command)). one_if_any (ready_message (put_if_any (first_waiting n w.this.host.phase.waiting) k.slot))) a.control
+    ∙ ap (λ (q : List Command). one_if_any (ready_message (put_if_any (first_waiting n q) Delivery.Empty))) a.waiting
 nothing-moves w s t a b (Sends_text on) d =
     ap (λ (k : Link TextOut). one_if_any (ready_message (put_if_any (as_text (answer (cut_in on w.this.ends))) k.slot))) (a.texts on d)
-    ∙ ap (λ (o : Option (ℕ × List Bool)). one_if_any (ready_message (put_if_any (as_text o) model.Empty))) (a.sendable on d)
+    ∙ ap (λ (o : Option (ℕ × List Bool)). one_if_any (ready_message (put_if_any (as_text o) Delivery.Empty))) (a.sendable on d)
 nothing-moves w s t a b Hears l = ap (λ (k : Link (List Command)). one_if_accepted k.subnet) b.control
 nothing-moves w s t a b (Hears_text on head) d = ap (λ (k : Link TextOut). one_if_accepted k.subnet) (b.texts on d)
 nothing-moves w s t a b Loses l = ap (λ (k : Link (List Command)). one_if_accepted k.subnet) a.control
@@ -168,7 +166,7 @@ nothing-moves w s t a b Wakes l =
     omega (arith, i, k)
 nothing-moves w s t a b step l = refl
 
-pub settled-of : (w : hosts.World) (v : World) → Tied w v → IsSettled v → model_idle.IsSettled w
+pub settled-of : (w : TwoNodes) (v : World) → Tied w v → IsSettled v → IsSettledInModel w
 settled-of w v t q = go
   where
     a : Quiet w.this v.this
@@ -177,6 +175,6 @@ settled-of w v t q = go
     b : Quiet w.that v.that
     b = quiet-one v.here w.that v.that v.coming t.that q.1
 
-    go : model_idle.IsSettled w
+    go : IsSettledInModel w
     go This step l = nothing-moves w v.this v.that a b step l
-    go That step l = nothing-moves (swap w) v.that v.this b a step l
+    go That step l = nothing-moves (nodes_swapped w) v.that v.this b a step l

@@ -12,10 +12,8 @@ use Rattle.ncp_host.specs.Host.{is_one_of}
 use Rattle.ncp_host.specs.Output.{after_by, output_by}
 use Rattle.ncp_host.specs.Calls.{sockets}
 use Rattle.ncp_transcript.specs.declared.call.Call.{Call}
-use Rattle.ncp_transcript.specs.declared.call.Call.TheVariants as calls
 use Rattle.ncp_transcript.specs.declared.note.HostNote.{HostNote}
-use Rattle.ncp_transcript.specs.declared.note.HostNote.TheVariants as notes
-use Rattle.ncp_proof_runs.specs.Peers.{FromBeginning, notes_of, called_for, bits_for, out_for, note_for, notes_for}
+use Rattle.ncp_proof_runs.specs.Peers.{FromBeginning, notes_of_peer, called_for, bits_for, out_for, note_for, notes_for}
 use Rattle.ncp_proof_runs.proofs.Said.{IsOut, IsSaidOf, IsRunOf}
 use Rattle.ncp_proof_runs.proofs.EachPeer.{each_peer}
 use Rattle.ncp_proof_progress.specs.Work.{queue_work, peer_work}
@@ -25,25 +23,25 @@ use Rattle.ncp_proof_settling.specs.RunWork.{one_if_free, one_if_new, new_by, ca
 use Rattle.ncp_proof_settling.proofs.HostWork.{message-work, answer-work, made-work}
 
 called-work : (call : Call) (s : PeerState) → peer_work (called_for call s).peer ≤ peer_work s.peer + call_brings call s
-called-work (calls.Reset peer) s = reset-work (is_quiet s.slots) s.peer
-called-work (calls.AskSend peer local remote size room) s = call-work (sockets local remote) (Ask_to_send size room) s.peer
-called-work (calls.AskReceive peer local remote room) s = call-work (sockets local remote) (Ask_to_receive room) s.peer
-called-work (calls.Give peer pair text) s = call-work pair (Give text) s.peer
-called-work (calls.Take peer pair bytes) s = call-work pair (Take bytes) s.peer
-called-work (calls.Allocate peer pair messages bits) s = call-work pair (Allocate messages bits) s.peer
-called-work (calls.CallBack peer pair fm fb) s = call-work pair (Call_back fm fb) s.peer
-called-work (calls.Interrupt peer pair) s = call-work pair Interrupt s.peer
-called-work (calls.Echo peer byte) s = echo-work byte s.peer
-called-work (calls.Close peer pair) s = call-work pair Close s.peer
-called-work (calls.Wake peer) s = omega arith
-called-work (calls.State peer pair) s = omega arith
-called-work (calls.Phase peer) s = omega arith
-called-work (calls.Echoed peer) s = omega arith
-called-work (calls.Errors peer) s = omega arith
-called-work (calls.Counts peer) s = omega arith
-called-work (calls.Waiting peer place) s = omega arith
-called-work (calls.Kept peer link) s = omega arith
-called-work calls.Ignored s = omega arith
+called-work (Call.Reset peer) s = reset-work (is_quiet s.slots) s.peer
+called-work (Call.AskSend peer local remote size room) s = call-work (sockets local remote) (Ask_to_send size room) s.peer
+called-work (Call.AskReceive peer local remote room) s = call-work (sockets local remote) (Ask_to_receive room) s.peer
+called-work (Call.Give peer pair text) s = call-work pair (Give text) s.peer
+called-work (Call.Take peer pair bytes) s = call-work pair (Take bytes) s.peer
+called-work (Call.Allocate peer pair messages bits) s = call-work pair (Allocate messages bits) s.peer
+called-work (Call.CallBack peer pair fm fb) s = call-work pair (Call_back fm fb) s.peer
+called-work (Call.Interrupt peer pair) s = call-work pair Interrupt s.peer
+called-work (Call.Echo peer byte) s = echo-work byte s.peer
+called-work (Call.Close peer pair) s = call-work pair Close s.peer
+called-work (Call.Wake peer) s = omega arith
+called-work (Call.State peer pair) s = omega arith
+called-work (Call.Phase peer) s = omega arith
+called-work (Call.Echoed peer) s = omega arith
+called-work (Call.Errors peer) s = omega arith
+called-work (Call.Counts peer) s = omega arith
+called-work (Call.Waiting peer place) s = omega arith
+called-work (Call.Kept peer link) s = omega arith
+called-work Call.Ignored s = omega arith
 
 bits-come : (r : Result Leader Short) (bits : List Bool) (s : PeerState) → peer_work (bits_for r bits s).peer ≤ peer_work s.peer + arrival_brings r bits
 bits-come (Err short) bits s = omega arith
@@ -59,11 +57,11 @@ message-out : (n : ℕ) (m : List Bool) (s : PeerState) → IsOut n m s → peer
 message-out n m s p = subst (λ (r : Result Leader Short). peer_work (out_for r m s).peer + one_if_new r s ≤ peer_work s.peer) (sym p.leader) (out-work n p.on m s (slot_at s.slots p.on) p.ready)
 
 note-work : (n : ℕ) (note : HostNote) (s : PeerState) → IsSaidOf n note s → peer_work (note_for note s).peer + new_by note s ≤ peer_work s.peer + brought_by note s
-note-work n (notes.Done call) s p = let h = called-work call s in omega (arith, h)
-note-work n (notes.Took peer pair bytes text) s p = let h = call-work pair (Take bytes) s.peer in omega (arith, h)
-note-work n (notes.Out message) s p = let h = message-out n message s p in omega (arith, h)
-note-work n (notes.In message received) s p = let h = bits-come (leader_in message) message s in omega (arith, h)
-note-work n (notes.Answered peer link answer received) s p = let h = answer-work link answer s in omega (arith, h)
+note-work n (HostNote.Done call) s p = let h = called-work call s in omega (arith, h)
+note-work n (HostNote.Took peer pair bytes text) s p = let h = call-work pair (Take bytes) s.peer in omega (arith, h)
+note-work n (HostNote.Out message) s p = let h = message-out n message s p in omega (arith, h)
+note-work n (HostNote.In message received) s p = let h = bits-come (leader_in message) message s in omega (arith, h)
+note-work n (HostNote.Answered peer link answer received) s p = let h = answer-work link answer s in omega (arith, h)
 note-work n note s p = omega arith
 
 run-work : (n : ℕ) (all : List HostNote) (s : PeerState) → IsRunOf n all s → sent_new all s + peer_work (notes_for all s).peer ≤ peer_work s.peer + brought all s
@@ -78,8 +76,8 @@ new-work : peer_work new_state.peer ≡ 0
 unfolding queue_work
 new-work = let z = ends-none in omega (arith, z)
 
-pub whole-run : (me : ℕ) (ns : List ℕ) (all : List HostNote) (n : ℕ) → FromBeginning me ns all → is_one_of n ns ≡ true → sent_new (notes_of n all) new_state + peer_work (notes_for (notes_of n all) new_state).peer ≤ brought (notes_of n all) new_state
+pub whole-run : (me : ℕ) (ns : List ℕ) (all : List HostNote) (n : ℕ) → FromBeginning me ns all → is_one_of n ns ≡ true → sent_new (notes_of_peer n all) new_state + peer_work (notes_for (notes_of_peer n all) new_state).peer ≤ brought (notes_of_peer n all) new_state
 whole-run me ns all n from e =
-    let h = run-work n (notes_of n all) new_state (each_peer me ns all n from e).run in
+    let h = run-work n (notes_of_peer n all) new_state (each_peer me ns all n from e).run in
     let z = new-work in
     omega (arith, h, z)

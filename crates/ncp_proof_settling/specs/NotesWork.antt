@@ -2,12 +2,12 @@
 -- each, since a message that is new goes out, comes, and is answered.
 use Rattle.std.specs.Prelude.{ℕ, ◌+◌, ◌*◌, ◌≤◌, List, [], ◌∷◌, Option, None, Some}
 use Rattle.std.specs.FinMap.{get}
-use Rattle.ncp_proof_resets.specs.Resets.{Side, This, That}
-use Rattle.ncp_proof_machine.specs.Hosts as hosts
+use Rattle.ncp_proof_resets.specs.Resets.{Party, This, That}
+use Rattle.ncp_proof_machine.specs.Hosts.{TwoNodes}
 use Rattle.ncp_transcript_two.specs.World.{World, swap, Asked, Asks, Asks_echo, Asks_reset, Asks_wake, Told, Called, Out, In, Went_lost, Went_dead, Answered, Nothing}
 use Rattle.ncp_transcript_two.specs.Tie.{Tied}
 use Rattle.ncp_transcript_two.specs.declared.note.Note.{Note}
-use Rattle.ncp_transcript_two.specs.Between.{Hosts, after_note, after_notes}
+use Rattle.ncp_transcript_two.specs.Between.{Hosts, hosts_after_note, hosts_after_notes}
 use Rattle.ncp_transcript_two.specs.Transcript.{began}
 use Rattle.ncp_transcript_two.specs.Seen.{seen, as_rules, told_of, side_of}
 use Rattle.ncp_proof_progress.specs.Work.{credit}
@@ -39,7 +39,7 @@ told_allows (Went_dead on) v = 4
 told_allows told v = 0
 
 -- the world as the side of a note sees it
-abbrev pub from_side : Side → World → World
+abbrev pub from_side : Party → World → World
 from_side This v = v
 from_side That v = swap v
 
@@ -48,7 +48,7 @@ abbrev pub note_moves : Option Told → ℕ
 note_moves None = 0
 note_moves (Some told) = told_moves told
 
-abbrev pub note_allows : Side → Option Told → World → ℕ
+abbrev pub note_allows : Party → Option Told → World → ℕ
 note_allows side None v = 0
 note_allows side (Some told) v = told_allows told (from_side side v)
 
@@ -59,16 +59,16 @@ notes_move (note ∷ rest) = note_moves (told_of note) + notes_move rest
 
 unfoldable pub notes_allow : List Note → Hosts → ℕ
 notes_allow [] w = 0
-notes_allow (note ∷ rest) w = note_allows (as_rules (side_of note)) (told_of note) (seen w) + notes_allow rest (after_note note w)
+notes_allow (note ∷ rest) w = note_allows (as_rules (side_of note)) (told_of note) (seen w) + notes_allow rest (hosts_after_note note w)
 
 -- The moves of a transcript are paid for by its calls, losses and deaths. What the two hosts of the model
 -- can still bring about, for which what is seen stands, is paid for too.
 abbrev pub MovesArePaidFor : List Note → Hosts → Type 0
-MovesArePaidFor notes w = (x : hosts.World) × Tied x (seen w) × (notes_move notes + work x ≤ notes_allow notes (began w))
+MovesArePaidFor notes w = (x : TwoNodes) × Tied x (seen w) × (notes_move notes + work x ≤ notes_allow notes (began w))
 
 -- From any state of a transcript on: the moves behind it are paid for by the work that is left there, and by
 -- the calls, losses and deaths behind it.
 abbrev pub MoreIsPaidFor : List Note → List Note → Hosts → Type 0
 MoreIsPaidFor before after w =
-    (x : hosts.World) × Tied x (seen (after_notes before (began w))) × (notes_move before + work x ≤ notes_allow before (began w))
-    × (notes_move after ≤ work x + notes_allow after (after_notes before (began w)))
+    (x : TwoNodes) × Tied x (seen (hosts_after_notes before (began w))) × (notes_move before + work x ≤ notes_allow before (began w))
+    × (notes_move after ≤ work x + notes_allow after (hosts_after_notes before (began w)))

@@ -14,8 +14,8 @@ abbrev pub with_fault : List Bool
 with_fault = bits_of_bytes (0 ∷ 1 ∷ 0 ∷ 0 ∷ 0 ∷ 8 ∷ 0 ∷ 3 ∷ 0 ∷ 9 ∷ 65 ∷ 14 ∷ [])
 
 -- a text of one byte on link 2, and on link 1, which carries none
-abbrev pub with_text : List Bool
-with_text = bits_of_bytes (0 ∷ 1 ∷ 2 ∷ 0 ∷ 0 ∷ 8 ∷ 0 ∷ 1 ∷ 0 ∷ 255 ∷ [])
+abbrev pub text_on_link_2 : List Bool
+text_on_link_2 = bits_of_bytes (0 ∷ 1 ∷ 2 ∷ 0 ∷ 0 ∷ 8 ∷ 0 ∷ 1 ∷ 0 ∷ 255 ∷ [])
 
 abbrev pub on_link_1 : List Bool
 on_link_1 = bits_of_bytes (0 ∷ 1 ∷ 1 ∷ 0 ∷ 0 ∷ 8 ∷ 0 ∷ 1 ∷ 0 ∷ 255 ∷ [])

@@ -8,14 +8,11 @@ use Rattle.ncp_leader.specs.Message.{message_in}
 use Rattle.ncp_slot.specs.declared.slot.Slot.TheVariants.{Empty}
 use Rattle.ncp_slot.specs.Slots.{LinkSlot, slot_at}
 use Rattle.ncp_model.specs.declared.pair.Pair.{Pair}
-use Rattle.ncp_model.specs.Peers.{Ask_to_send, Ask_to_receive, Close, Give, Take, Allocate, Call_back, Interrupt}
-use Rattle.ncp_model.specs.Peers as peers
+use Rattle.ncp_model.specs.Peers.{Ask_to_send, Ask_to_receive, Close, Give, Take, Allocate, Call_back, Interrupt, PairCall}
 use Rattle.ncp_host.specs.PeerState.{PeerState}
 use Rattle.ncp_host.specs.Calls.{sockets}
 use Rattle.ncp_transcript.specs.declared.call.Call.{Call}
-use Rattle.ncp_transcript.specs.declared.call.Call.TheVariants as calls
 use Rattle.ncp_transcript.specs.declared.note.HostNote.{HostNote}
-use Rattle.ncp_transcript.specs.declared.note.HostNote.TheVariants as notes
 use Rattle.ncp_proof_runs.specs.Peers.{note_for}
 use Rattle.ncp_proof_progress.specs.Work.{credit}
 use Rattle.ncp_proof_settling.specs.HostWork.{message_brings}
@@ -30,24 +27,24 @@ one_if_new (Err short) s = 0
 one_if_new (Ok leader) s = one_if_free (slot_at s.slots leader.link)
 
 abbrev pub new_by : HostNote → PeerState → ℕ
-new_by (notes.Out message) s = one_if_new (leader_in message) s
+new_by (HostNote.Out message) s = one_if_new (leader_in message) s
 new_by note s = 0
 
 -- what a call that was done brings, in messages
-abbrev pub credit_at : Pair → peers.Call → PeerState → ℕ
+abbrev pub credit_at : Pair → PairCall → PeerState → ℕ
 credit_at pair call s = credit call (get s.peer.ends pair)
 
 abbrev pub call_brings : Call → PeerState → ℕ
-call_brings (calls.Reset peer) s = 2
-call_brings (calls.AskSend peer local remote size room) s = credit_at (sockets local remote) (Ask_to_send size room) s
-call_brings (calls.AskReceive peer local remote room) s = credit_at (sockets local remote) (Ask_to_receive room) s
-call_brings (calls.Give peer pair text) s = credit_at pair (Give text) s
-call_brings (calls.Take peer pair bytes) s = credit_at pair (Take bytes) s
-call_brings (calls.Allocate peer pair messages bits) s = credit_at pair (Allocate messages bits) s
-call_brings (calls.CallBack peer pair fm fb) s = credit_at pair (Call_back fm fb) s
-call_brings (calls.Interrupt peer pair) s = credit_at pair Interrupt s
-call_brings (calls.Echo peer byte) s = 2
-call_brings (calls.Close peer pair) s = credit_at pair Close s
+call_brings (Call.Reset peer) s = 2
+call_brings (Call.AskSend peer local remote size room) s = credit_at (sockets local remote) (Ask_to_send size room) s
+call_brings (Call.AskReceive peer local remote room) s = credit_at (sockets local remote) (Ask_to_receive room) s
+call_brings (Call.Give peer pair text) s = credit_at pair (Give text) s
+call_brings (Call.Take peer pair bytes) s = credit_at pair (Take bytes) s
+call_brings (Call.Allocate peer pair messages bits) s = credit_at pair (Allocate messages bits) s
+call_brings (Call.CallBack peer pair fm fb) s = credit_at pair (Call_back fm fb) s
+call_brings (Call.Interrupt peer pair) s = credit_at pair Interrupt s
+call_brings (Call.Echo peer byte) s = 2
+call_brings (Call.Close peer pair) s = credit_at pair Close s
 call_brings reading s = 0
 
 -- bits that come
@@ -56,8 +53,8 @@ arrival_brings (Err short) bits = 0
 arrival_brings (Ok leader) bits = message_brings leader.link (message_in bits)
 
 abbrev pub brought_by : HostNote → PeerState → ℕ
-brought_by (notes.Done call) s = call_brings call s
-brought_by (notes.In message received) s = arrival_brings (leader_in message) message
+brought_by (HostNote.Done call) s = call_brings call s
+brought_by (HostNote.In message received) s = arrival_brings (leader_in message) message
 brought_by note s = 0
 
 -- of all notes of a peer, for which this is kept when they begin

@@ -10,7 +10,7 @@ use Rattle.ncp_model.specs.Phase.{up}
 use Rattle.ncp_proof_machine.specs.Hosts.{past_of}
 use Rattle.ncp_host.specs.PeerState.{PeerState}
 use Rattle.ncp_host.specs.Output.{next_of}
-use Rattle.ncp_transcript_two.specs.Subnet.{Subnet, Free}
+use Rattle.ncp_transcript_two.specs.Subnet.{TransitByLink, Free}
 use Rattle.ncp_transcript_two.specs.World.{World, swap}
 use Rattle.ncp_transcript_two.specs.Watch.{Both, turn}
 use Rattle.ncp_transcript_two.specs.declared.note.Note.{Note}
@@ -25,7 +25,7 @@ is_held slot = false
 
 -- What a host has for its peer, whose number is there, and what it has in transit: no message is ready to go out,
 -- none is in transit, and none is held until the user asks for it (BBN 1822, section 3).
-pub record IsStill (there : ℕ) (s : PeerState) (u : Subnet) : Type 0 where
+pub record IsStill (there : ℕ) (s : PeerState) (u : TransitByLink) : Type 0 where
   pub out : next_of there s ≡ None
   pub free : (on : ℕ) → HasSlot on → u on ≡ Free
   pub awake : (on : ℕ) → HasSlot on → is_held (slot_at s.slots on) ≡ false

@@ -2,17 +2,16 @@
 -- answered, and what is held is asked for again.
 use Rattle.std.specs.Prelude.{◌≡◌, ◌≤◌, ◌+◌, ℕ, Bool, true, false, List, [], ◌∷◌, ◌++◌, length}
 use Rattle.ncp_slot.specs.Slots.{slot_at}
-use Rattle.ncp_proof_machine.specs.Hosts as hosts
+use Rattle.ncp_proof_machine.specs.Hosts.{TwoNodes}
 use Rattle.ncp_host.specs.PeerState.{PeerState}
-use Rattle.ncp_transcript.specs.declared.call.Call.TheVariants as calls
-use Rattle.ncp_transcript.specs.declared.note.HostNote.TheVariants as of_host
-use Rattle.ncp_transcript_two.specs.Subnet.{Subnet}
+use Rattle.ncp_transcript.specs.declared.call.Call.{Call}
+use Rattle.ncp_transcript.specs.declared.note.HostNote.{HostNote}
+use Rattle.ncp_transcript_two.specs.Subnet.{TransitByLink}
 use Rattle.ncp_transcript_two.specs.Tie.{Tied}
 use Rattle.ncp_transcript_two.specs.declared.side.Side.{Side}
 use Rattle.ncp_transcript_two.specs.declared.event.Event.{Event}
 use Rattle.ncp_transcript_two.specs.declared.note.Note.{Note}
-use Rattle.ncp_transcript_two.specs.declared.note.Note.TheVariants as notes
-use Rattle.ncp_transcript_two.specs.Between.{Hosts, other, number_of, host_of, transit_of, after_note, after_notes}
+use Rattle.ncp_transcript_two.specs.Between.{Hosts, other, side_number, host_of, transit_of, hosts_after_note, hosts_after_notes}
 use Rattle.ncp_transcript_two.specs.Happening.{Noted}
 use Rattle.ncp_transcript_two.specs.Transcript.{IsSaid, began, Noted_world}
 use Rattle.ncp_transcript_two.specs.Seen.{had_for, seen}
@@ -22,33 +21,33 @@ use Rattle.ncp_proof_settling.specs.Settled.{is_held, IsStill, IsSettled}
 
 -- what the host of a side has for the other, and what it has in transit
 abbrev pub had_at : Side → Hosts → PeerState
-had_at side w = had_for (number_of (other side) w) (host_of side w)
+had_at side w = had_for (side_number (other side) w) (host_of side w)
 
-abbrev pub flow_of : Side → Hosts → Subnet
+abbrev pub flow_of : Side → Hosts → TransitByLink
 flow_of side w on = transit_of side on w
 
 -- nothing of a side is ready, in transit or held
 abbrev pub IsStillAt : Side → Hosts → Type 0
-IsStillAt side w = IsStill (number_of (other side) w) (had_at side w) (flow_of side w)
+IsStillAt side w = IsStill (side_number (other side) w) (had_at side w) (flow_of side w)
 
 -- A note of what happens by itself: a message goes out, comes, or is answered; or a host asks again for what it
 -- holds, of which there is some.
 abbrev pub ByItself : Note → Hosts → Type 0
-ByItself (notes.Out side (of_host.Out message)) w = Unit {0}
-ByItself (notes.Came side link note) w = Unit {0}
-ByItself (notes.Answered side link note) w = Unit {0}
-ByItself (notes.Called side (of_host.Done (calls.Wake peer))) w = (on : ℕ) × (is_held (slot_at (had_at side w).slots on) ≡ true)
+ByItself (Note.Out side (HostNote.Out message)) w = Unit {0}
+ByItself (Note.Came side link note) w = Unit {0}
+ByItself (Note.Answered side link note) w = Unit {0}
+ByItself (Note.Called side (HostNote.Done (Call.Wake peer))) w = (on : ℕ) × (is_held (slot_at (had_at side w).slots on) ≡ true)
 ByItself note w = ⊥
 
 -- notes of such, one after the other, each as the rules say
 abbrev pub AllByThemselves : List Note → Hosts → Type 0
 AllByThemselves [] w = Unit {0}
-AllByThemselves (note ∷ rest) w = IsSaid note w × ByItself note w × AllByThemselves rest (after_note note w)
+AllByThemselves (note ∷ rest) w = IsSaid note w × ByItself note w × AllByThemselves rest (hosts_after_note note w)
 
 -- a world went on by one such event
 abbrev pub GoesOnce : Noted_world → Noted_world → Type 0
 GoesOnce before now =
-    (note : Note) × IsSaid note before.hosts × ByItself note before.hosts × (now.notes ≡ before.notes ++ note ∷ []) × (now.hosts ≡ after_note note before.hosts)
+    (note : Note) × IsSaid note before.hosts × ByItself note before.hosts × (now.notes ≡ before.notes ++ note ∷ []) × (now.hosts ≡ hosts_after_note note before.hosts)
 
 -- it went on by one; or nothing can happen but a call, and nothing has
 abbrev pub GoesOrRests : Bool → Noted_world → Noted_world → Type 0
@@ -63,22 +62,22 @@ GoesOrRestsAt side false before now = (now ≡ before) × IsStillAt side before.
 -- it went on by such events alone
 abbrev pub GoesOn : Noted_world → Noted_world → Type 0
 GoesOn before now =
-    (made : List Note) × AllByThemselves made before.hosts × (now.notes ≡ before.notes ++ made) × (now.hosts ≡ after_notes made before.hosts)
+    (made : List Note) × AllByThemselves made before.hosts × (now.notes ≡ before.notes ++ made) × (now.hosts ≡ hosts_after_notes made before.hosts)
 
 -- by no more of them than the work that was left, which is paid for by what users had asked
 abbrev pub IsWithinWork : Noted_world → Noted_world → Type 0
 IsWithinWork before now =
-    (x : hosts.World) × Tied x (seen before.hosts) × (notes_move before.notes + work x ≤ notes_allow before.notes (began before.hosts))
+    (x : TwoNodes) × Tied x (seen before.hosts) × (notes_move before.notes + work x ≤ notes_allow before.notes (began before.hosts))
     × (length now.notes ≤ length before.notes + work x)
 
 -- A note that says nothing: no link was ready, or the subnet had no message to which this may happen.
 abbrev pub says_nothing : Note → Bool
-says_nothing (notes.Out side of_host.Nothing) = true
-says_nothing (notes.Nothing side link wanted) = true
+says_nothing (Note.Out side HostNote.Nothing) = true
+says_nothing (Note.Nothing side link wanted) = true
 says_nothing note = false
 
 -- an event was tried: it happened and its note says something, or its note would say nothing and nothing has happened
 abbrev pub IsTried : Event → Bool → Noted_world → Noted_world → Type 0
 IsTried event true before now =
-    (note : Note) × Noted event note before.hosts × (says_nothing note ≡ false) × (now.notes ≡ before.notes ++ note ∷ []) × (now.hosts ≡ after_note note before.hosts)
+    (note : Note) × Noted event note before.hosts × (says_nothing note ≡ false) × (now.notes ≡ before.notes ++ note ∷ []) × (now.hosts ≡ hosts_after_note note before.hosts)
 IsTried event false before now = (note : Note) × Noted event note before.hosts × (says_nothing note ≡ true) × (now ≡ before)

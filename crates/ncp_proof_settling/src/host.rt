@@ -7,8 +7,8 @@ ghost use Rattle.ncp_host.specs.PeerState.{PeerState, new_state};
 ghost use Rattle.ncp_host.specs.Hearing.{after_bits};
 ghost use Rattle.ncp_host.specs.Host.{is_one_of};
 ghost use Rattle.ncp_host.specs.Output.{output_on, after_output};
-ghost use Rattle.ncp_transcript.specs.declared.note.HostNote.{HostNote as Note};
-ghost use Rattle.ncp_proof_runs.specs.Peers.{FromBeginning, notes_of, notes_for};
+ghost use Rattle.ncp_transcript.specs.declared.note.HostNote.{HostNote};
+ghost use Rattle.ncp_proof_runs.specs.Peers.{FromBeginning, notes_of_peer, notes_for};
 ghost use Rattle.ncp_proof_progress.specs.Work.{peer_work};
 ghost use Rattle.ncp_proof_settling.specs.HostWork.{bits_bring};
 ghost use Rattle.ncp_proof_settling.specs.RunWork.{sent_new, brought};
@@ -20,5 +20,5 @@ ghost use Rattle.ncp_proof_settling.specs.RunWork.{sent_new, brought};
 pub fn no_peer_makes_a_host_send_for_ever()
     ensures comes { (leader : Leader) (bits : List Bool) (s : PeerState) → peer_work (after_bits leader bits s).peer ≤ peer_work s.peer + bits_bring leader bits }
     ensures goes { (number on : ℕ) (m : List Bool) (s : PeerState) → slot_at s.slots on ≡ Empty → output_on number on s ≡ Some m → peer_work (after_output on m s).peer + 1 ≤ peer_work s.peer }
-    ensures run { (me : ℕ) (ns : List ℕ) (all : List Note) (n : ℕ) → FromBeginning me ns all → is_one_of n ns ≡ true → sent_new (notes_of n all) new_state + peer_work (notes_for (notes_of n all) new_state).peer ≤ brought (notes_of n all) new_state }
+    ensures run { (me : ℕ) (ns : List ℕ) (all : List HostNote) (n : ℕ) → FromBeginning me ns all → is_one_of n ns ≡ true → sent_new (notes_of_peer n all) new_state + peer_work (notes_for (notes_of_peer n all) new_state).peer ≤ brought (notes_of_peer n all) new_state }
 {}

@@ -6,11 +6,11 @@ ghost use Rattle.ncp_model.specs.Peers.{Ask_to_send, Ask_to_receive, Close, Give
 ghost use Rattle.ncp_transcript.specs.declared.call.Call.{Call};
 ghost use Rattle.ncp_transcript.specs.declared.call.Call.TheVariants.{Reset, Echo, Wake};
 ghost use Rattle.ncp_transcript.specs.declared.note.HostNote.TheVariants.{Done, Refused};
-ghost use Rattle.ncp_transcript.specs.declared.note.HostNote.TheVariants as of_host;
+ghost use Rattle.ncp_transcript.specs.declared.note.HostNote.{HostNote};
 ghost use Rattle.ncp_transcript_two.specs.World.{World, Asks, Reply, Called};
 ghost use Rattle.ncp_transcript_two.specs.declared.side.Side.TheVariants.{A, B};
-ghost use Rattle.ncp_transcript_two.specs.declared.note.Note.TheVariants as notes;
-ghost use Rattle.ncp_transcript_two.specs.declared.note.Move.TheVariants as wanted;
+ghost use Rattle.ncp_transcript_two.specs.declared.note.Note.{Note};
+ghost use Rattle.ncp_transcript_two.specs.declared.note.Move.{Move};
 ghost use Rattle.ncp_transcript_two.specs.Between.{new_hosts};
 ghost use Rattle.ncp_proof_settling.specs.NotesWork.{told_allows, notes_move, notes_allow};
 
@@ -20,10 +20,10 @@ use ncp_model::{CallFault, Pair};
 /// is answered moves three times, and the loss allows three; a death allows four; and what could not happen moves and
 /// allows nothing.
 pub fn notes_move_and_allow_so()
-    ensures calls { (notes_allow (notes.Called A (Done (Reset 2)) ∷ notes.Called B (Done (Echo 1 65)) ∷ notes.Called A (Done (Wake 2)) ∷ []) (new_hosts 1 2) ≡ 12) × (notes_move (notes.Called A (Done (Reset 2)) ∷ []) ≡ 0) }
-    ensures refused { notes_allow (notes.Called A (Refused (Reset 2) CallFault.Busy) ∷ []) (new_hosts 1 2) ≡ 0 }
-    ensures lost { (notes_move (notes.Out A (of_host.Out []) ∷ notes.Lost A 0 ∷ notes.FoundDead B 0 ∷ []) ≡ 3) × (notes_allow (notes.Out A (of_host.Out []) ∷ notes.Lost A 0 ∷ notes.FoundDead B 0 ∷ []) (new_hosts 1 2) ≡ 7) }
-    ensures nothing { (notes_move (notes.Nothing A 0 wanted.Lose ∷ notes.Out A of_host.Nothing ∷ []) ≡ 0) × (notes_allow (notes.Nothing A 0 wanted.Lose ∷ []) (new_hosts 1 2) ≡ 0) }
+    ensures calls { (notes_allow (Note.Called A (Done (Reset 2)) ∷ Note.Called B (Done (Echo 1 65)) ∷ Note.Called A (Done (Wake 2)) ∷ []) (new_hosts 1 2) ≡ 12) × (notes_move (Note.Called A (Done (Reset 2)) ∷ []) ≡ 0) }
+    ensures refused { notes_allow (Note.Called A (Refused (Reset 2) CallFault.Busy) ∷ []) (new_hosts 1 2) ≡ 0 }
+    ensures lost { (notes_move (Note.Out A (HostNote.Out []) ∷ Note.Lost A 0 ∷ Note.FoundDead B 0 ∷ []) ≡ 3) × (notes_allow (Note.Out A (HostNote.Out []) ∷ Note.Lost A 0 ∷ Note.FoundDead B 0 ∷ []) (new_hosts 1 2) ≡ 7) }
+    ensures nothing { (notes_move (Note.Nothing A 0 Move.Lose ∷ Note.Out A HostNote.Nothing ∷ []) ≡ 0) × (notes_allow (Note.Nothing A 0 Move.Lose ∷ []) (new_hosts 1 2) ≡ 0) }
 {}
 
 /// What calls of a connection allow when they were done: a request fifteen, a GVB nine, an ALL and an interrupt six,

@@ -10,9 +10,9 @@ use Rattle.ncp_model.specs.Pairs.{sends, same}
 use Rattle.ncp_model.specs.End.{End, or_new, is_live}
 use Rattle.ncp_proof_watch.specs.Histories.{opens}
 use Rattle.ncp_proof_connection.specs.Connections.{Text, No_text, Away, Here, Connection}
-use Rattle.ncp_proof_connection.specs.Ledger.{is_out}
-use Rattle.ncp_proof_sharing.specs.Sharing.{Tagged, Shared, only, at, hears_at}
-use Rattle.ncp_proof_sharing.specs.Finding.{link_out, GrantFinds, ReturnFinds, RequestFits, SenderHoldsLink, ReceiverHoldsLink, SenderOpensOn, ReceiverOpensOn, StaysOut}
+use Rattle.ncp_proof_connection.specs.Ledger.{is_text_out}
+use Rattle.ncp_proof_sharing.specs.Sharing.{Tagged, Shared, only, connection_at, hears_at}
+use Rattle.ncp_proof_sharing.specs.Finding.{link_out, GrantFinds, ReturnFinds, RequestFits, SenderHoldsLink, ReceiverHoldsLink, SenderOpensOn, ReceiverOpensOn, StaysOutFor}
 use Rattle.ncp_proof_connection.proofs.Lines.{Data, Alien, same_number}
 use Rattle.ncp_proof_connection.proofs.Joint.{to_sender_kind, to_receiver_kind, kinds, sender_marks, receiver_marks, Place, Together, Sender_ahead, Receiver_ahead, Joint, Firm, live_got, Sized}
 use Rattle.ncp_proof_connection.proofs.Senders.{s_there}
@@ -83,7 +83,7 @@ module _ (q : Pair) (sq : sends q ≡ true) where
 
   -- a text is out
   -- it is out on the sender's link
-  linked : (on : ℕ) (t : Text) (size link : ℕ) → Sized size link t → link_out t ≡ Some on → (is_out t ≡ true) × (link ≡ on)
+  linked : (on : ℕ) (t : Text) (size link : ℕ) → Sized size link t → link_out t ≡ Some on → (is_text_out t ≡ true) × (link ≡ on)
   linked on No_text size link z e = absurd (cc e)
   linked on (Away li n bits) size link z e = (refl, sym z.1 ∙ cc e)
   linked on (Here li) size link z e = (refl, sym z ∙ cc e)
@@ -102,7 +102,7 @@ module _ (q : Pair) (sq : sends q ≡ true) where
   opened_asked None f v = absurd (both_ways false refl v)
   opened_asked (Some e) f v = (f.marks v).0
 
-  same_link : (w : Connection) → Inv q w → is_out w.text ≡ true → (or_new w.receiver.end).link ≡ (or_new w.sender.end).link
+  same_link : (w : Connection) → Inv q w → is_text_out w.text ≡ true → (or_new w.receiver.end).link ≡ (or_new w.sender.end).link
   same_link w k t = go k.core.place k.core.joint
     where
       f : Firm (or_new w.sender.end)
@@ -128,40 +128,40 @@ module _ (q : Pair) (sq : sends q ≡ true) where
 module _ (s : Shared) (f : AllFit s) (k : LinkFits s) where
   pub grant_finds : s.sends ≡ true → GrantFinds s
   grant_finds a q c on rest e sq l =
-      let fit : Fit q true s.receives (record (at q s) { to_sender = c ∷ only q rest }) =
-      subst (λ (x : Bool). Fit q x s.receives (record (at q s) { to_sender = c ∷ only q rest })) a
-      (rw (same_refl q) at (subst (λ (xs : List Tagged). Fit q s.sends s.receives (record (at q s) { to_sender = only q xs })) e (f q sq))) in
-      let u = sender_fits q sq s.receives c on (only q rest) (at q s) l fit in
+      let fit : Fit q true s.receives (record (connection_at q s) { to_sender = c ∷ only q rest }) =
+      subst (λ (x : Bool). Fit q x s.receives (record (connection_at q s) { to_sender = c ∷ only q rest })) a
+      (rw (same_refl q) at (subst (λ (xs : List Tagged). Fit q s.sends s.receives (record (connection_at q s) { to_sender = only q xs })) e (f q sq))) in
+      let u = sender_fits q sq s.receives c on (only q rest) (connection_at q s) l fit in
       let h = hears_from on q (or_new (s.sender q).end) sq u.0 (sym u.1) in
       (h, λ p m. k.senders a p q on m h)
 
   pub return_finds : s.receives ≡ true → ReturnFinds s
   return_finds a q c on rest e sq l =
-      let fit : Fit q s.sends true (record (at q s) { to_receiver = c ∷ only q rest }) =
-      subst (λ (x : Bool). Fit q s.sends x (record (at q s) { to_receiver = c ∷ only q rest })) a
-      (rw (same_refl q) at (subst (λ (xs : List Tagged). Fit q s.sends s.receives (record (at q s) { to_receiver = only q xs })) e (f q sq))) in
-      let u = receiver_fits q sq s.sends c on (only q rest) (at q s) l fit in
+      let fit : Fit q s.sends true (record (connection_at q s) { to_receiver = c ∷ only q rest }) =
+      subst (λ (x : Bool). Fit q s.sends x (record (connection_at q s) { to_receiver = c ∷ only q rest })) a
+      (rw (same_refl q) at (subst (λ (xs : List Tagged). Fit q s.sends s.receives (record (connection_at q s) { to_receiver = only q xs })) e (f q sq))) in
+      let u = receiver_fits q sq s.sends c on (only q rest) (connection_at q s) l fit in
       let h = uses_from on q (or_new (s.receiver q).end) sq u.0 (sym u.1) in
       (h, λ p m. k.receivers a p q on m h)
 
   pub sender_holds : s.sends ≡ true → SenderHoldsLink s
   sender_holds a q on t sq =
-      let u = busy_heard q sq s.receives (at q s) on (subst (λ (x : Bool). Fit q x s.receives (at q s)) a (f q sq)) t in
+      let u = busy_heard q sq s.receives (connection_at q s) on (subst (λ (x : Bool). Fit q x s.receives (connection_at q s)) a (f q sq)) t in
       let h = hears_from on q (or_new (s.sender q).end) sq u.0 u.1 in
       (h, λ p m. k.senders a p q on m h)
 
   pub receiver_holds : s.receives ≡ true → ReceiverHoldsLink s
   receiver_holds a q on t sq =
-      let u = text_asked q sq s.sends (at q s) on (subst (λ (x : Bool). Fit q s.sends x (at q s)) a (f q sq)) t in
+      let u = text_asked q sq s.sends (connection_at q s) on (subst (λ (x : Bool). Fit q s.sends x (connection_at q s)) a (f q sq)) t in
       let h = uses_from on q (or_new (s.receiver q).end) sq u.0 u.1 in
       (h, λ p m. k.receivers a p q on m h)
 
   pub request_fits : s.sends ≡ true → RequestFits s
   request_fits a q i j on rest e sq p m = go (same q p) refl
     where
-      fit : Fit q true s.receives (record (at q s) { to_sender = Rts i j on ∷ only q rest })
-      fit = subst (λ (x : Bool). Fit q x s.receives (record (at q s) { to_sender = Rts i j on ∷ only q rest })) a
-          (rw (same_refl q) at (subst (λ (xs : List Tagged). Fit q s.sends s.receives (record (at q s) { to_sender = only q xs })) e (f q sq)))
+      fit : Fit q true s.receives (record (connection_at q s) { to_sender = Rts i j on ∷ only q rest })
+      fit = subst (λ (x : Bool). Fit q x s.receives (record (connection_at q s) { to_sender = Rts i j on ∷ only q rest })) a
+          (rw (same_refl q) at (subst (λ (xs : List Tagged). Fit q s.sends s.receives (record (connection_at q s) { to_sender = only q xs })) e (f q sq)))
 
       sp : sends p ≡ true
       sp = (hears_parts on p (or_new (s.sender p).end) m).0
@@ -170,7 +170,7 @@ module _ (s : Shared) (f : AllFit s) (k : LinkFits s) where
       free d = (rw (d, sq) at (subst (λ (xs : List Tagged). Clear p on xs (hears_at s on p) (or_new (s.sender p).end).left (asks_at s on p)) e (k.clear a p on sp)).0) refl
 
       go : (b : Bool) → same q p ≡ b → ⊥
-      go true d = both_ways (or_new (s.sender q).end).heard (rts_fits q sq i j on (only q rest) s.receives (at q s) fit)
+      go true d = both_ways (or_new (s.sender q).end).heard (rts_fits q sq i j on (only q rest) s.receives (connection_at q s) fit)
           (hears_parts on q (or_new (s.sender q).end) (subst (λ (r : Pair). hears_at s on r ≡ true) (sym (same_true q p d)) m)).1
       go false d = both_ways (hears_at s on p) (free d) m
 
@@ -179,20 +179,20 @@ module _ (s : Shared) (f : AllFit s) (k : LinkFits s) where
 not_again : (before after : Option End) → is_live before ≡ true → opens before after ≡ true → ⊥
 not_again before after l o = both_ways (opens before after) (rw l refl) o
 
-out_of : (on : ℕ) (t : Text) → link_out t ≡ Some on → is_out t ≡ true
+out_of : (on : ℕ) (t : Text) → link_out t ≡ Some on → is_text_out t ≡ true
 out_of on No_text e = absurd (cc e)
 out_of on (Away li n bits) e = refl
 out_of on (Here li) e = refl
 
-module _ (s t : Shared) (f : AllFit s) (g : AllFit t) (k : LinkFits t) (on : ℕ) (p q : Pair) (out : StaysOut on q s t) where
+module _ (s t : Shared) (f : AllFit s) (g : AllFit t) (k : LinkFits t) (on : ℕ) (p q : Pair) (out : StaysOutFor on q s t) where
   pub sender_opens_not : s.sends ≡ true → t.sends ≡ true → SenderOpensOn on p s t → ⊥
   sender_opens_not a b o =
       let e : p ≡ q = (sender_holds t g k b q on out.2 out.0).1 p o.1 in
-      let l : is_live (s.sender q).end ≡ true = (fit_opened q out.0 s.sends s.receives (at q s) (f q out.0) (out_of on (s.text q) out.1)).0 a in
+      let l : is_live (s.sender q).end ≡ true = (fit_opened q out.0 s.sends s.receives (connection_at q s) (f q out.0) (out_of on (s.text q) out.1)).0 a in
       not_again (s.sender p).end (t.sender p).end (subst (λ (r : Pair). is_live (s.sender r).end ≡ true) (sym e) l) o.0
 
   pub receiver_opens_not : s.receives ≡ true → t.receives ≡ true → ReceiverOpensOn on p s t → ⊥
   receiver_opens_not a b o =
       let e : p ≡ q = (receiver_holds t g k b q on out.2 out.0).1 p o.1 in
-      let l : is_live (s.receiver q).end ≡ true = (fit_opened q out.0 s.sends s.receives (at q s) (f q out.0) (out_of on (s.text q) out.1)).1 a in
+      let l : is_live (s.receiver q).end ≡ true = (fit_opened q out.0 s.sends s.receives (connection_at q s) (f q out.0) (out_of on (s.text q) out.1)).1 a in
       not_again (s.receiver p).end (t.receiver p).end (subst (λ (r : Pair). is_live (s.receiver r).end ≡ true) (sym e) l) o.0

@@ -15,11 +15,10 @@ use Rattle.ncp_model.specs.Calls.{ask_receive, asked_to_receive}
 use Rattle.ncp_model.specs.Ends.{hears_link}
 use Rattle.ncp_model.specs.Texts.{Rfnm, Incomplete, Dead}
 use Rattle.ncp_model.specs.Happenings.{Happening, happens}
-use Rattle.ncp_model.specs.Happenings as all
 use Rattle.ncp_proof_watch.specs.Histories.{Watched}
-use Rattle.ncp_proof_connection.specs.Connections.{Text, No_text, Away, Here, Connection, sender_does, receiver_does, is_call, command_comes, Event, Sender_calls, Receiver_calls, Comes_to_sender, Comes_to_receiver, Text_goes_out, Text_comes, Text_is_answered, sender_hears, receiver_hears, comes_to_sender, comes_to_receiver, occurs}
+use Rattle.ncp_proof_connection.specs.Connections.{Text, No_text, Away, Here, Connection, sender_does, receiver_does, is_call, command_comes, ConnectionEvent, Sender_calls, Receiver_calls, Comes_to_sender, Comes_to_receiver, Text_goes_out, Text_comes, Text_is_answered, sender_hears, receiver_hears, comes_to_sender, comes_to_receiver, occurs}
 use Rattle.ncp_proof_connection.specs.Clearings.{Hosted, Occurs, changes, is_at_sender, misses, text_over, text_dropped}
-use Rattle.ncp_proof_sharing.specs.Sharing.{Tagged, Shared, new_shared, only, at, bringing, put, hears_at, uses_at, Shared_event, On, Next_to_senders, Next_to_receivers, Other_to_senders, Other_to_receivers, Senders_are_cleared, Receivers_are_cleared, All_start_anew, next_to_senders, next_to_receivers, shared_occurs, shared_from, shared, MayHappen, AllMayHappen}
+use Rattle.ncp_proof_sharing.specs.Sharing.{Tagged, Shared, new_shared, only, connection_at, bringing, put_hosted, hears_at, uses_at, Shared_event, On, Next_to_senders, Next_to_receivers, Other_to_senders, Other_to_receivers, Senders_are_cleared, Receivers_are_cleared, All_start_anew, next_to_senders, next_to_receivers, shared_occurs, shared_from, shared, MayHappen, AllMayHappen}
 use Rattle.ncp_proof_connection.proofs.Joint.{to_sender_kind, Firm, sender_well}
 use Rattle.ncp_proof_connection.proofs.Senders.{s_unheard, s_close_fits}
 use Rattle.ncp_proof_connection.proofs.Whole.{s_firm, r_firm, turned_receives}
@@ -52,31 +51,31 @@ record Facts (s r : Watched) (w : Connection) : Type 0 where
 nothing : (s r : Watched) (p : List Command) (t : Text) (v : Bool) → Facts s r (record { sender = s; receiver = r; to_receiver = p; to_sender = []; text = t; violated = v })
 nothing s r p t v = record { sender = λ d. (λ h. (h, refl), λ l. l); receiver = λ h. (h, refl); made = refl }
 
-abbrev asks : Event → Bool
+abbrev asks : ConnectionEvent → Bool
 asks (Receiver_calls what) = asks_link what
 asks e = false
 
 calls_keep_links : (what : Happening) → is_call what ≡ true → keeps_link what ≡ true
-calls_keep_links (all.Asks_to_send n room own full) c = refl
-calls_keep_links (all.Asks_to_receive room on own full) c = refl
-calls_keep_links (all.Closes full) c = refl
-calls_keep_links (all.Gives text) c = refl
-calls_keep_links (all.Takes bytes) c = refl
-calls_keep_links (all.Allocates a b full) c = refl
-calls_keep_links (all.Calls_back a b full) c = refl
-calls_keep_links (all.Interrupts full) c = refl
-calls_keep_links (all.Rts_comes on taken by_peer) c = c
-calls_keep_links (all.Str_comes n by_peer) c = refl
-calls_keep_links all.Cls_comes c = c
-calls_keep_links (all.All_comes on a b) c = refl
-calls_keep_links (all.Gvb_comes on a b) c = refl
-calls_keep_links (all.Ret_comes on a b) c = refl
-calls_keep_links (all.Inr_comes on) c = refl
-calls_keep_links (all.Ins_comes on) c = refl
-calls_keep_links (all.Text_comes head n text) c = refl
-calls_keep_links all.Text_goes_out c = refl
-calls_keep_links (all.Is_answered how) c = refl
-calls_keep_links all.Is_cleared c = c
+calls_keep_links (Happening.Asks_to_send n room own full) c = refl
+calls_keep_links (Happening.Asks_to_receive room on own full) c = refl
+calls_keep_links (Happening.Closes full) c = refl
+calls_keep_links (Happening.Gives text) c = refl
+calls_keep_links (Happening.Takes bytes) c = refl
+calls_keep_links (Happening.Allocates a b full) c = refl
+calls_keep_links (Happening.Calls_back a b full) c = refl
+calls_keep_links (Happening.Interrupts full) c = refl
+calls_keep_links (Happening.Rts_comes on taken by_peer) c = c
+calls_keep_links (Happening.Str_comes n by_peer) c = refl
+calls_keep_links Happening.Cls_comes c = c
+calls_keep_links (Happening.All_comes on a b) c = refl
+calls_keep_links (Happening.Gvb_comes on a b) c = refl
+calls_keep_links (Happening.Ret_comes on a b) c = refl
+calls_keep_links (Happening.Inr_comes on) c = refl
+calls_keep_links (Happening.Ins_comes on) c = refl
+calls_keep_links (Happening.Text_comes head n text) c = refl
+calls_keep_links Happening.Text_goes_out c = refl
+calls_keep_links (Happening.Is_answered how) c = refl
+calls_keep_links Happening.Is_cleared c = c
 
 module _ (q : Pair) (sq : sends q ≡ true) (s r : Watched) where
   sends_facts : (what : Happening) (t : Text) (v : Bool) → keeps_link what ≡ true → Facts s r (sender_does q what (record { sender = s; receiver = r; to_receiver = []; to_sender = []; text = t; violated = v }))
@@ -89,7 +88,7 @@ module _ (q : Pair) (sq : sends q ≡ true) (s r : Watched) where
     made = makes_no_rts (turned q) what r.end (turned_receives q sq) c;
   }
 
-  facts : (e : Event) (a b : Bool) (t : Text) (v : Bool) → asks e ≡ false
+  facts : (e : ConnectionEvent) (a b : Bool) (t : Text) (v : Bool) → asks e ≡ false
       → let w : Connection = record { sender = s; receiver = r; to_receiver = []; to_sender = []; text = t; violated = v } in
       Facts s r (if (if is_at_sender e then a else b) then occurs q e w else misses e w)
   facts (Sender_calls what) false b t v n = nothing s r [] t v
@@ -117,20 +116,20 @@ module _ (q : Pair) (sq : sends q ≡ true) (s r : Watched) where
       go true = nothing s r [] t v
       go false = nothing s r [] t v
   facts Text_goes_out false b t v n = nothing s r [] t v
-  facts Text_goes_out true b t v n = sends_facts all.Text_goes_out t v refl
+  facts Text_goes_out true b t v n = sends_facts Happening.Text_goes_out t v refl
   facts (Text_comes head) a false t v n = nothing s r [] (text_dropped t) v
   facts (Text_comes head) a true No_text v n = nothing s r [] No_text v
-  facts (Text_comes head) a true (Away li m bits) v n = receives_facts (all.Text_comes head m bits) (Here li) v refl
+  facts (Text_comes head) a true (Away li m bits) v n = receives_facts (Happening.Text_comes head m bits) (Here li) v refl
   facts (Text_comes head) a true (Here li) v n = nothing s r [] (Here li) v
   facts (Text_is_answered how) false b t v n = nothing s r [] (text_over how t) v
   facts (Text_is_answered Rfnm) true b No_text v n = nothing s r [] No_text v
   facts (Text_is_answered Rfnm) true b (Away li m bits) v n = nothing s r [] (Away li m bits) v
-  facts (Text_is_answered Rfnm) true b (Here li) v n = sends_facts (all.Is_answered Rfnm) No_text v refl
+  facts (Text_is_answered Rfnm) true b (Here li) v n = sends_facts (Happening.Is_answered Rfnm) No_text v refl
   facts (Text_is_answered Incomplete) true b No_text v n = nothing s r [] No_text v
-  facts (Text_is_answered Incomplete) true b (Away li m bits) v n = sends_facts (all.Is_answered Incomplete) (Away li m bits) v refl
+  facts (Text_is_answered Incomplete) true b (Away li m bits) v n = sends_facts (Happening.Is_answered Incomplete) (Away li m bits) v refl
   facts (Text_is_answered Incomplete) true b (Here li) v n = nothing s r [] (Here li) v
   facts (Text_is_answered Dead) true b No_text v n = nothing s r [] No_text v
-  facts (Text_is_answered Dead) true b (Away li m bits) v n = sends_facts (all.Is_answered Dead) (Away li m bits) v refl
+  facts (Text_is_answered Dead) true b (Away li m bits) v n = sends_facts (Happening.Is_answered Dead) (Away li m bits) v refl
   facts (Text_is_answered Dead) true b (Here li) v n = nothing s r [] (Here li) v
 
 -- what a calm sender held it held before
@@ -138,7 +137,7 @@ calm_holds : (on : ℕ) (q : Pair) (before after : Option End) → SenderCalm be
 calm_holds on q before after c k = (let u = hears_parts on q (or_new after) k in let v = c.0 u.1 in hears_from on q (or_new before) u.0 v.0 (sym v.1 ∙ u.2))
 
 -- A connection that is calm keeps what holds of links.
-calm_links : (q : Pair) (sq : sends q ≡ true) (h : Hosted) (s : Shared) → Facts (s.sender q) (s.receiver q) h.connection → (s.sends ≡ true → Left (s.sender q).end) → FitAt (put q h s) q → LinkFits s → LinkFits (put q h s)
+calm_links : (q : Pair) (sq : sends q ≡ true) (h : Hosted) (s : Shared) → Facts (s.sender q) (s.receiver q) h.connection → (s.sends ≡ true → Left (s.sender q).end) → FitAt (put_hosted q h s) q → LinkFits s → LinkFits (put_hosted q h s)
 calm_links q sq h s f left fit k = put_links q h s (λ on. hears_at s on q) (or_new (s.sender q).end).left (before_as q s k sq)
     (record {
       holds = λ e on m. held e on m;
@@ -174,37 +173,37 @@ one_way pair room on own full before =
 
 -- an event of one connection
 
-links_calm : (q : Pair) (sq : sends q ≡ true) (e : Event) (s : Shared) → asks e ≡ false → AllFit s → LinkFits s → LinkFits (put q (changes q (Occurs e) (bringing q [] [] s)) s)
+links_calm : (q : Pair) (sq : sends q ≡ true) (e : ConnectionEvent) (s : Shared) → asks e ≡ false → AllFit s → LinkFits s → LinkFits (put_hosted q (changes q (Occurs e) (bringing q [] [] s)) s)
 links_calm q sq e s n f k =
     let h : Hosted = changes q (Occurs e) (bringing q [] [] s) in
-    calm_links q sq h s (facts q sq (s.sender q) (s.receiver q) e s.sends s.receives (s.text q) (s.violated q) n) (λ a. left_of q sq s.receives (at q s) (subst (λ (x : Bool). Fit q x s.receives (at q s)) a (f q sq)))
-    (put_own q h s (framed q sq (only q s.to_receivers) (only q s.to_senders) e s.sends s.receives (at q s) (f q sq))) k
+    calm_links q sq h s (facts q sq (s.sender q) (s.receiver q) e s.sends s.receives (s.text q) (s.violated q) n) (λ a. left_of q sq s.receives (connection_at q s) (subst (λ (x : Bool). Fit q x s.receives (connection_at q s)) a (f q sq)))
+    (put_own q h s (framed q sq (only q s.to_receivers) (only q s.to_senders) e s.sends s.receives (connection_at q s) (f q sq))) k
 
 links_asks : (q : Pair) (sq : sends q ≡ true) (room on own : ℕ) (full : Bool) (s : Shared) → ((p : Pair) → uses_at s on p ≡ true → ⊥) → AllFit s → LinkFits s
-    → LinkFits (put q (changes q (Occurs (Receiver_calls (all.Asks_to_receive room on own full))) (bringing q [] [] s)) s)
-links_asks q sq room on own full s free f k = go s.receives refl (is_data_link on) (put_own q (changes q (Occurs e) (bringing q [] [] s)) s (framed q sq (only q s.to_receivers) (only q s.to_senders) e s.sends s.receives (at q s) (f q sq)))
+    → LinkFits (put_hosted q (changes q (Occurs (Receiver_calls (Happening.Asks_to_receive room on own full))) (bringing q [] [] s)) s)
+links_asks q sq room on own full s free f k = go s.receives refl (is_data_link on) (put_own q (changes q (Occurs e) (bringing q [] [] s)) s (framed q sq (only q s.to_receivers) (only q s.to_senders) e s.sends s.receives (connection_at q s) (f q sq)))
   where
-    e : Event
-    e = Receiver_calls (all.Asks_to_receive room on own full)
+    e : ConnectionEvent
+    e = Receiver_calls (Happening.Asks_to_receive room on own full)
 
     w : Connection
     w = (bringing q [] [] s).connection
 
     hosted : Bool → Bool → Hosted
-    hosted b c = record { connection = if b then (if c then receiver_does q (all.Asks_to_receive room on own full) w else w) else w; sends = s.sends; receives = s.receives }
+    hosted b c = record { connection = if b then (if c then receiver_does q (Happening.Asks_to_receive room on own full) w else w) else w; sends = s.sends; receives = s.receives }
 
     left : s.sends ≡ true → Left (s.sender q).end
-    left a = left_of q sq s.receives (at q s) (subst (λ (x : Bool). Fit q x s.receives (at q s)) a (f q sq))
+    left a = left_of q sq s.receives (connection_at q s) (subst (λ (x : Bool). Fit q x s.receives (connection_at q s)) a (f q sq))
 
-    still : (h : Hosted) → Facts (s.sender q) (s.receiver q) h.connection → FitAt (put q h s) q → LinkFits (put q h s)
+    still : (h : Hosted) → Facts (s.sender q) (s.receiver q) h.connection → FitAt (put_hosted q h s) q → LinkFits (put_hosted q h s)
     still h g fit = calm_links q sq h s g left fit k
 
-    did : s.receives ≡ true → FitAt (put q (hosted true true) s) q → LinkFits (put q (hosted true true) s)
+    did : s.receives ≡ true → FitAt (put_hosted q (hosted true true) s) q → LinkFits (put_hosted q (hosted true true) s)
     did r fit = by_way (one_way (turned q) room on own full (s.receiver q).end).is
       where
-        by_way : ((happens (turned q) (all.Asks_to_receive room on own full) (s.receiver q).end).made ≡ []) × ((happens (turned q) (all.Asks_to_receive room on own full) (s.receiver q).end).after ≡ (s.receiver q).end)
-            ⊎ ((happens (turned q) (all.Asks_to_receive room on own full) (s.receiver q).end).made ≡ Rts q.remote q.local on ∷ []) × ((or_new (happens (turned q) (all.Asks_to_receive room on own full) (s.receiver q).end).after).asked ≡ true) × ((or_new (happens (turned q) (all.Asks_to_receive room on own full) (s.receiver q).end).after).link ≡ on)
-            → LinkFits (put q (hosted true true) s)
+        by_way : ((happens (turned q) (Happening.Asks_to_receive room on own full) (s.receiver q).end).made ≡ []) × ((happens (turned q) (Happening.Asks_to_receive room on own full) (s.receiver q).end).after ≡ (s.receiver q).end)
+            ⊎ ((happens (turned q) (Happening.Asks_to_receive room on own full) (s.receiver q).end).made ≡ Rts q.remote q.local on ∷ []) × ((or_new (happens (turned q) (Happening.Asks_to_receive room on own full) (s.receiver q).end).after).asked ≡ true) × ((or_new (happens (turned q) (Happening.Asks_to_receive room on own full) (s.receiver q).end).after).link ≡ on)
+            → LinkFits (put_hosted q (hosted true true) s)
         by_way (inl x) = still (hosted true true) (record { sender = λ d. (λ h. (h, refl), λ l. l); receiver = subst (λ (o : Option End). ReceiverCalm (s.receiver q).end o) (sym x.1) (λ h. (h, refl)); made = rw x.0 refl }) fit
         by_way (inr x) = put_asks q (hosted true true) s (λ on. hears_at s on q) (or_new (s.sender q).end).left (before_as q s k sq)
             (record {
@@ -214,7 +213,7 @@ links_asks q sq room on own full s free f k = go s.receives refl (is_data_link o
             })
             q.remote q.local on x.0 sq x.1 x.2 r free
 
-    go : (b : Bool) → s.receives ≡ b → (c : Bool) → FitAt (put q (hosted b c) s) q → LinkFits (put q (hosted b c) s)
+    go : (b : Bool) → s.receives ≡ b → (c : Bool) → FitAt (put_hosted q (hosted b c) s) q → LinkFits (put_hosted q (hosted b c) s)
     go true r true fit = did r fit
     go true r false fit = still (hosted true false) (nothing (s.sender q) (s.receiver q) [] (s.text q) (s.violated q)) fit
     go false r c fit = still (hosted false c) (nothing (s.sender q) (s.receiver q) [] (s.text q) (s.violated q)) fit
@@ -257,7 +256,7 @@ module _ (q : Pair) (sq : sends q ≡ true) (n : ℕ) (rest : List Tagged) (s : 
 
   rts_comes : (i j on0 : ℕ) → s.sends ≡ true → Left (s.sender q).end → (or_new (s.sender q).end).heard ≡ false
       → LinkFits (record s { to_senders = record { pair = q; command = Rts i j on0 } ∷ rest })
-      → Does q (heard_as (all.Rts_comes on0 false n)) (record s { to_senders = rest }) (λ on. holds (to_sender_kind (Rts i j on0)) true on (or_new (s.sender q).end).left (hears_at s on q)) (or_new (s.sender q).end).left
+      → Does q (heard_as (Happening.Rts_comes on0 false n)) (record s { to_senders = rest }) (λ on. holds (to_sender_kind (Rts i j on0)) true on (or_new (s.sender q).end).left (hears_at s on q)) (or_new (s.sender q).end).left
   rts_comes i j on0 a left u k = record {
     holds = λ e on m. eq-eqb on0 on (link on m);
     left = λ e m. facts2.1 m;
@@ -265,7 +264,7 @@ module _ (q : Pair) (sq : sends q ≡ true) (n : ℕ) (rest : List Tagged) (s : 
   }
     where
       after : Option End
-      after = (happens q (all.Rts_comes on0 false n) (s.sender q).end).after
+      after = (happens q (Happening.Rts_comes on0 false n) (s.sender q).end).after
 
       facts2 : ((or_new after).heard ≡ true → (or_new after).link ≡ on0) × ((or_new (s.sender q).end).left ≡ true → (or_new after).left ≡ true)
       facts2 = sender_hears_rts q on0 n (s.sender q).end sq left u
@@ -281,7 +280,7 @@ module _ (q : Pair) (sq : sends q ≡ true) (n : ℕ) (rest : List Tagged) (s : 
 
   cls_comes : (i j : ℕ) → s.sends ≡ true → (or_new (s.sender q).end).cls ≡ false
       → LinkFits (record s { to_senders = record { pair = q; command = Cls i j } ∷ rest })
-      → Does q (heard_as all.Cls_comes) (record s { to_senders = rest }) (λ on. not (or_new (s.sender q).end).left && hears_at s on q) false
+      → Does q (heard_as Happening.Cls_comes) (record s { to_senders = rest }) (λ on. not (or_new (s.sender q).end).left && hears_at s on q) false
   cls_comes i j a c k = record {
     holds = λ e on m. (let v = held on m in and_from (not (or_new (s.sender q).end).left) (hears_at s on q) (not_from_false (or_new (s.sender q).end).left v.0) v.1);
     left = λ e m. absurd (both_ways false refl m);
@@ -289,7 +288,7 @@ module _ (q : Pair) (sq : sends q ≡ true) (n : ℕ) (rest : List Tagged) (s : 
   }
     where
       after : Option End
-      after = (happens q all.Cls_comes (s.sender q).end).after
+      after = (happens q Happening.Cls_comes (s.sender q).end).after
 
       held : (on : ℕ) → hears_link on (q, or_new after) ≡ true → ((or_new (s.sender q).end).left ≡ false) × (hears_at s on q ≡ true)
       held on m =
@@ -322,12 +321,12 @@ module _ (n : ℕ) (q : Pair) (rest : List Tagged) (s : Shared) (sq : sends q �
 
   -- what names no sockets
   calmly : (c : Command) (what : Happening) → keeps_link what ≡ true → ((on : ℕ) (l h : Bool) → holds (to_sender_kind c) true on l h ≡ h) → ((l : Bool) → still_left (to_sender_kind c) true l ≡ l)
-      → (s.sends ≡ true → Left (s.sender q).end) → LinkFits (with_first c) → FitAt (put q (heard_as q sq n rest s what) (record s { to_senders = rest })) q → LinkFits (put q (heard_as q sq n rest s what) (record s { to_senders = rest }))
+      → (s.sends ≡ true → Left (s.sender q).end) → LinkFits (with_first c) → FitAt (put_hosted q (heard_as q sq n rest s what) (record s { to_senders = rest })) q → LinkFits (put_hosted q (heard_as q sq n rest s what) (record s { to_senders = rest }))
   calmly c what kl sh sl left k fit = put_links q (heard_as q sq n rest s what) (record s { to_senders = rest }) _ _ (popped q c rest s sq k).before (calm_comes q sq n rest s c what s left kl sh sl k) refl fit (λ d h. (h, refl))
 
   -- what has no effect
   idly : (c : Command) → ((on : ℕ) (l h : Bool) → holds (to_sender_kind c) true on l h ≡ h) → ((l : Bool) → still_left (to_sender_kind c) true l ≡ l) → LinkFits (with_first c)
-      → FitAt (put q (bringing q [] [] s) (record s { to_senders = rest })) q → LinkFits (put q (bringing q [] [] s) (record s { to_senders = rest }))
+      → FitAt (put_hosted q (bringing q [] [] s) (record s { to_senders = rest })) q → LinkFits (put_hosted q (bringing q [] [] s) (record s { to_senders = rest }))
   idly c sh sl k fit = put_links q (bringing q [] [] s) (record s { to_senders = rest }) _ _ (popped q c rest s sq k).before
       (record {
         holds = λ e on m. sh on (or_new (s.sender q).end).left (hears_at s on q) ∙ m;
@@ -335,17 +334,17 @@ module _ (n : ℕ) (q : Pair) (rest : List Tagged) (s : Shared) (sq : sends q �
         alone = λ e p on d m w. both_ways (same q p) d (subst (λ (r : Pair). same q r ≡ true) (k.senders e q p on m w) (same_refl q));
       }) refl fit (λ d h. (h, refl))
 
-  comes : (c : Command) → s.sends ≡ true → Fit q true s.receives (record (at q s) { to_sender = c ∷ only q rest }) → LinkFits (with_first c) → FitAt (put q (hearing c) (record s { to_senders = rest })) q → LinkFits (put q (hearing c) (record s { to_senders = rest }))
+  comes : (c : Command) → s.sends ≡ true → Fit q true s.receives (record (connection_at q s) { to_sender = c ∷ only q rest }) → LinkFits (with_first c) → FitAt (put_hosted q (hearing c) (record s { to_senders = rest })) q → LinkFits (put_hosted q (hearing c) (record s { to_senders = rest }))
   comes (Rts i j on) a f k fit = put_links q (hearing (Rts i j on)) (record s { to_senders = rest }) _ _ (popped q (Rts i j on) rest s sq k).before
-      (rts_comes q sq n rest s i j on a (left_of q sq s.receives (record (at q s) { to_sender = Rts i j on ∷ only q rest }) f) (rts_fits q sq i j on (only q rest) s.receives (at q s) f) k) refl fit (λ d h. (h, refl))
+      (rts_comes q sq n rest s i j on a (left_of q sq s.receives (record (connection_at q s) { to_sender = Rts i j on ∷ only q rest }) f) (rts_fits q sq i j on (only q rest) s.receives (connection_at q s) f) k) refl fit (λ d h. (h, refl))
   comes (Cls i j) a f k fit = put_links q (hearing (Cls i j)) (record s { to_senders = rest }) _ _ (popped q (Cls i j) rest s sq k).before
-      (cls_comes q sq n rest s i j a (cls_fits q sq i j (only q rest) s.receives (at q s) f) k) refl fit (λ d h. (h, refl))
-  comes (All on x y) a f k fit = calmly (All on x y) (all.All_comes on x y) refl (λ _ _ _. refl) (λ _. refl) (λ _. left_of q sq s.receives (record (at q s) { to_sender = All on x y ∷ only q rest }) f) k fit
-  comes (Gvb on x y) a f k fit = calmly (Gvb on x y) (all.Gvb_comes on x y) refl (λ _ _ _. refl) (λ _. refl) (λ _. left_of q sq s.receives (record (at q s) { to_sender = Gvb on x y ∷ only q rest }) f) k fit
-  comes (Inr on) a f k fit = calmly (Inr on) (all.Inr_comes on) refl (λ _ _ _. refl) (λ _. refl) (λ _. left_of q sq s.receives (record (at q s) { to_sender = Inr on ∷ only q rest }) f) k fit
-  comes (Str i j m) a f k fit = calmly (Str i j m) (all.Str_comes m n) refl (λ _ _ _. refl) (λ _. refl) (λ _. left_of q sq s.receives (record (at q s) { to_sender = Str i j m ∷ only q rest }) f) k fit
-  comes (Ret on x y) a f k fit = calmly (Ret on x y) (all.Ret_comes on x y) refl (λ _ _ _. refl) (λ _. refl) (λ _. left_of q sq s.receives (record (at q s) { to_sender = Ret on x y ∷ only q rest }) f) k fit
-  comes (Ins on) a f k fit = calmly (Ins on) (all.Ins_comes on) refl (λ _ _ _. refl) (λ _. refl) (λ _. left_of q sq s.receives (record (at q s) { to_sender = Ins on ∷ only q rest }) f) k fit
+      (cls_comes q sq n rest s i j a (cls_fits q sq i j (only q rest) s.receives (connection_at q s) f) k) refl fit (λ d h. (h, refl))
+  comes (All on x y) a f k fit = calmly (All on x y) (Happening.All_comes on x y) refl (λ _ _ _. refl) (λ _. refl) (λ _. left_of q sq s.receives (record (connection_at q s) { to_sender = All on x y ∷ only q rest }) f) k fit
+  comes (Gvb on x y) a f k fit = calmly (Gvb on x y) (Happening.Gvb_comes on x y) refl (λ _ _ _. refl) (λ _. refl) (λ _. left_of q sq s.receives (record (connection_at q s) { to_sender = Gvb on x y ∷ only q rest }) f) k fit
+  comes (Inr on) a f k fit = calmly (Inr on) (Happening.Inr_comes on) refl (λ _ _ _. refl) (λ _. refl) (λ _. left_of q sq s.receives (record (connection_at q s) { to_sender = Inr on ∷ only q rest }) f) k fit
+  comes (Str i j m) a f k fit = calmly (Str i j m) (Happening.Str_comes m n) refl (λ _ _ _. refl) (λ _. refl) (λ _. left_of q sq s.receives (record (connection_at q s) { to_sender = Str i j m ∷ only q rest }) f) k fit
+  comes (Ret on x y) a f k fit = calmly (Ret on x y) (Happening.Ret_comes on x y) refl (λ _ _ _. refl) (λ _. refl) (λ _. left_of q sq s.receives (record (connection_at q s) { to_sender = Ret on x y ∷ only q rest }) f) k fit
+  comes (Ins on) a f k fit = calmly (Ins on) (Happening.Ins_comes on) refl (λ _ _ _. refl) (λ _. refl) (λ _. left_of q sq s.receives (record (connection_at q s) { to_sender = Ins on ∷ only q rest }) f) k fit
   comes Command.Nop a f k fit = idly Command.Nop (λ _ _ _. refl) (λ _. refl) k fit
   comes (Command.Eco b) a f k fit = idly (Command.Eco b) (λ _ _ _. refl) (λ _. refl) k fit
   comes (Command.Erp b) a f k fit = idly (Command.Erp b) (λ _ _ _. refl) (λ _. refl) k fit
@@ -355,13 +354,13 @@ module _ (n : ℕ) (q : Pair) (rest : List Tagged) (s : Shared) (sq : sends q �
 
 to_sender_links : (n : ℕ) (q : Pair) (c : Command) (rest : List Tagged) (s : Shared) → sends q ≡ true → nat_lt n MAX_BY_PEER ≡ true
     → let s0 : Shared = record s { to_senders = record { pair = q; command = c } ∷ rest } in AllFit s0 → LinkFits s0
-    → LinkFits (put q (changes q (Occurs (Comes_to_sender n)) (bringing q [] (c ∷ []) s0)) (record s { to_senders = rest }))
+    → LinkFits (put_hosted q (changes q (Occurs (Comes_to_sender n)) (bringing q [] (c ∷ []) s0)) (record s { to_senders = rest }))
 to_sender_links n q c rest s sq few f k =
     go s.sends refl (nat_lt n MAX_BY_PEER) few
     (put_own q (changes q (Occurs (Comes_to_sender n)) (bringing q [] (c ∷ []) s)) (record s { to_senders = rest })
-    (framed_to_sender q sq (only q s.to_receivers) (only q rest) n c s.sends s.receives (at q s) few fq))
+    (framed_to_sender q sq (only q s.to_receivers) (only q rest) n c s.sends s.receives (connection_at q s) few fq))
   where
-    fq : Fit q s.sends s.receives (record (at q s) { to_sender = c ∷ only q rest })
+    fq : Fit q s.sends s.receives (record (connection_at q s) { to_sender = c ∷ only q rest })
     fq = rw (same_refl q) at (f q sq)
 
     w : Connection
@@ -373,10 +372,10 @@ to_sender_links n q c rest s sq few f k =
     hosted : Bool → Bool → Hosted
     hosted a x = record { connection = if a then (if x then comes_to_sender q n (c ∷ []) w else w) else w0; sends = s.sends; receives = s.receives }
 
-    go : (a : Bool) → s.sends ≡ a → (x : Bool) → x ≡ true → FitAt (put q (hosted a x) (record s { to_senders = rest })) q → LinkFits (put q (hosted a x) (record s { to_senders = rest }))
+    go : (a : Bool) → s.sends ≡ a → (x : Bool) → x ≡ true → FitAt (put_hosted q (hosted a x) (record s { to_senders = rest })) q → LinkFits (put_hosted q (hosted a x) (record s { to_senders = rest }))
     go false e x few fit = put_links q (hosted false x) (record s { to_senders = rest }) _ _ (popped q c rest s sq k).before (record { holds = λ d. absurd (both_ways s.sends e d); left = λ d. absurd (both_ways s.sends e d); alone = λ d. absurd (both_ways s.sends e d) }) refl fit (λ d h. (h, refl))
     go true e false few fit = absurd (both_ways false refl few)
-    go true e true few fit = comes n q rest s sq c e (subst (λ (b : Bool). Fit q b s.receives (record (at q s) { to_sender = c ∷ only q rest })) e fq) k fit
+    go true e true few fit = comes n q rest s sq c e (subst (λ (b : Bool). Fit q b s.receives (record (connection_at q s) { to_sender = c ∷ only q rest })) e fq) k fit
 
 -- The first command underway comes to the receivers.
 
@@ -408,13 +407,13 @@ no_asks n c what e = go (command_comes n c) e refl
 
 to_receiver_links : (n : ℕ) (q : Pair) (c : Command) (rest : List Tagged) (s : Shared) → sends q ≡ true → nat_lt n MAX_BY_PEER ≡ true
     → let s0 : Shared = record s { to_receivers = record { pair = q; command = c } ∷ rest } in AllFit s0 → LinkFits s0
-    → LinkFits (put q (changes q (Occurs (Comes_to_receiver n)) (bringing q (c ∷ []) [] s0)) (record s { to_receivers = rest }))
+    → LinkFits (put_hosted q (changes q (Occurs (Comes_to_receiver n)) (bringing q (c ∷ []) [] s0)) (record s { to_receivers = rest }))
 to_receiver_links n q c rest s sq few f k =
     go s.receives refl (nat_lt n MAX_BY_PEER) few
     (put_own q (changes q (Occurs (Comes_to_receiver n)) (bringing q (c ∷ []) [] s)) (record s { to_receivers = rest })
-    (framed_to_receiver q sq (only q rest) (only q s.to_senders) n c s.sends s.receives (at q s) few fq))
+    (framed_to_receiver q sq (only q rest) (only q s.to_senders) n c s.sends s.receives (connection_at q s) few fq))
   where
-    fq : Fit q s.sends s.receives (record (at q s) { to_receiver = c ∷ only q rest })
+    fq : Fit q s.sends s.receives (record (connection_at q s) { to_receiver = c ∷ only q rest })
     fq = rw (same_refl q) at (f q sq)
 
     w : Connection
@@ -424,7 +423,7 @@ to_receiver_links n q c rest s sq few f k =
     w0 = (bringing q [] [] s).connection
 
     left : s.sends ≡ true → Left (s.sender q).end
-    left a = left_of q sq s.receives (record (at q s) { to_receiver = c ∷ only q rest }) (subst (λ (x : Bool). Fit q x s.receives (record (at q s) { to_receiver = c ∷ only q rest })) a fq)
+    left a = left_of q sq s.receives (record (connection_at q s) { to_receiver = c ∷ only q rest }) (subst (λ (x : Bool). Fit q x s.receives (record (connection_at q s) { to_receiver = c ∷ only q rest })) a fq)
 
     k1 : LinkFits (record s { to_receivers = rest })
     k1 = record { clear = k.clear; senders = k.senders; receivers = k.receivers }
@@ -432,15 +431,15 @@ to_receiver_links n q c rest s sq few f k =
     hosted : Bool → Bool → Hosted
     hosted b x = record { connection = if b then (if x then comes_to_receiver q n (c ∷ []) w else w) else w0; sends = s.sends; receives = s.receives }
 
-    idle : (h : Hosted) → Facts (s.sender q) (s.receiver q) h.connection → FitAt (put q h (record s { to_receivers = rest })) q → LinkFits (put q h (record s { to_receivers = rest }))
+    idle : (h : Hosted) → Facts (s.sender q) (s.receiver q) h.connection → FitAt (put_hosted q h (record s { to_receivers = rest })) q → LinkFits (put_hosted q h (record s { to_receivers = rest }))
     idle h g fit = calm_links q sq h (record s { to_receivers = rest }) g left fit k1
 
-    by_happening : (o : Option Happening) → command_comes n c ≡ o → FitAt (put q (record { connection = receiver_hears q o w0; sends = s.sends; receives = s.receives }) (record s { to_receivers = rest })) q
-        → LinkFits (put q (record { connection = receiver_hears q o w0; sends = s.sends; receives = s.receives }) (record s { to_receivers = rest }))
+    by_happening : (o : Option Happening) → command_comes n c ≡ o → FitAt (put_hosted q (record { connection = receiver_hears q o w0; sends = s.sends; receives = s.receives }) (record s { to_receivers = rest })) q
+        → LinkFits (put_hosted q (record { connection = receiver_hears q o w0; sends = s.sends; receives = s.receives }) (record s { to_receivers = rest }))
     by_happening None e fit = idle (record { connection = w0; sends = s.sends; receives = s.receives }) (nothing (s.sender q) (s.receiver q) [] (s.text q) (s.violated q)) fit
     by_happening (Some what) e fit = idle (record { connection = receiver_does q what w0; sends = s.sends; receives = s.receives }) (receives_facts q sq (s.sender q) (s.receiver q) what (s.text q) (s.violated q) (no_asks n c what e)) fit
 
-    go : (b : Bool) → s.receives ≡ b → (x : Bool) → x ≡ true → FitAt (put q (hosted b x) (record s { to_receivers = rest })) q → LinkFits (put q (hosted b x) (record s { to_receivers = rest }))
+    go : (b : Bool) → s.receives ≡ b → (x : Bool) → x ≡ true → FitAt (put_hosted q (hosted b x) (record s { to_receivers = rest })) q → LinkFits (put_hosted q (hosted b x) (record s { to_receivers = rest }))
     go false e x few fit = idle (hosted false x) (nothing (s.sender q) (s.receiver q) [] (s.text q) (s.violated q)) fit
     go true e false few fit = absurd (both_ways false refl few)
     go true e true few fit = by_happening (command_comes n c) refl fit
@@ -454,7 +453,7 @@ to_senders_links n (c ∷ rest) s few f k = go (sends c.pair) refl
     h : Hosted
     h = changes c.pair (Occurs (Comes_to_sender n)) (bringing c.pair [] (c.command ∷ []) (record s { to_senders = c ∷ rest }))
 
-    go : (b : Bool) → sends c.pair ≡ b → LinkFits (if b then put c.pair h (record s { to_senders = rest }) else record s { to_senders = rest })
+    go : (b : Bool) → sends c.pair ≡ b → LinkFits (if b then put_hosted c.pair h (record s { to_senders = rest }) else record s { to_senders = rest })
     go true e = to_sender_links n c.pair c.command rest s e few f k
     go false e = record {
       clear = λ a p on sp. clear_popped p on c rest (hears_at s on p) (or_new (s.sender p).end).left (asks_at s on p) (apart c.pair p sp e) (k.clear a p on sp);
@@ -469,56 +468,56 @@ to_receivers_links n (c ∷ rest) s few f k = go (sends c.pair) refl
     h : Hosted
     h = changes c.pair (Occurs (Comes_to_receiver n)) (bringing c.pair (c.command ∷ []) [] (record s { to_receivers = c ∷ rest }))
 
-    go : (b : Bool) → sends c.pair ≡ b → LinkFits (if b then put c.pair h (record s { to_receivers = rest }) else record s { to_receivers = rest })
+    go : (b : Bool) → sends c.pair ≡ b → LinkFits (if b then put_hosted c.pair h (record s { to_receivers = rest }) else record s { to_receivers = rest })
     go true e = to_receiver_links n c.pair c.command rest s e few f k
     go false e = record { clear = k.clear; senders = k.senders; receivers = k.receivers }
 
 -- the receiver's link is free where it asks
-links_on : (q : Pair) (sq : sends q ≡ true) (e : Event) (s : Shared) → MayHappen (On q e) s → AllFit s → LinkFits s → LinkFits (put q (changes q (Occurs e) (bringing q [] [] s)) s)
+links_on : (q : Pair) (sq : sends q ≡ true) (e : ConnectionEvent) (s : Shared) → MayHappen (On q e) s → AllFit s → LinkFits s → LinkFits (put_hosted q (changes q (Occurs e) (bringing q [] [] s)) s)
 links_on q sq (Sender_calls what) s m f k = links_calm q sq (Sender_calls what) s refl f k
 links_on q sq (Comes_to_sender n) s m f k = links_calm q sq (Comes_to_sender n) s refl f k
 links_on q sq (Comes_to_receiver n) s m f k = links_calm q sq (Comes_to_receiver n) s refl f k
 links_on q sq Text_goes_out s m f k = links_calm q sq Text_goes_out s refl f k
 links_on q sq (Text_comes head) s m f k = links_calm q sq (Text_comes head) s refl f k
 links_on q sq (Text_is_answered how) s m f k = links_calm q sq (Text_is_answered how) s refl f k
-links_on q sq (Receiver_calls (all.Asks_to_receive room on own full)) s m f k = links_asks q sq room on own full s m f k
-links_on q sq (Receiver_calls (all.Asks_to_send a b c full)) s m f k = links_calm q sq (Receiver_calls (all.Asks_to_send a b c full)) s refl f k
-links_on q sq (Receiver_calls (all.Closes full)) s m f k = links_calm q sq (Receiver_calls (all.Closes full)) s refl f k
-links_on q sq (Receiver_calls (all.Gives text)) s m f k = links_calm q sq (Receiver_calls (all.Gives text)) s refl f k
-links_on q sq (Receiver_calls (all.Takes bytes)) s m f k = links_calm q sq (Receiver_calls (all.Takes bytes)) s refl f k
-links_on q sq (Receiver_calls (all.Allocates a b full)) s m f k = links_calm q sq (Receiver_calls (all.Allocates a b full)) s refl f k
-links_on q sq (Receiver_calls (all.Calls_back a b full)) s m f k = links_calm q sq (Receiver_calls (all.Calls_back a b full)) s refl f k
-links_on q sq (Receiver_calls (all.Interrupts full)) s m f k = links_calm q sq (Receiver_calls (all.Interrupts full)) s refl f k
-links_on q sq (Receiver_calls (all.Rts_comes on taken n)) s m f k = links_calm q sq (Receiver_calls (all.Rts_comes on taken n)) s refl f k
-links_on q sq (Receiver_calls (all.Str_comes a n)) s m f k = links_calm q sq (Receiver_calls (all.Str_comes a n)) s refl f k
-links_on q sq (Receiver_calls all.Cls_comes) s m f k = links_calm q sq (Receiver_calls all.Cls_comes) s refl f k
-links_on q sq (Receiver_calls (all.All_comes on a b)) s m f k = links_calm q sq (Receiver_calls (all.All_comes on a b)) s refl f k
-links_on q sq (Receiver_calls (all.Gvb_comes on a b)) s m f k = links_calm q sq (Receiver_calls (all.Gvb_comes on a b)) s refl f k
-links_on q sq (Receiver_calls (all.Ret_comes on a b)) s m f k = links_calm q sq (Receiver_calls (all.Ret_comes on a b)) s refl f k
-links_on q sq (Receiver_calls (all.Inr_comes on)) s m f k = links_calm q sq (Receiver_calls (all.Inr_comes on)) s refl f k
-links_on q sq (Receiver_calls (all.Ins_comes on)) s m f k = links_calm q sq (Receiver_calls (all.Ins_comes on)) s refl f k
-links_on q sq (Receiver_calls (all.Text_comes head n text)) s m f k = links_calm q sq (Receiver_calls (all.Text_comes head n text)) s refl f k
-links_on q sq (Receiver_calls all.Text_goes_out) s m f k = links_calm q sq (Receiver_calls all.Text_goes_out) s refl f k
-links_on q sq (Receiver_calls (all.Is_answered how)) s m f k = links_calm q sq (Receiver_calls (all.Is_answered how)) s refl f k
-links_on q sq (Receiver_calls all.Is_cleared) s m f k = links_calm q sq (Receiver_calls all.Is_cleared) s refl f k
+links_on q sq (Receiver_calls (Happening.Asks_to_receive room on own full)) s m f k = links_asks q sq room on own full s m f k
+links_on q sq (Receiver_calls (Happening.Asks_to_send a b c full)) s m f k = links_calm q sq (Receiver_calls (Happening.Asks_to_send a b c full)) s refl f k
+links_on q sq (Receiver_calls (Happening.Closes full)) s m f k = links_calm q sq (Receiver_calls (Happening.Closes full)) s refl f k
+links_on q sq (Receiver_calls (Happening.Gives text)) s m f k = links_calm q sq (Receiver_calls (Happening.Gives text)) s refl f k
+links_on q sq (Receiver_calls (Happening.Takes bytes)) s m f k = links_calm q sq (Receiver_calls (Happening.Takes bytes)) s refl f k
+links_on q sq (Receiver_calls (Happening.Allocates a b full)) s m f k = links_calm q sq (Receiver_calls (Happening.Allocates a b full)) s refl f k
+links_on q sq (Receiver_calls (Happening.Calls_back a b full)) s m f k = links_calm q sq (Receiver_calls (Happening.Calls_back a b full)) s refl f k
+links_on q sq (Receiver_calls (Happening.Interrupts full)) s m f k = links_calm q sq (Receiver_calls (Happening.Interrupts full)) s refl f k
+links_on q sq (Receiver_calls (Happening.Rts_comes on taken n)) s m f k = links_calm q sq (Receiver_calls (Happening.Rts_comes on taken n)) s refl f k
+links_on q sq (Receiver_calls (Happening.Str_comes a n)) s m f k = links_calm q sq (Receiver_calls (Happening.Str_comes a n)) s refl f k
+links_on q sq (Receiver_calls Happening.Cls_comes) s m f k = links_calm q sq (Receiver_calls Happening.Cls_comes) s refl f k
+links_on q sq (Receiver_calls (Happening.All_comes on a b)) s m f k = links_calm q sq (Receiver_calls (Happening.All_comes on a b)) s refl f k
+links_on q sq (Receiver_calls (Happening.Gvb_comes on a b)) s m f k = links_calm q sq (Receiver_calls (Happening.Gvb_comes on a b)) s refl f k
+links_on q sq (Receiver_calls (Happening.Ret_comes on a b)) s m f k = links_calm q sq (Receiver_calls (Happening.Ret_comes on a b)) s refl f k
+links_on q sq (Receiver_calls (Happening.Inr_comes on)) s m f k = links_calm q sq (Receiver_calls (Happening.Inr_comes on)) s refl f k
+links_on q sq (Receiver_calls (Happening.Ins_comes on)) s m f k = links_calm q sq (Receiver_calls (Happening.Ins_comes on)) s refl f k
+links_on q sq (Receiver_calls (Happening.Text_comes head n text)) s m f k = links_calm q sq (Receiver_calls (Happening.Text_comes head n text)) s refl f k
+links_on q sq (Receiver_calls Happening.Text_goes_out) s m f k = links_calm q sq (Receiver_calls Happening.Text_goes_out) s refl f k
+links_on q sq (Receiver_calls (Happening.Is_answered how)) s m f k = links_calm q sq (Receiver_calls (Happening.Is_answered how)) s refl f k
+links_on q sq (Receiver_calls Happening.Is_cleared) s m f k = links_calm q sq (Receiver_calls Happening.Is_cleared) s refl f k
 
 -- a host that was cleared has no ends
 gone_hears : (s : Shared) → AllFit s → s.sends ≡ false → s.receives ≡ false → (p : Pair) (on : ℕ) → hears_at s on p ≡ true → ⊥
 gone_hears s f a b p on m =
     let u = hears_parts on p (or_new (s.sender p).end) m in
-    let fit : Nobody (at p s) = subst (λ (x : Bool). Fit p x false (at p s)) a (subst (λ (x : Bool). Fit p s.sends x (at p s)) b (f p u.0)) in
+    let fit : Nobody (connection_at p s) = subst (λ (x : Bool). Fit p x false (connection_at p s)) a (subst (λ (x : Bool). Fit p s.sends x (connection_at p s)) b (f p u.0)) in
     both_ways (or_new (s.sender p).end).heard (rw (fit.no_sender) refl) u.1
 
 gone_uses : (s : Shared) → AllFit s → s.sends ≡ false → s.receives ≡ false → (p : Pair) (on : ℕ) → uses_at s on p ≡ true → ⊥
 gone_uses s f a b p on m =
     let u = uses_parts on p (or_new (s.receiver p).end) m in
-    let fit : Nobody (at p s) = subst (λ (x : Bool). Fit p x false (at p s)) a (subst (λ (x : Bool). Fit p s.sends x (at p s)) b (f p u.0)) in
+    let fit : Nobody (connection_at p s) = subst (λ (x : Bool). Fit p x false (connection_at p s)) a (subst (λ (x : Bool). Fit p s.sends x (connection_at p s)) b (f p u.0)) in
     both_ways (or_new (s.receiver p).end).asked (rw (fit.no_receiver) refl) u.1
 
 pub links_keep : (e : Shared_event) (s : Shared) → MayHappen e s → AllFit s → LinkFits s → LinkFits (shared_occurs e s)
 links_keep (On q e) s m f k = go (sends q) refl
   where
-    go : (b : Bool) → sends q ≡ b → LinkFits (if b then put q (changes q (Occurs e) (bringing q [] [] s)) s else s)
+    go : (b : Bool) → sends q ≡ b → LinkFits (if b then put_hosted q (changes q (Occurs e) (bringing q [] [] s)) s else s)
     go true d = links_on q d e s m f k
     go false d = k
 links_keep (Next_to_senders n) s m f k = go (nat_lt n MAX_BY_PEER) refl

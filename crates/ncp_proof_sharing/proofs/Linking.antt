@@ -11,7 +11,7 @@ use Rattle.ncp_model.specs.End.{End, or_new}
 use Rattle.ncp_model.specs.Ends.{hears_link, uses_link}
 use Rattle.ncp_proof_connection.specs.Connections.{Connection}
 use Rattle.ncp_proof_connection.specs.Clearings.{Hosted}
-use Rattle.ncp_proof_sharing.specs.Sharing.{Tagged, Shared, only, tag, at, put, hears_at, uses_at}
+use Rattle.ncp_proof_sharing.specs.Sharing.{Tagged, Shared, only, tag, connection_at, put_hosted, hears_at, uses_at}
 use Rattle.ncp_proof_connection.proofs.Lines.{Comes, Passes, comes_asked}
 use Rattle.ncp_proof_connection.proofs.Joint.{to_sender_kind, kinds, Place, Together, Sender_ahead, Receiver_ahead, Joint, live_got}
 use Rattle.ncp_proof_connection.proofs.Senders.{kinds_none}
@@ -110,37 +110,37 @@ module _ (q : Pair) (h : Hosted) (s : Shared) (hh : ℕ → Bool) (ll : Bool) (b
       go false true e f m n = absurd (alone p on e n m)
       go false false e f m n = old p r on m n
 
-  at_other : (p : Pair) → same q p ≡ false → no_rts h.connection.to_sender ≡ true → s.sends ≡ true → (on : ℕ) → sends p ≡ true → ClearAt (put q h s) p on
+  at_other : (p : Pair) → same q p ≡ false → no_rts h.connection.to_sender ≡ true → s.sends ≡ true → (on : ℕ) → sends p ≡ true → ClearAt (put_hosted q h s) p on
   at_other p e n k on sp = rw e (clear_more p on s.to_senders (tag q h.connection.to_sender) (hears_at s on p) (or_new (s.sender p).end).left (asks_at s on p) (asks_at s on p)
       (λ h2 l2 w. clear_other q p on h.connection.to_sender h2 l2 (asks_at s on p) e n w) (b.others k p on e sp))
 
-  hears_put : (p : Pair) (on : ℕ) → hears_at (put q h s) on p ≡ cond (same q p) (hears_link on (q, or_new h.connection.sender.end)) (hears_at s on p)
+  hears_put : (p : Pair) (on : ℕ) → hears_at (put_hosted q h s) on p ≡ cond (same q p) (hears_link on (q, or_new h.connection.sender.end)) (hears_at s on p)
   hears_put p on = go (same q p) refl
     where
       go : (x : Bool) → same q p ≡ x → hears_link on (p, or_new (cond x h.connection.sender (s.sender p)).end) ≡ cond x (hears_link on (q, or_new h.connection.sender.end)) (hears_at s on p)
       go true e = ap (λ (r : Pair). hears_link on (r, or_new h.connection.sender.end)) (sym (same_true q p e))
       go false e = refl
 
-  uses_put : (p : Pair) (on : ℕ) → uses_at (put q h s) on p ≡ cond (same q p) (uses_link on (turned q, or_new h.connection.receiver.end)) (uses_at s on p)
+  uses_put : (p : Pair) (on : ℕ) → uses_at (put_hosted q h s) on p ≡ cond (same q p) (uses_link on (turned q, or_new h.connection.receiver.end)) (uses_at s on p)
   uses_put p on = go (same q p) refl
     where
       go : (x : Bool) → same q p ≡ x → uses_link on (turned p, or_new (cond x h.connection.receiver (s.receiver p)).end) ≡ cond x (uses_link on (turned q, or_new h.connection.receiver.end)) (uses_at s on p)
       go true e = ap (λ (r : Pair). uses_link on (turned r, or_new h.connection.receiver.end)) (sym (same_true q p e))
       go false e = refl
 
-  senders_after : s.sends ≡ true → (p r : Pair) (on : ℕ) → hears_at (put q h s) on p ≡ true → hears_at (put q h s) on r ≡ true → p ≡ r
+  senders_after : s.sends ≡ true → (p r : Pair) (on : ℕ) → hears_at (put_hosted q h s) on p ≡ true → hears_at (put_hosted q h s) on r ≡ true → p ≡ r
   senders_after k p r on m n =
       apart_from (λ on p. hears_at s on p) (λ on. hears_link on (q, or_new h.connection.sender.end)) (b.senders k) (d.alone k) p r on (sym (hears_put p on) ∙ m) (sym (hears_put r on) ∙ n)
 
   abbrev Own : ℕ → Bool → Type 0
   Own on a = Clear q on (s.to_senders ++ tag q h.connection.to_sender) (hears_link on (q, or_new h.connection.sender.end)) (or_new h.connection.sender.end).left a
 
-  at_own : (on : ℕ) → Own on (if s.receives then uses_link on (turned q, or_new h.connection.receiver.end) else true) → ClearAt (put q h s) q on
+  at_own : (on : ℕ) → Own on (if s.receives then uses_link on (turned q, or_new h.connection.receiver.end) else true) → ClearAt (put_hosted q h s) q on
   at_own on k = rw (same_refl q) k
 
   -- What is made is no RTS.
 
-  module _ (n : no_rts h.connection.to_sender ≡ true) (fit : FitAt (put q h s) q) (rc : s.receives ≡ true → ReceiverCalm (s.receiver q).end h.connection.receiver.end) where
+  module _ (n : no_rts h.connection.to_sender ≡ true) (fit : FitAt (put_hosted q h s) q) (rc : s.receives ≡ true → ReceiverCalm (s.receiver q).end h.connection.receiver.end) where
     loose : s.sends ≡ true → (on : ℕ) → Own on true
     loose k on = clear_mono q on (s.to_senders ++ tag q h.connection.to_sender) (hh on) (hears_link on (q, or_new h.connection.sender.end)) ll (or_new h.connection.sender.end).left true true
         (d.holds k on) (d.left k) (λ e. e)
@@ -157,9 +157,9 @@ module _ (q : Pair) (h : Hosted) (s : Shared) (hh : ℕ → Bool) (ll : Bool) (b
 
         gone : s.receives ≡ true → (or_new h.connection.receiver.end).asked ≡ false → Own on (uses_link on (turned q, or_new h.connection.receiver.end))
         gone r a =
-            let whole : Inv q (at q (put q h s)) = subst (λ (x : Bool). Fit q x true (at q (put q h s))) k (subst (λ (x : Bool). Fit q s.sends x (at q (put q h s))) r fit) in
-            let c : Clear q on (put q h s).to_senders (hears_link on (q, or_new ((put q h s).sender q).end)) (or_new ((put q h s).sender q).end).left false =
-            clear_gone q on (at q (put q h s)) (put q h s).to_senders refl whole (rw (same_refl q) a) (rw (same_refl q) (loose k on)) in
+            let whole : Inv q (connection_at q (put_hosted q h s)) = subst (λ (x : Bool). Fit q x true (connection_at q (put_hosted q h s))) k (subst (λ (x : Bool). Fit q s.sends x (connection_at q (put_hosted q h s))) r fit) in
+            let c : Clear q on (put_hosted q h s).to_senders (hears_link on (q, or_new ((put_hosted q h s).sender q).end)) (or_new ((put_hosted q h s).sender q).end).left false =
+            clear_gone q on (connection_at q (put_hosted q h s)) (put_hosted q h s).to_senders refl whole (rw (same_refl q) a) (rw (same_refl q) (loose k on)) in
             clear_mono q on (s.to_senders ++ tag q h.connection.to_sender) (hears_link on (q, or_new h.connection.sender.end)) (hears_link on (q, or_new h.connection.sender.end)) (or_new h.connection.sender.end).left (or_new h.connection.sender.end).left false (uses_link on (turned q, or_new h.connection.receiver.end))
             (λ e. e) (λ e. e) (λ e. absurd (both_ways false refl e)) (rw (same_refl q) at c)
 
@@ -171,15 +171,15 @@ module _ (q : Pair) (h : Hosted) (s : Shared) (hh : ℕ → Bool) (ll : Bool) (b
         go true r = by_asked (or_new h.connection.receiver.end).asked refl r
         go false r = loose k on
 
-    pub put_links : LinkFits (put q h s)
+    pub put_links : LinkFits (put_hosted q h s)
     put_links = record {
       clear = λ k p on sp. by_pair k p on sp (same q p) refl;
       senders = senders_after;
       receivers = λ k p r on m w. apart_from (λ on p. uses_at s on p) (λ on. uses_link on (turned q, or_new h.connection.receiver.end)) (b.receivers k) (alone k) p r on (sym (uses_put p on) ∙ m) (sym (uses_put r on) ∙ w);
     }
       where
-        by_pair : s.sends ≡ true → (p : Pair) (on : ℕ) → sends p ≡ true → (x : Bool) → same q p ≡ x → ClearAt (put q h s) p on
-        by_pair k p on sp true e = subst (λ (r : Pair). ClearAt (put q h s) r on) (same_true q p e) (at_own on (own_after k on))
+        by_pair : s.sends ≡ true → (p : Pair) (on : ℕ) → sends p ≡ true → (x : Bool) → same q p ≡ x → ClearAt (put_hosted q h s) p on
+        by_pair k p on sp true e = subst (λ (r : Pair). ClearAt (put_hosted q h s) r on) (same_true q p e) (at_own on (own_after k on))
         by_pair k p on sp false e = at_other p e n k on sp
 
         alone : s.receives ≡ true → (p : Pair) (on : ℕ) → same q p ≡ false → uses_link on (turned q, or_new h.connection.receiver.end) ≡ true → uses_at s on p ≡ true → ⊥
@@ -192,7 +192,7 @@ module _ (q : Pair) (h : Hosted) (s : Shared) (hh : ℕ → Bool) (ll : Bool) (b
 
   module _ (i j on0 : ℕ) (made : h.connection.to_sender ≡ Rts i j on0 ∷ []) (sq : sends q ≡ true) (asked : (or_new h.connection.receiver.end).asked ≡ true) (link : (or_new h.connection.receiver.end).link ≡ on0)
       (there : s.receives ≡ true) (free : (p : Pair) → uses_at s on0 p ≡ true → ⊥) where
-    pub put_asks : LinkFits (put q h s)
+    pub put_asks : LinkFits (put_hosted q h s)
     put_asks = record {
       clear = λ k p on sp. by_pair k p on sp (same q p) refl;
       senders = senders_after;
@@ -216,10 +216,10 @@ module _ (q : Pair) (h : Hosted) (s : Shared) (hh : ℕ → Bool) (ll : Bool) (b
         none_asks : (p : Pair) (on : ℕ) → on0 ≡ on → asks_at s on p ≡ true → ⊥
         none_asks p on e w = free p (subst (λ (x : ℕ). uses_at s x p ≡ true) (sym e) (subst (λ (x : Bool). (if x then uses_at s on p else true) ≡ true) there w))
 
-        other_after : s.sends ≡ true → (p : Pair) (on : ℕ) → same q p ≡ false → sends p ≡ true → ClearAt (put q h s) p on
+        other_after : s.sends ≡ true → (p : Pair) (on : ℕ) → same q p ≡ false → sends p ≡ true → ClearAt (put_hosted q h s) p on
         other_after k p on e sp = rw (e, made) (clear_more p on s.to_senders (tag q (Rts i j on0 ∷ [])) (hears_at s on p) (or_new (s.sender p).end).left (asks_at s on p) (asks_at s on p)
             (λ h2 l2 w. rw (e, sq) ((λ m. false_if h2 (λ x. none_asks p on m (w x))), w)) (b.others k p on e sp))
 
-        by_pair : s.sends ≡ true → (p : Pair) (on : ℕ) → sends p ≡ true → (x : Bool) → same q p ≡ x → ClearAt (put q h s) p on
-        by_pair k p on sp true e = subst (λ (r : Pair). ClearAt (put q h s) r on) (same_true q p e) (at_own on (own_after k on))
+        by_pair : s.sends ≡ true → (p : Pair) (on : ℕ) → sends p ≡ true → (x : Bool) → same q p ≡ x → ClearAt (put_hosted q h s) p on
+        by_pair k p on sp true e = subst (λ (r : Pair). ClearAt (put_hosted q h s) r on) (same_true q p e) (at_own on (own_after k on))
         by_pair k p on sp false e = other_after k p on e sp

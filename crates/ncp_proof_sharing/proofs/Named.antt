@@ -13,12 +13,11 @@ use Rattle.ncp_model.specs.End.{End}
 use Rattle.ncp_model.specs.Ends.{Ends, leads_to, names_sockets}
 use Rattle.ncp_model.specs.Texts.{Rfnm, Incomplete, Dead}
 use Rattle.ncp_model.specs.Happenings.{Happening, happens}
-use Rattle.ncp_model.specs.Happenings as all
 use Rattle.ncp_proof_watch.specs.Histories.{Watched}
-use Rattle.ncp_proof_connection.specs.Connections.{Text, No_text, Away, Here, Connection, sender_does, receiver_does, is_call, command_comes, Event, Sender_calls, Receiver_calls, Comes_to_sender, Comes_to_receiver, Text_goes_out, Text_comes, Text_is_answered, sender_hears, receiver_hears, comes_to_sender, comes_to_receiver, occurs}
+use Rattle.ncp_proof_connection.specs.Connections.{Text, No_text, Away, Here, Connection, sender_does, receiver_does, is_call, command_comes, ConnectionEvent, Sender_calls, Receiver_calls, Comes_to_sender, Comes_to_receiver, Text_goes_out, Text_comes, Text_is_answered, sender_hears, receiver_hears, comes_to_sender, comes_to_receiver, occurs}
 use Rattle.ncp_proof_connection.specs.Clearings.{Hosted, Occurs, changes, is_at_sender, misses, text_over, text_dropped}
 use Rattle.ncp_proof_sharing.specs.Finding.{SocketsFindSender, SocketsFindReceiver}
-use Rattle.ncp_proof_sharing.specs.Sharing.{Tagged, Shared, new_shared, tag, bringing, put, Shared_event, On, Next_to_senders, Next_to_receivers, Other_to_senders, Other_to_receivers, Senders_are_cleared, Receivers_are_cleared, All_start_anew, next_to_senders, next_to_receivers, shared_occurs, shared_from, shared}
+use Rattle.ncp_proof_sharing.specs.Sharing.{Tagged, Shared, new_shared, tag, bringing, put_hosted, Shared_event, On, Next_to_senders, Next_to_receivers, Other_to_senders, Other_to_receivers, Senders_are_cleared, Receivers_are_cleared, All_start_anew, next_to_senders, next_to_receivers, shared_occurs, shared_from, shared}
 
 -- this end's sockets, its own first, if any
 abbrev pub is_named : Pair → Command → Bool
@@ -32,45 +31,45 @@ all_named pair [] = true
 all_named pair (c ∷ cs) = is_named pair c && all_named pair cs
 
 names_made : (pair : Pair) (what : Happening) (before : Option End) → all_named pair (happens pair what before).made ≡ true
-names_made pair (all.Asks_to_send a b n full) None = grind arith
-names_made pair (all.Asks_to_send a b n full) (Some e) = grind arith
-names_made pair (all.Asks_to_receive a on n full) None = grind arith
-names_made pair (all.Asks_to_receive a on n full) (Some e) = grind arith
-names_made pair (all.Closes full) None = refl
-names_made pair (all.Closes full) (Some e) = grind arith
-names_made pair (all.Gives text) before = refl
-names_made pair (all.Takes n) None = refl
-names_made pair (all.Takes n) (Some e) = grind arith
-names_made pair (all.Allocates a b full) None = refl
-names_made pair (all.Allocates a b full) (Some e) = grind arith
-names_made pair (all.Calls_back a b full) None = refl
-names_made pair (all.Calls_back a b full) (Some e) = grind arith
-names_made pair (all.Interrupts full) None = refl
-names_made pair (all.Interrupts full) (Some e) = grind arith
-names_made pair (all.Rts_comes on taken n) None = grind arith
-names_made pair (all.Rts_comes on taken n) (Some e) = grind arith
-names_made pair (all.Str_comes a n) None = grind arith
-names_made pair (all.Str_comes a n) (Some e) = grind arith
-names_made pair all.Cls_comes None = grind arith
-names_made pair all.Cls_comes (Some e) = grind arith
-names_made pair (all.All_comes on a b) None = refl
-names_made pair (all.All_comes on a b) (Some e) = grind arith
-names_made pair (all.Gvb_comes on a b) None = refl
-names_made pair (all.Gvb_comes on a b) (Some e) = grind arith
-names_made pair (all.Ret_comes on a b) None = refl
-names_made pair (all.Ret_comes on a b) (Some e) = grind arith
-names_made pair (all.Inr_comes on) None = refl
-names_made pair (all.Inr_comes on) (Some e) = grind arith
-names_made pair (all.Ins_comes on) None = refl
-names_made pair (all.Ins_comes on) (Some e) = grind arith
-names_made pair (all.Text_comes head n text) None = refl
-names_made pair (all.Text_comes head n text) (Some e) = grind arith
-names_made pair all.Text_goes_out before = refl
-names_made pair (all.Is_answered Rfnm) None = refl
-names_made pair (all.Is_answered Rfnm) (Some e) = grind arith
-names_made pair (all.Is_answered Incomplete) before = refl
-names_made pair (all.Is_answered Dead) before = refl
-names_made pair all.Is_cleared before = refl
+names_made pair (Happening.Asks_to_send a b n full) None = grind arith
+names_made pair (Happening.Asks_to_send a b n full) (Some e) = grind arith
+names_made pair (Happening.Asks_to_receive a on n full) None = grind arith
+names_made pair (Happening.Asks_to_receive a on n full) (Some e) = grind arith
+names_made pair (Happening.Closes full) None = refl
+names_made pair (Happening.Closes full) (Some e) = grind arith
+names_made pair (Happening.Gives text) before = refl
+names_made pair (Happening.Takes n) None = refl
+names_made pair (Happening.Takes n) (Some e) = grind arith
+names_made pair (Happening.Allocates a b full) None = refl
+names_made pair (Happening.Allocates a b full) (Some e) = grind arith
+names_made pair (Happening.Calls_back a b full) None = refl
+names_made pair (Happening.Calls_back a b full) (Some e) = grind arith
+names_made pair (Happening.Interrupts full) None = refl
+names_made pair (Happening.Interrupts full) (Some e) = grind arith
+names_made pair (Happening.Rts_comes on taken n) None = grind arith
+names_made pair (Happening.Rts_comes on taken n) (Some e) = grind arith
+names_made pair (Happening.Str_comes a n) None = grind arith
+names_made pair (Happening.Str_comes a n) (Some e) = grind arith
+names_made pair Happening.Cls_comes None = grind arith
+names_made pair Happening.Cls_comes (Some e) = grind arith
+names_made pair (Happening.All_comes on a b) None = refl
+names_made pair (Happening.All_comes on a b) (Some e) = grind arith
+names_made pair (Happening.Gvb_comes on a b) None = refl
+names_made pair (Happening.Gvb_comes on a b) (Some e) = grind arith
+names_made pair (Happening.Ret_comes on a b) None = refl
+names_made pair (Happening.Ret_comes on a b) (Some e) = grind arith
+names_made pair (Happening.Inr_comes on) None = refl
+names_made pair (Happening.Inr_comes on) (Some e) = grind arith
+names_made pair (Happening.Ins_comes on) None = refl
+names_made pair (Happening.Ins_comes on) (Some e) = grind arith
+names_made pair (Happening.Text_comes head n text) None = refl
+names_made pair (Happening.Text_comes head n text) (Some e) = grind arith
+names_made pair Happening.Text_goes_out before = refl
+names_made pair (Happening.Is_answered Rfnm) None = refl
+names_made pair (Happening.Is_answered Rfnm) (Some e) = grind arith
+names_made pair (Happening.Is_answered Incomplete) before = refl
+names_made pair (Happening.Is_answered Dead) before = refl
+names_made pair Happening.Is_cleared before = refl
 
 -- what a connection makes with nothing underway
 record Names (q : Pair) (w : Connection) : Type 0 where
@@ -91,7 +90,7 @@ module _ (q : Pair) (s r : Watched) where
   either true x y k m = k
   either false x y k m = m
 
-  names : (e : Event) (a b : Bool) (t : Text) (v : Bool)
+  names : (e : ConnectionEvent) (a b : Bool) (t : Text) (v : Bool)
       → let w : Connection = record { sender = s; receiver = r; to_receiver = []; to_sender = []; text = t; violated = v } in
       Names q (if (if is_at_sender e then a else b) then occurs q e w else misses e w)
   names (Sender_calls what) false b t v = idle t v
@@ -103,20 +102,20 @@ module _ (q : Pair) (s r : Watched) where
   names (Comes_to_receiver m) a false t v = idle t v
   names (Comes_to_receiver m) a true t v = either (nat_lt m MAX_BY_PEER) _ _ (idle t v) (idle t v)
   names Text_goes_out false b t v = idle t v
-  names Text_goes_out true b t v = sender_names all.Text_goes_out t v
+  names Text_goes_out true b t v = sender_names Happening.Text_goes_out t v
   names (Text_comes head) a false t v = idle (text_dropped t) v
   names (Text_comes head) a true No_text v = idle No_text v
-  names (Text_comes head) a true (Away li m bits) v = receiver_names (all.Text_comes head m bits) (Here li) v
+  names (Text_comes head) a true (Away li m bits) v = receiver_names (Happening.Text_comes head m bits) (Here li) v
   names (Text_comes head) a true (Here li) v = idle (Here li) v
   names (Text_is_answered how) false b t v = idle (text_over how t) v
   names (Text_is_answered Rfnm) true b No_text v = idle No_text v
   names (Text_is_answered Rfnm) true b (Away li m bits) v = idle (Away li m bits) v
-  names (Text_is_answered Rfnm) true b (Here li) v = sender_names (all.Is_answered Rfnm) No_text v
+  names (Text_is_answered Rfnm) true b (Here li) v = sender_names (Happening.Is_answered Rfnm) No_text v
   names (Text_is_answered Incomplete) true b No_text v = idle No_text v
-  names (Text_is_answered Incomplete) true b (Away li m bits) v = sender_names (all.Is_answered Incomplete) (Away li m bits) v
+  names (Text_is_answered Incomplete) true b (Away li m bits) v = sender_names (Happening.Is_answered Incomplete) (Away li m bits) v
   names (Text_is_answered Incomplete) true b (Here li) v = idle (Here li) v
   names (Text_is_answered Dead) true b No_text v = idle No_text v
-  names (Text_is_answered Dead) true b (Away li m bits) v = sender_names (all.Is_answered Dead) (Away li m bits) v
+  names (Text_is_answered Dead) true b (Away li m bits) v = sender_names (Happening.Is_answered Dead) (Away li m bits) v
   names (Text_is_answered Dead) true b (Here li) v = idle (Here li) v
 
   by_happening : (o : Option Happening) (t : Text) (v : Bool) → Names q (sender_hears q o (record { sender = s; receiver = r; to_receiver = []; to_sender = []; text = t; violated = v }))
@@ -163,7 +162,7 @@ pub record AllNamed (s : Shared) : Type 0 where
   pub there : Named (λ p. p) s.to_receivers
   pub back : Named turned s.to_senders
 
-put_named : (q : Pair) (h : Hosted) (s : Shared) → Names q h.connection → AllNamed s → AllNamed (put q h s)
+put_named : (q : Pair) (h : Hosted) (s : Shared) → Names q h.connection → AllNamed s → AllNamed (put_hosted q h s)
 put_named q h s f k = record {
   there = named_more (λ p. p) s.to_receivers (tag q h.connection.to_receiver) k.there (named_tag (λ p. p) q h.connection.to_receiver f.there);
   back = named_more turned s.to_senders (tag q h.connection.to_sender) k.back (named_tag turned q h.connection.to_sender f.back);
@@ -179,7 +178,7 @@ to_senders_named n (c ∷ rest) s few k = go (sends c.pair)
     h : Hosted
     h = changes c.pair (Occurs (Comes_to_sender n)) (bringing c.pair [] (c.command ∷ []) (record s { to_senders = c ∷ rest }))
 
-    go : (b : Bool) → AllNamed (if b then put c.pair h (record s { to_senders = rest }) else record s { to_senders = rest })
+    go : (b : Bool) → AllNamed (if b then put_hosted c.pair h (record s { to_senders = rest }) else record s { to_senders = rest })
     go true = put_named c.pair h (record s { to_senders = rest }) (names_to_sender c.pair (s.sender c.pair) (s.receiver c.pair) n c.command s.sends (s.text c.pair) (s.violated c.pair) few) k1
     go false = k1
 
@@ -193,14 +192,14 @@ to_receivers_named n (c ∷ rest) s few k = go (sends c.pair)
     h : Hosted
     h = changes c.pair (Occurs (Comes_to_receiver n)) (bringing c.pair (c.command ∷ []) [] (record s { to_receivers = c ∷ rest }))
 
-    go : (b : Bool) → AllNamed (if b then put c.pair h (record s { to_receivers = rest }) else record s { to_receivers = rest })
+    go : (b : Bool) → AllNamed (if b then put_hosted c.pair h (record s { to_receivers = rest }) else record s { to_receivers = rest })
     go true = put_named c.pair h (record s { to_receivers = rest }) (names_to_receiver c.pair (s.sender c.pair) (s.receiver c.pair) n c.command s.receives (s.text c.pair) (s.violated c.pair) few) k1
     go false = k1
 
 names_keep : (e : Shared_event) (s : Shared) → AllNamed s → AllNamed (shared_occurs e s)
 names_keep (On q e) s k = go (sends q)
   where
-    go : (b : Bool) → AllNamed (if b then put q (changes q (Occurs e) (bringing q [] [] s)) s else s)
+    go : (b : Bool) → AllNamed (if b then put_hosted q (changes q (Occurs e) (bringing q [] [] s)) s else s)
     go true = put_named q (changes q (Occurs e) (bringing q [] [] s)) s (names q (s.sender q) (s.receiver q) e s.sends s.receives (s.text q) (s.violated q)) k
     go false = k
 names_keep (Next_to_senders n) s k = go (nat_lt n MAX_BY_PEER) refl

@@ -10,10 +10,9 @@ use Rattle.ncp_model.specs.declared.limits.TheConstants.{MAX_BY_PEER}
 use Rattle.ncp_model.specs.Pairs.{sends, turned, same}
 use Rattle.ncp_model.specs.Texts.{Answer, Rfnm, Incomplete, Dead}
 use Rattle.ncp_model.specs.Happenings.{Happening, happens}
-use Rattle.ncp_model.specs.Happenings as all
-use Rattle.ncp_proof_connection.specs.Connections.{Text, No_text, Away, Here, Connection, sender_does, receiver_does, is_call, command_comes, Event, Sender_calls, Receiver_calls, Comes_to_sender, Comes_to_receiver, Text_goes_out, Text_comes, Text_is_answered, sender_hears, receiver_hears, comes_to_sender, comes_to_receiver, text_comes, text_is_answered, occurs}
+use Rattle.ncp_proof_connection.specs.Connections.{Text, No_text, Away, Here, Connection, sender_does, receiver_does, is_call, command_comes, ConnectionEvent, Sender_calls, Receiver_calls, Comes_to_sender, Comes_to_receiver, Text_goes_out, Text_comes, Text_is_answered, sender_hears, receiver_hears, comes_to_sender, comes_to_receiver, text_comes, text_is_answered, occurs}
 use Rattle.ncp_proof_connection.specs.Clearings.{Hosted, Occurs, changes, is_at_sender, misses, text_over, text_dropped}
-use Rattle.ncp_proof_sharing.specs.Sharing.{Tagged, Shared, new_shared, only, tag, at, bringing, put, Shared_event, On, Next_to_senders, Next_to_receivers, Other_to_senders, Other_to_receivers, Senders_are_cleared, Receivers_are_cleared, All_start_anew, next_to_senders, next_to_receivers, shared_occurs, shared_from, shared, MayHappen, AllMayHappen}
+use Rattle.ncp_proof_sharing.specs.Sharing.{Tagged, Shared, new_shared, only, tag, connection_at, bringing, put_hosted, Shared_event, On, Next_to_senders, Next_to_receivers, Other_to_senders, Other_to_receivers, Senders_are_cleared, Receivers_are_cleared, All_start_anew, next_to_senders, next_to_receivers, shared_occurs, shared_from, shared, MayHappen, AllMayHappen}
 use Rattle.ncp_proof_connection.proofs.Whole.{sender_calls_keep, receiver_calls_keep, keeps, ever}
 use Rattle.ncp_proof_connection.proofs.Outliving.{Fit, fit_clear_sender, fit_clear_receiver, fit_fresh, fit_sends, fit_comes_to_sender, fit_text_is_answered, fit_receives, fit_comes_to_receiver, fit_text_comes, missed_by_sender, missed_by_receiver, answer_missed, text_missed}
 
@@ -73,7 +72,7 @@ module _ (pair : Pair) (sd : sends pair ≡ true) (p q : List Command) where
   back : (a b : Bool) (w : Connection) (x : List Command) → Fit pair a b (with p (q ++ x) w) → Fit pair a b (with (p ++ []) (q ++ x) w)
   back a b w x k = subst (λ (y : List Command). Fit pair a b (with y (q ++ x) w)) (sym (append-nil p)) k
 
-  pub framed : (e : Event) (a b : Bool) (w : Connection) → Fit pair a b (with p q w) → Fit pair a b (onto p q (if (if is_at_sender e then a else b) then occurs pair e (with [] [] w) else misses e (with [] [] w)))
+  pub framed : (e : ConnectionEvent) (a b : Bool) (w : Connection) → Fit pair a b (with p q w) → Fit pair a b (onto p q (if (if is_at_sender e then a else b) then occurs pair e (with [] [] w) else misses e (with [] [] w)))
   framed (Sender_calls what) false b w k = none false b w k
   framed (Sender_calls what) true b w k = go (is_call what) refl
     where
@@ -99,13 +98,13 @@ module _ (pair : Pair) (sd : sends pair ≡ true) (p q : List Command) where
       go true = none a true w k
       go false = none a true w k
   framed Text_goes_out false b w k = none false b w k
-  framed Text_goes_out true b w k = there true b (sender_does pair all.Text_goes_out w) [] (fit_sends pair sd all.Text_goes_out b (with p q w) (λ u m. keeps pair sd Text_goes_out u m) k)
+  framed Text_goes_out true b w k = there true b (sender_does pair Happening.Text_goes_out w) [] (fit_sends pair sd Happening.Text_goes_out b (with p q w) (λ u m. keeps pair sd Text_goes_out u m) k)
   framed (Text_comes head) a false w k = none a false (record w { text = text_dropped w.text }) (text_missed pair sd head a w.text (with p q w) k)
   framed (Text_comes head) a true w k = go w.text k
     where
       go : (t : Text) → Fit pair a true (with p q (record w { text = t })) → Fit pair a true (onto p q (text_comes pair head t (with [] [] (record w { text = t }))))
       go No_text k = none a true (record w { text = No_text }) k
-      go (Away li n bits) k = back a true (receiver_does pair (all.Text_comes head n bits) (record w { text = Here li })) (happens (turned pair) (all.Text_comes head n bits) w.receiver.end).made (fit_text_comes pair sd head a (Away li n bits) (with p q w) k)
+      go (Away li n bits) k = back a true (receiver_does pair (Happening.Text_comes head n bits) (record w { text = Here li })) (happens (turned pair) (Happening.Text_comes head n bits) w.receiver.end).made (fit_text_comes pair sd head a (Away li n bits) (with p q w) k)
       go (Here li) k = none a true (record w { text = Here li }) k
   framed (Text_is_answered how) false b w k = none false b (record w { text = text_over how w.text }) (answer_missed pair sd how b w.text (with p q w) k)
   framed (Text_is_answered how) true b w k = go how w.text k
@@ -113,12 +112,12 @@ module _ (pair : Pair) (sd : sends pair ≡ true) (p q : List Command) where
       go : (how : Answer) (t : Text) → Fit pair true b (with p q (record w { text = t })) → Fit pair true b (onto p q (text_is_answered pair how t (with [] [] (record w { text = t }))))
       go Rfnm No_text k = none true b (record w { text = No_text }) k
       go Rfnm (Away li n bits) k = none true b (record w { text = Away li n bits }) k
-      go Rfnm (Here li) k = there true b (sender_does pair (all.Is_answered Rfnm) (record w { text = No_text })) (happens pair (all.Is_answered Rfnm) w.sender.end).made (fit_text_is_answered pair sd Rfnm b (Here li) (with p q w) k)
+      go Rfnm (Here li) k = there true b (sender_does pair (Happening.Is_answered Rfnm) (record w { text = No_text })) (happens pair (Happening.Is_answered Rfnm) w.sender.end).made (fit_text_is_answered pair sd Rfnm b (Here li) (with p q w) k)
       go Incomplete No_text k = none true b (record w { text = No_text }) k
-      go Incomplete (Away li n bits) k = there true b (sender_does pair (all.Is_answered Incomplete) (record w { text = Away li n bits })) [] (fit_text_is_answered pair sd Incomplete b (Away li n bits) (with p q w) k)
+      go Incomplete (Away li n bits) k = there true b (sender_does pair (Happening.Is_answered Incomplete) (record w { text = Away li n bits })) [] (fit_text_is_answered pair sd Incomplete b (Away li n bits) (with p q w) k)
       go Incomplete (Here li) k = none true b (record w { text = Here li }) k
       go Dead No_text k = none true b (record w { text = No_text }) k
-      go Dead (Away li n bits) k = there true b (sender_does pair (all.Is_answered Dead) (record w { text = Away li n bits })) [] (fit_text_is_answered pair sd Dead b (Away li n bits) (with p q w) k)
+      go Dead (Away li n bits) k = there true b (sender_does pair (Happening.Is_answered Dead) (record w { text = Away li n bits })) [] (fit_text_is_answered pair sd Dead b (Away li n bits) (with p q w) k)
       go Dead (Here li) k = none true b (record w { text = Here li }) k
 
   pub framed_to_sender : (n : ℕ) (c : Command) (a b : Bool) (w : Connection) → nat_lt n MAX_BY_PEER ≡ true → Fit pair a b (with p (c ∷ q) w) → Fit pair a b (onto p q (if a then (if nat_lt n MAX_BY_PEER then comes_to_sender pair n (c ∷ []) (with [] (c ∷ []) w) else with [] (c ∷ []) w) else with [] [] w))
@@ -140,19 +139,19 @@ module _ (pair : Pair) (sd : sends pair ≡ true) (p q : List Command) where
 -- Every connection.
 
 abbrev pub FitAt : Shared → Pair → Type 0
-FitAt s p = Fit p s.sends s.receives (at p s)
+FitAt s p = Fit p s.sends s.receives (connection_at p s)
 
-pub put_own : (q : Pair) (h : Hosted) (s : Shared) → Fit q s.sends s.receives (onto (only q s.to_receivers) (only q s.to_senders) h.connection) → FitAt (put q h s) q
+pub put_own : (q : Pair) (h : Hosted) (s : Shared) → Fit q s.sends s.receives (onto (only q s.to_receivers) (only q s.to_senders) h.connection) → FitAt (put_hosted q h s) q
 put_own q h s k = rw (same_refl q, only_more q s.to_receivers (tag q h.connection.to_receiver), only_more q s.to_senders (tag q h.connection.to_sender), only_own q h.connection.to_receiver, only_own q h.connection.to_sender) k
 
-pub put_other : (q p : Pair) (h : Hosted) (s : Shared) → same q p ≡ false → FitAt s p → FitAt (put q h s) p
+pub put_other : (q p : Pair) (h : Hosted) (s : Shared) → same q p ≡ false → FitAt s p → FitAt (put_hosted q h s) p
 put_other q p h s e k = rw (e, only_more p s.to_receivers (tag q h.connection.to_receiver), only_more p s.to_senders (tag q h.connection.to_sender), only_other q p e h.connection.to_receiver, only_other q p e h.connection.to_sender, append-nil (only p s.to_receivers), append-nil (only p s.to_senders)) k
 
-pub put_keeps : (q : Pair) (h : Hosted) (s : Shared) → Fit q s.sends s.receives (onto (only q s.to_receivers) (only q s.to_senders) h.connection) → ((p : Pair) → same q p ≡ false → sends p ≡ true → FitAt s p) → (p : Pair) → sends p ≡ true → FitAt (put q h s) p
+pub put_keeps : (q : Pair) (h : Hosted) (s : Shared) → Fit q s.sends s.receives (onto (only q s.to_receivers) (only q s.to_senders) h.connection) → ((p : Pair) → same q p ≡ false → sends p ≡ true → FitAt s p) → (p : Pair) → sends p ≡ true → FitAt (put_hosted q h s) p
 put_keeps q h s own others p sp = go (same q p) refl
   where
-    go : (b : Bool) → same q p ≡ b → FitAt (put q h s) p
-    go true e = subst (λ (r : Pair). FitAt (put q h s) r) (same_true q p e) (put_own q h s own)
+    go : (b : Bool) → same q p ≡ b → FitAt (put_hosted q h s) p
+    go true e = subst (λ (r : Pair). FitAt (put_hosted q h s) r) (same_true q p e) (put_own q h s own)
     go false e = put_other q p h s e (others p e sp)
 
 abbrev pub AllFit : Shared → Type 0
@@ -165,9 +164,9 @@ to_senders_keep n (c ∷ rest) s few k = go (sends c.pair) refl
     h : Hosted
     h = changes c.pair (Occurs (Comes_to_sender n)) (bringing c.pair [] (c.command ∷ []) (record s { to_senders = c ∷ rest }))
 
-    go : (b : Bool) → sends c.pair ≡ b → AllFit (if b then put c.pair h (record s { to_senders = rest }) else record s { to_senders = rest })
+    go : (b : Bool) → sends c.pair ≡ b → AllFit (if b then put_hosted c.pair h (record s { to_senders = rest }) else record s { to_senders = rest })
     go true e = put_keeps c.pair h (record s { to_senders = rest })
-        (framed_to_sender c.pair e (only c.pair s.to_receivers) (only c.pair rest) n c.command s.sends s.receives (at c.pair s) few (rw (same_refl c.pair) at (k c.pair e)))
+        (framed_to_sender c.pair e (only c.pair s.to_receivers) (only c.pair rest) n c.command s.sends s.receives (connection_at c.pair s) few (rw (same_refl c.pair) at (k c.pair e)))
         (λ p d sp. rw d at (k p sp))
     go false e = λ p sp. rw (apart c.pair p sp e) at (k p sp)
 
@@ -178,9 +177,9 @@ to_receivers_keep n (c ∷ rest) s few k = go (sends c.pair) refl
     h : Hosted
     h = changes c.pair (Occurs (Comes_to_receiver n)) (bringing c.pair (c.command ∷ []) [] (record s { to_receivers = c ∷ rest }))
 
-    go : (b : Bool) → sends c.pair ≡ b → AllFit (if b then put c.pair h (record s { to_receivers = rest }) else record s { to_receivers = rest })
+    go : (b : Bool) → sends c.pair ≡ b → AllFit (if b then put_hosted c.pair h (record s { to_receivers = rest }) else record s { to_receivers = rest })
     go true e = put_keeps c.pair h (record s { to_receivers = rest })
-        (framed_to_receiver c.pair e (only c.pair rest) (only c.pair s.to_senders) n c.command s.sends s.receives (at c.pair s) few (rw (same_refl c.pair) at (k c.pair e)))
+        (framed_to_receiver c.pair e (only c.pair rest) (only c.pair s.to_senders) n c.command s.sends s.receives (connection_at c.pair s) few (rw (same_refl c.pair) at (k c.pair e)))
         (λ p d sp. rw d at (k p sp))
     go false e = λ p sp. rw (apart c.pair p sp e) at (k p sp)
 
@@ -201,8 +200,8 @@ fits_keep (On q e) s m k = go (sends q) refl
     h : Hosted
     h = changes q (Occurs e) (bringing q [] [] s)
 
-    go : (b : Bool) → sends q ≡ b → AllFit (if b then put q h s else s)
-    go true d = put_keeps q h s (framed q d (only q s.to_receivers) (only q s.to_senders) e s.sends s.receives (at q s) (k q d)) (λ p _ sp. k p sp)
+    go : (b : Bool) → sends q ≡ b → AllFit (if b then put_hosted q h s else s)
+    go true d = put_keeps q h s (framed q d (only q s.to_receivers) (only q s.to_senders) e s.sends s.receives (connection_at q s) (k q d)) (λ p _ sp. k p sp)
     go false d = k
 fits_keep (Next_to_senders n) s m k = go (nat_lt n MAX_BY_PEER) refl
   where
@@ -224,11 +223,11 @@ fits_keep (Other_to_receivers c) s m k = go (sends c.pair) refl
     go : (b : Bool) → sends c.pair ≡ b → AllFit (if b then s else record s { to_receivers = s.to_receivers ++ c ∷ [] })
     go true d = k
     go false d = λ p sp. rw (only_more p s.to_receivers (c ∷ []), apart c.pair p sp d, append-nil (only p s.to_receivers)) (k p sp)
-fits_keep (Senders_are_cleared n) s m k = λ p sp. unmarked p false s.receives (at p (shared_occurs (Senders_are_cleared n) s))
-    (fit_clear_sender p s.sends s.receives (at p s) (only p (take n s.to_receivers)) (only p (drop n s.to_receivers)) (only_cut p n s.to_receivers) (k p sp))
-fits_keep (Receivers_are_cleared n) s m k = λ p sp. unmarked p s.sends false (at p (shared_occurs (Receivers_are_cleared n) s))
-    (fit_clear_receiver p s.sends s.receives (at p s) (only p (take n s.to_senders)) (only p (drop n s.to_senders)) (only_cut p n s.to_senders) (k p sp))
-fits_keep All_start_anew s m k = λ p sp. fit_fresh p sp (at p s) (m.2 p) (subst (λ (b : Bool). Fit p b false (at p s)) m.0 (subst (λ (b : Bool). Fit p s.sends b (at p s)) m.1 (k p sp)))
+fits_keep (Senders_are_cleared n) s m k = λ p sp. unmarked p false s.receives (connection_at p (shared_occurs (Senders_are_cleared n) s))
+    (fit_clear_sender p s.sends s.receives (connection_at p s) (only p (take n s.to_receivers)) (only p (drop n s.to_receivers)) (only_cut p n s.to_receivers) (k p sp))
+fits_keep (Receivers_are_cleared n) s m k = λ p sp. unmarked p s.sends false (connection_at p (shared_occurs (Receivers_are_cleared n) s))
+    (fit_clear_receiver p s.sends s.receives (connection_at p s) (only p (take n s.to_senders)) (only p (drop n s.to_senders)) (only_cut p n s.to_senders) (k p sp))
+fits_keep All_start_anew s m k = λ p sp. fit_fresh p sp (connection_at p s) (m.2 p) (subst (λ (b : Bool). Fit p b false (connection_at p s)) m.0 (subst (λ (b : Bool). Fit p s.sends b (connection_at p s)) m.1 (k p sp)))
 
 pub new_fits : AllFit new_shared
 new_fits p sp = ever p sp []

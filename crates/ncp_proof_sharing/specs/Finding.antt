@@ -61,13 +61,13 @@ abbrev pub ReceiverOpensOn : ℕ → Pair → Shared → Shared → Type 0
 ReceiverOpensOn on p s t = (opens (s.receiver p).end (t.receiver p).end ≡ true) × (uses_at t on p ≡ true)
 
 -- a text of this connection is out on this link at both moments
-abbrev pub StaysOut : ℕ → Pair → Shared → Shared → Type 0
-StaysOut on q s t = (sends q ≡ true) × (link_out (s.text q) ≡ Some on) × (link_out (t.text q) ≡ Some on)
+abbrev pub StaysOutFor : ℕ → Pair → Shared → Shared → Type 0
+StaysOutFor on q s t = (sends q ≡ true) × (link_out (s.text q) ≡ Some on) × (link_out (t.text q) ≡ Some on)
 
 -- while a text stays out on a link no connection opens on it, at a host that is there at both moments
 
 abbrev pub NoSenderOpens : Shared → Shared → Type 0
-NoSenderOpens s t = (p q : Pair) (on : ℕ) → StaysOut on q s t → s.sends ≡ true → t.sends ≡ true → SenderOpensOn on p s t → ⊥
+NoSenderOpens s t = (p q : Pair) (on : ℕ) → StaysOutFor on q s t → s.sends ≡ true → t.sends ≡ true → SenderOpensOn on p s t → ⊥
 
 abbrev pub NoReceiverOpens : Shared → Shared → Type 0
-NoReceiverOpens s t = (p q : Pair) (on : ℕ) → StaysOut on q s t → s.receives ≡ true → t.receives ≡ true → ReceiverOpensOn on p s t → ⊥
+NoReceiverOpens s t = (p q : Pair) (on : ℕ) → StaysOutFor on q s t → s.receives ≡ true → t.receives ≡ true → ReceiverOpensOn on p s t → ⊥

@@ -1,10 +1,10 @@
 //! Many connections over the same two lists of commands.
 ghost use Rattle.std.specs.Prelude.{◌≡◌, List, true, false};
 ghost use Rattle.ncp_model.specs.Pairs.{sends};
-ghost use Rattle.ncp_proof_connection.specs.Ledger.{BothOpen, MessagesAgree, BitsAgree, Parted, Held, Begins, TakenBegins};
+ghost use Rattle.ncp_proof_connection.specs.Ledger.{BothOpenOnConnection, MessagesAgreeOnConnection, BitsAgreeOnConnection, PartedOnConnection, Held, BeginsOnConnection, TakenBeginsOnConnection};
 ghost use Rattle.ncp_proof_connection.specs.Clearings.{OutStaysOpened};
 ghost use Rattle.ncp_proof_sharing.specs.Finding.{SocketsFindSender, SocketsFindReceiver, GrantFinds, ReturnFinds, RequestFits, SenderHoldsLink, ReceiverHoldsLink, NoSenderOpens, NoReceiverOpens};
-ghost use Rattle.ncp_proof_sharing.specs.Sharing.{Shared_event, MayHappen, AllMayHappen, new_shared, shared, shared_occurs, at, hosted_at, hears_at, uses_at};
+ghost use Rattle.ncp_proof_sharing.specs.Sharing.{Shared_event, MayHappen, AllMayHappen, new_shared, shared, shared_occurs, connection_at, hosted_at, hears_at, uses_at};
 ghost use Rattle.ncp_proof_sharing.specs.Runs.{second, two_open};
 ghost use Rattle.ncp_model.specs.Rows.{outward};
 
@@ -14,12 +14,12 @@ use ncp_model::Pair;
 /// two lists underway with those of the connections the other way.
 pub fn each_loses_and_makes_nothing()
     ensures safe { (events : List Shared_event) (p : Pair) → AllMayHappen events new_shared → sends p ≡ true → (shared events).violated p ≡ false }
-    ensures messages { (events : List Shared_event) (p : Pair) → AllMayHappen events new_shared → sends p ≡ true → BothOpen (at p (shared events)) → MessagesAgree (at p (shared events)) }
-    ensures bits { (events : List Shared_event) (p : Pair) → AllMayHappen events new_shared → sends p ≡ true → BothOpen (at p (shared events)) → BitsAgree (at p (shared events)) }
-    ensures parted { (events : List Shared_event) (p : Pair) → AllMayHappen events new_shared → sends p ≡ true → BothOpen (at p (shared events)) → Parted (at p (shared events)) }
-    ensures held { (events : List Shared_event) (p : Pair) → AllMayHappen events new_shared → sends p ≡ true → Held (at p (shared events)) }
-    ensures beginning { (events : List Shared_event) (p : Pair) → AllMayHappen events new_shared → sends p ≡ true → Begins (at p (shared events)) }
-    ensures taken { (events : List Shared_event) (p : Pair) → AllMayHappen events new_shared → sends p ≡ true → TakenBegins (at p (shared events)) }
+    ensures messages { (events : List Shared_event) (p : Pair) → AllMayHappen events new_shared → sends p ≡ true → BothOpenOnConnection (connection_at p (shared events)) → MessagesAgreeOnConnection (connection_at p (shared events)) }
+    ensures bits { (events : List Shared_event) (p : Pair) → AllMayHappen events new_shared → sends p ≡ true → BothOpenOnConnection (connection_at p (shared events)) → BitsAgreeOnConnection (connection_at p (shared events)) }
+    ensures parted { (events : List Shared_event) (p : Pair) → AllMayHappen events new_shared → sends p ≡ true → BothOpenOnConnection (connection_at p (shared events)) → PartedOnConnection (connection_at p (shared events)) }
+    ensures held { (events : List Shared_event) (p : Pair) → AllMayHappen events new_shared → sends p ≡ true → Held (connection_at p (shared events)) }
+    ensures beginning { (events : List Shared_event) (p : Pair) → AllMayHappen events new_shared → sends p ≡ true → BeginsOnConnection (connection_at p (shared events)) }
+    ensures taken { (events : List Shared_event) (p : Pair) → AllMayHappen events new_shared → sends p ≡ true → TakenBeginsOnConnection (connection_at p (shared events)) }
     ensures opened { (events : List Shared_event) (p : Pair) → AllMayHappen events new_shared → sends p ≡ true → OutStaysOpened (hosted_at p (shared events)) }
 {}
 
@@ -52,6 +52,6 @@ pub fn none_opens_on_a_busy_link()
 /// Two connections share the lists, each with its link.
 pub fn two_connections_share_the_lists()
     ensures may { AllMayHappen two_open new_shared }
-    ensures open { BothOpen (at outward (shared two_open)) × BothOpen (at second (shared two_open)) }
+    ensures open { BothOpenOnConnection (connection_at outward (shared two_open)) × BothOpenOnConnection (connection_at second (shared two_open)) }
     ensures links { (hears_at (shared two_open) 2 outward ≡ true) × (uses_at (shared two_open) 2 outward ≡ true) × (hears_at (shared two_open) 3 second ≡ true) × (uses_at (shared two_open) 3 second ≡ true) }
 {}

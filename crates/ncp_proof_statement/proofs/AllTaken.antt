@@ -7,64 +7,62 @@ use Rattle.ncp_model.specs.declared.pair.Pair.{Pair}
 use Rattle.ncp_model.specs.Pairs.{sends, receives}
 use Rattle.ncp_model.specs.End.{End}
 use Rattle.ncp_model.specs.Happenings.{Happening, Outcome, happens}
-use Rattle.ncp_model.specs.Happenings as all
 use Rattle.ncp_model.specs.Leading.{suits}
-use Rattle.ncp_proof_watch.specs.Histories.{Past, no_past, adds, opens, is_accepted, taken_out}
+use Rattle.ncp_proof_watch.specs.Histories.{Past, no_past, adds, opens, is_outcome_accepted, taken_out}
 use Rattle.ncp_proof_watch.specs.Sound.{SoundAt}
 use Rattle.ncp_proof_watch.proofs.SoundEnds.{one_way}
 use Rattle.ncp_host.specs.PeerState.{new_state}
 use Rattle.ncp_transcript.specs.declared.note.HostNote.{HostNote}
-use Rattle.ncp_proof_runs.specs.Histories.{past_then, past_of}
+use Rattle.ncp_proof_runs.specs.Histories.{past_then, past_so_far}
 use Rattle.ncp_proof_runs.specs.Peers.{notes_for}
 use Rattle.ncp_proof_statement.specs.Since.{use_then, did_run, tallied, Takings, no_takings, takings_with, takings_then, TakenSince}
 use Rattle.ncp_proof_statement.proofs.Taking.{taken-kept}
 use Rattle.ncp_proof_statement.proofs.Receiving.{as-then, no-sender}
-use Rattle.ncp_proof_statement.proofs.Tallies.{Ties}
-use Rattle.ncp_proof_statement.proofs.Tallies as tallies
+use Rattle.ncp_proof_statement.proofs.Tallies.{Ties, new-kept, run-kept}
 
 ruleset on_all = (append-nil, append_assoc)
 
 -- at a receiver
 same-kept : (pair : Pair) (what : Happening) (before : Option End) (past : Past) (t : Takings) → sends pair ≡ false → suits pair what ≡ true → SoundAt pair before → TakenSince before past t → t.taken ≡ past.taken
     → (takings_then what (happens pair what before).outcome t).taken ≡ (adds what (happens pair what before).outcome (if opens before (happens pair what before).after then no_past else past)).taken
-same-kept pair (all.Asks_to_send of_size with_room own full) None past t n l s k e = grind (arith, on_all)
-same-kept pair (all.Asks_to_send of_size with_room own full) (Some x) past t n l s k e = grind (arith, on_all)
-same-kept pair (all.Asks_to_receive with_room on own full) None past t n l s k e = grind (arith, on_all)
-same-kept pair (all.Asks_to_receive with_room on own full) (Some x) past t n l s k e = grind (arith, on_all)
-same-kept pair (all.Closes full) None past t n l s k e = grind (arith, on_all)
-same-kept pair (all.Closes full) (Some x) past t n l s k e = grind (arith, on_all)
-same-kept pair (all.Gives text) None past t n l s k e = grind (arith, on_all)
-same-kept pair (all.Gives text) (Some x) past t n l s k e = grind (arith, on_all)
-same-kept pair (all.Takes bytes) None past t n l s k e = grind (arith, on_all)
-same-kept pair (all.Takes bytes) (Some x) past t n l s k e = grind (arith, on_all)
-same-kept pair (all.Allocates m b full) None past t n l s k e = grind (arith, on_all)
-same-kept pair (all.Allocates m b full) (Some x) past t n l s k e = grind (arith, on_all)
-same-kept pair (all.Calls_back m b full) None past t n l s k e = grind (arith, on_all)
-same-kept pair (all.Calls_back m b full) (Some x) past t n l s k e = grind (arith, on_all)
-same-kept pair (all.Interrupts full) None past t n l s k e = grind (arith, on_all)
-same-kept pair (all.Interrupts full) (Some x) past t n l s k e = grind (arith, on_all)
-same-kept pair (all.Rts_comes on taken by_peer) None past t n l s k e = grind (arith, on_all)
-same-kept pair (all.Rts_comes on taken by_peer) (Some x) past t n l s k e = grind (arith, on_all)
-same-kept pair (all.Str_comes of_size by_peer) None past t n l s k e = grind (arith, on_all)
-same-kept pair (all.Str_comes of_size by_peer) (Some x) past t n l s k e = grind (arith, on_all)
-same-kept pair all.Cls_comes None past t n l s k e = grind (arith, on_all)
-same-kept pair all.Cls_comes (Some x) past t n l s k e = grind (arith, on_all)
-same-kept pair (all.Ret_comes on m b) None past t n l s k e = grind (arith, on_all)
-same-kept pair (all.Ret_comes on m b) (Some x) past t n l s k e = grind (arith, on_all)
-same-kept pair (all.Ins_comes on) None past t n l s k e = grind (arith, on_all)
-same-kept pair (all.Ins_comes on) (Some x) past t n l s k e = grind (arith, on_all)
-same-kept pair (all.Text_comes head of_size text) None past t n l s k e = grind (arith, on_all)
-same-kept pair (all.Text_comes head of_size text) (Some x) past t n l s k e = grind (arith, on_all)
-same-kept pair all.Is_cleared None past t n l s k e = grind (arith, on_all)
-same-kept pair all.Is_cleared (Some x) past t n l s k e = grind (arith, on_all)
-same-kept pair (all.All_comes on m b) before past t n l s k e = absurd (cc (n, l))
-same-kept pair (all.Gvb_comes on m b) before past t n l s k e = absurd (cc (n, l))
-same-kept pair (all.Inr_comes on) before past t n l s k e = absurd (cc (n, l))
-same-kept pair all.Text_goes_out before past t n l s k e = absurd (cc (n, l))
-same-kept pair (all.Is_answered how) before past t n l s k e = absurd (cc (n, l))
+same-kept pair (Happening.Asks_to_send of_size with_room own full) None past t n l s k e = grind (arith, on_all)
+same-kept pair (Happening.Asks_to_send of_size with_room own full) (Some x) past t n l s k e = grind (arith, on_all)
+same-kept pair (Happening.Asks_to_receive with_room on own full) None past t n l s k e = grind (arith, on_all)
+same-kept pair (Happening.Asks_to_receive with_room on own full) (Some x) past t n l s k e = grind (arith, on_all)
+same-kept pair (Happening.Closes full) None past t n l s k e = grind (arith, on_all)
+same-kept pair (Happening.Closes full) (Some x) past t n l s k e = grind (arith, on_all)
+same-kept pair (Happening.Gives text) None past t n l s k e = grind (arith, on_all)
+same-kept pair (Happening.Gives text) (Some x) past t n l s k e = grind (arith, on_all)
+same-kept pair (Happening.Takes bytes) None past t n l s k e = grind (arith, on_all)
+same-kept pair (Happening.Takes bytes) (Some x) past t n l s k e = grind (arith, on_all)
+same-kept pair (Happening.Allocates m b full) None past t n l s k e = grind (arith, on_all)
+same-kept pair (Happening.Allocates m b full) (Some x) past t n l s k e = grind (arith, on_all)
+same-kept pair (Happening.Calls_back m b full) None past t n l s k e = grind (arith, on_all)
+same-kept pair (Happening.Calls_back m b full) (Some x) past t n l s k e = grind (arith, on_all)
+same-kept pair (Happening.Interrupts full) None past t n l s k e = grind (arith, on_all)
+same-kept pair (Happening.Interrupts full) (Some x) past t n l s k e = grind (arith, on_all)
+same-kept pair (Happening.Rts_comes on taken by_peer) None past t n l s k e = grind (arith, on_all)
+same-kept pair (Happening.Rts_comes on taken by_peer) (Some x) past t n l s k e = grind (arith, on_all)
+same-kept pair (Happening.Str_comes of_size by_peer) None past t n l s k e = grind (arith, on_all)
+same-kept pair (Happening.Str_comes of_size by_peer) (Some x) past t n l s k e = grind (arith, on_all)
+same-kept pair Happening.Cls_comes None past t n l s k e = grind (arith, on_all)
+same-kept pair Happening.Cls_comes (Some x) past t n l s k e = grind (arith, on_all)
+same-kept pair (Happening.Ret_comes on m b) None past t n l s k e = grind (arith, on_all)
+same-kept pair (Happening.Ret_comes on m b) (Some x) past t n l s k e = grind (arith, on_all)
+same-kept pair (Happening.Ins_comes on) None past t n l s k e = grind (arith, on_all)
+same-kept pair (Happening.Ins_comes on) (Some x) past t n l s k e = grind (arith, on_all)
+same-kept pair (Happening.Text_comes head of_size text) None past t n l s k e = grind (arith, on_all)
+same-kept pair (Happening.Text_comes head of_size text) (Some x) past t n l s k e = grind (arith, on_all)
+same-kept pair Happening.Is_cleared None past t n l s k e = grind (arith, on_all)
+same-kept pair Happening.Is_cleared (Some x) past t n l s k e = grind (arith, on_all)
+same-kept pair (Happening.All_comes on m b) before past t n l s k e = absurd (cc (n, l))
+same-kept pair (Happening.Gvb_comes on m b) before past t n l s k e = absurd (cc (n, l))
+same-kept pair (Happening.Inr_comes on) before past t n l s k e = absurd (cc (n, l))
+same-kept pair Happening.Text_goes_out before past t n l s k e = absurd (cc (n, l))
+same-kept pair (Happening.Is_answered how) before past t n l s k e = absurd (cc (n, l))
 
 -- at no receiver `take` answers nothing
-nothing-out : (pair : Pair) (bytes : ℕ) (before : Option End) → receives pair ≡ false → taken_out (happens pair (all.Takes bytes) before).outcome ≡ []
+nothing-out : (pair : Pair) (bytes : ℕ) (before : Option End) → receives pair ≡ false → taken_out (happens pair (Happening.Takes bytes) before).outcome ≡ []
 nothing-out pair bytes None r = refl
 nothing-out pair bytes (Some e) r = grind arith
 
@@ -73,9 +71,9 @@ asked-none true x k = refl
 asked-none false x k = k
 
 none-then : (pair : Pair) (what : Happening) (before : Option End) (x : Takings) → receives pair ≡ false → x.taken ≡ [] → (takings_then what (happens pair what before).outcome x).taken ≡ []
-none-then pair (all.Asks_to_send of_size with_room own full) before x r k = asked-none (is_accepted (happens pair (all.Asks_to_send of_size with_room own full) before).outcome) x k
-none-then pair (all.Asks_to_receive with_room on own full) before x r k = asked-none (is_accepted (happens pair (all.Asks_to_receive with_room on own full) before).outcome) x k
-none-then pair (all.Takes bytes) before x r k = ap (λ (t : List Bool). t ++ taken_out (happens pair (all.Takes bytes) before).outcome) k ∙ nothing-out pair bytes before r
+none-then pair (Happening.Asks_to_send of_size with_room own full) before x r k = asked-none (is_outcome_accepted (happens pair (Happening.Asks_to_send of_size with_room own full) before).outcome) x k
+none-then pair (Happening.Asks_to_receive with_room on own full) before x r k = asked-none (is_outcome_accepted (happens pair (Happening.Asks_to_receive with_room on own full) before).outcome) x k
+none-then pair (Happening.Takes bytes) before x r k = ap (λ (t : List Bool). t ++ taken_out (happens pair (Happening.Takes bytes) before).outcome) k ∙ nothing-out pair bytes before r
 none-then pair what before x r k = k
 
 abbrev pub IsAll : Pair → Option End → Past → Takings → Type 0
@@ -98,7 +96,7 @@ all-ties = record {
   frees = λ pair o past x h s k. (k.0, λ r. absurd (no-sender pair h r));
 }
 
-pub all-kept : (pair : Pair) (all_notes : List HostNote) → IsAll pair (get (notes_for all_notes new_state).peer.ends pair) (past_of pair all_notes) (tallied takings_with no_takings (did_run pair all_notes new_state))
+pub all-kept : (pair : Pair) (all_notes : List HostNote) → IsAll pair (get (notes_for all_notes new_state).peer.ends pair) (past_so_far pair all_notes) (tallied takings_with no_takings (did_run pair all_notes new_state))
 all-kept pair all_notes =
-    (tallies.run-kept Takings takings_with IsAll all-ties pair all_notes new_state no_past no_takings
-    (tallies.new-kept Takings takings_with IsAll all-ties pair no_takings (λ r. refl, λ r. (refl, tt)))).1
+    (run-kept Takings takings_with IsAll all-ties pair all_notes new_state no_past no_takings
+    (new-kept Takings takings_with IsAll all-ties pair no_takings (λ r. refl, λ r. (refl, tt)))).1

@@ -1,48 +1,44 @@
 -- What the notes of a transcript say of the messages on one link is what the notes of the rules say.
 use Rattle.std.proofs.Common.{◌≡◌, ℕ, Bool, true, false, List, [], ◌∷◌, ◌++◌, Option, None, Some, refl, sym, ap, ◌∙◌, subst}
-use Rattle.ncp_proof_resets.specs.Resets as rules
+use Rattle.ncp_proof_resets.specs.Resets.{Party}
 use Rattle.ncp_transcript.specs.declared.note.HostNote.{HostNote}
-use Rattle.ncp_transcript.specs.declared.note.HostNote.TheVariants as of_host
-use Rattle.ncp_transcript_two.specs.World.{Asked}
+use Rattle.ncp_transcript_two.specs.World.{Asked, WorldNote}
 use Rattle.std.proofs.lemmas.List.{append_assoc}
 use Rattle.ncp_terms.specs.declared.answer.Answer.{Answer}
 use Rattle.ncp_host.specs.declared.received.Received.{Received}
-use Rattle.ncp_transcript_two.specs.Between.{Hosts, other, number_of}
+use Rattle.ncp_transcript_two.specs.Between.{Hosts, other, side_number}
 use Rattle.ncp_transcript_two.specs.Transcript.{IsTranscript}
 use Rattle.ncp_transcript_two.specs.Naming.{IsAnswerAbout}
 use Rattle.ncp_transcript_two.proofs.Naming.{answered-named}
 use Rattle.ncp_transcript_two.specs.Subnet.{from_host}
-use Rattle.ncp_transcript_two.specs.World as worlds
-use Rattle.ncp_transcript_two.specs.Honest.{Deed, Sent, Comes, Taken, Refused, Other, Place, Clear, Flying, Landed, HonestFrom, sent_from, coming}
-use Rattle.ncp_transcript_two.specs.Honest as honest
+use Rattle.ncp_transcript_two.specs.Honest.{MessageDeed, Sent, Comes, Taken, Refused, Other, InFlight, Clear, Flying, Landed, HonestFrom, sent_from, messages_coming, came, deed_told, deeds_told, sent}
 use Rattle.ncp_transcript_two.specs.declared.side.Side.{Side}
 use Rattle.ncp_transcript_two.specs.declared.side.Side.TheVariants.{A, B}
 use Rattle.ncp_transcript_two.specs.declared.note.Note.{Note}
-use Rattle.ncp_transcript_two.specs.declared.note.Note.TheVariants as notes
 use Rattle.ncp_transcript_two.specs.Seen.{as_rules, asked_by, done, told_of, side_of, notes_of, told}
-use Rattle.ncp_statement.specs.Statement.{deed_of, deeds}
+use Rattle.ncp_statement.specs.Statement.{deed_noted, deeds_noted}
 
-abbrev strip : List Deed → List Deed
+abbrev strip : List MessageDeed → List MessageDeed
 strip [] = []
 strip (Other ∷ ds) = strip ds
 strip (d ∷ ds) = d ∷ strip ds
 
-strip-append : (xs ys : List Deed) → strip (xs ++ ys) ≡ strip xs ++ strip ys
+strip-append : (xs ys : List MessageDeed) → strip (xs ++ ys) ≡ strip xs ++ strip ys
 strip-append [] ys = refl
-strip-append (Sent m ∷ xs) ys = ap (λ (ds : List Deed). Sent m ∷ ds) (strip-append xs ys)
-strip-append (Comes m ∷ xs) ys = ap (λ (ds : List Deed). Comes m ∷ ds) (strip-append xs ys)
-strip-append (Taken ∷ xs) ys = ap (λ (ds : List Deed). Taken ∷ ds) (strip-append xs ys)
-strip-append (Refused ∷ xs) ys = ap (λ (ds : List Deed). Refused ∷ ds) (strip-append xs ys)
+strip-append (Sent m ∷ xs) ys = ap (λ (ds : List MessageDeed). Sent m ∷ ds) (strip-append xs ys)
+strip-append (Comes m ∷ xs) ys = ap (λ (ds : List MessageDeed). Comes m ∷ ds) (strip-append xs ys)
+strip-append (Taken ∷ xs) ys = ap (λ (ds : List MessageDeed). Taken ∷ ds) (strip-append xs ys)
+strip-append (Refused ∷ xs) ys = ap (λ (ds : List MessageDeed). Refused ∷ ds) (strip-append xs ys)
 strip-append (Other ∷ xs) ys = strip-append xs ys
 
-deeds-append : (side : rules.Side) (on : ℕ) (xs ys : List worlds.Note) → honest.deeds side on (xs ++ ys) ≡ honest.deeds side on xs ++ honest.deeds side on ys
+deeds-append : (side : Party) (on : ℕ) (xs ys : List WorldNote) → deeds_told side on (xs ++ ys) ≡ deeds_told side on xs ++ deeds_told side on ys
 deeds-append side on [] ys = refl
-deeds-append side on (x ∷ xs) ys = ap (λ (ds : List Deed). honest.deed_of side on x ∷ ds) (deeds-append side on xs ys)
+deeds-append side on (x ∷ xs) ys = ap (λ (ds : List MessageDeed). deed_told side on x ∷ ds) (deeds-append side on xs ys)
 
 abbrev Same : Side → ℕ → Note → Type 0
-Same side on note = strip (deed_of side on note ∷ []) ≡ strip (honest.deeds (as_rules side) on (notes_of (as_rules (side_of note)) (told_of note)))
+Same side on note = strip (deed_noted side on note ∷ []) ≡ strip (deeds_told (as_rules side) on (notes_of (as_rules (side_of note)) (told_of note)))
 
-call-same : (side by : Side) (on : ℕ) (o : Option Asked) → [] ≡ strip (honest.deeds (as_rules side) on (notes_of (as_rules by) (done o)))
+call-same : (side by : Side) (on : ℕ) (o : Option Asked) → [] ≡ strip (deeds_told (as_rules side) on (notes_of (as_rules by) (done o)))
 call-same side by on None = refl
 call-same A A on (Some asked) = refl
 call-same A B on (Some asked) = refl
@@ -50,65 +46,65 @@ call-same B A on (Some asked) = refl
 call-same B B on (Some asked) = refl
 
 abbrev Linked : Note → Type 0
-Linked (notes.Answered by link hn) = (n : ℕ) × IsAnswerAbout n link hn
+Linked (Note.Answered by link hn) = (n : ℕ) × IsAnswerAbout n link hn
 Linked note = Unit {0}
 
 linked : (before rest : List Note) (note : Note) (w : Hosts) → IsTranscript (before ++ note ∷ rest) w → Linked note
-linked before rest (notes.Answered by link hn) w t = (number_of (other by) w, answered-named before rest w by link hn t)
+linked before rest (Note.Answered by link hn) w t = (side_number (other by) w, answered-named before rest w by link hn t)
 linked before rest note w t = tt
 
-answer-same : (side by : Side) (on link n : ℕ) (how : Answer) (r : Received) → Same side on (notes.Answered by link (of_host.Answered n link how r))
+answer-same : (side by : Side) (on link n : ℕ) (how : Answer) (r : Received) → Same side on (Note.Answered by link (HostNote.Answered n link how r))
 answer-same A A on link n how r = refl
 answer-same A B on link n how r = refl
 answer-same B A on link n how r = refl
 answer-same B B on link n how r = refl
 
 same : (side by : Side) (on : ℕ) (note : Note) → Linked note → Same side on note
-same side by on (notes.Answered at link hn) (n, (how, r, is)) = subst (λ (h : HostNote). Same side on (notes.Answered at link h)) (sym is) (answer-same side at on link n how r)
-same side by on (notes.Called at (of_host.Done call)) e = call-same side at on (asked_by call)
-same A by on (notes.Called A hn) e = refl
-same A by on (notes.Called B hn) e = refl
-same B by on (notes.Called A hn) e = refl
-same B by on (notes.Called B hn) e = refl
-same A by on (notes.Out A (of_host.Out m)) e = refl
-same A by on (notes.Out A hn) e = refl
-same A by on (notes.Out B (of_host.Out m)) e = refl
-same A by on (notes.Out B hn) e = refl
-same B by on (notes.Out A (of_host.Out m)) e = refl
-same B by on (notes.Out A hn) e = refl
-same B by on (notes.Out B (of_host.Out m)) e = refl
-same B by on (notes.Out B hn) e = refl
-same A by on (notes.Came A link (of_host.In m r)) e = refl
-same A by on (notes.Came A link hn) e = refl
-same A by on (notes.Came B link (of_host.In m r)) e = refl
-same A by on (notes.Came B link hn) e = refl
-same B by on (notes.Came A link (of_host.In m r)) e = refl
-same B by on (notes.Came A link hn) e = refl
-same B by on (notes.Came B link (of_host.In m r)) e = refl
-same B by on (notes.Came B link hn) e = refl
-same A by on (notes.Lost A link) e = refl
-same A by on (notes.Lost B link) e = refl
-same B by on (notes.Lost A link) e = refl
-same B by on (notes.Lost B link) e = refl
-same A by on (notes.FoundDead A link) e = refl
-same A by on (notes.FoundDead B link) e = refl
-same B by on (notes.FoundDead A link) e = refl
-same B by on (notes.FoundDead B link) e = refl
-same A by on (notes.Nothing A link k) e = refl
-same A by on (notes.Nothing B link k) e = refl
-same B by on (notes.Nothing A link k) e = refl
-same B by on (notes.Nothing B link k) e = refl
+same side by on (Note.Answered at link hn) (n, (how, r, is)) = subst (λ (h : HostNote). Same side on (Note.Answered at link h)) (sym is) (answer-same side at on link n how r)
+same side by on (Note.Called at (HostNote.Done call)) e = call-same side at on (asked_by call)
+same A by on (Note.Called A hn) e = refl
+same A by on (Note.Called B hn) e = refl
+same B by on (Note.Called A hn) e = refl
+same B by on (Note.Called B hn) e = refl
+same A by on (Note.Out A (HostNote.Out m)) e = refl
+same A by on (Note.Out A hn) e = refl
+same A by on (Note.Out B (HostNote.Out m)) e = refl
+same A by on (Note.Out B hn) e = refl
+same B by on (Note.Out A (HostNote.Out m)) e = refl
+same B by on (Note.Out A hn) e = refl
+same B by on (Note.Out B (HostNote.Out m)) e = refl
+same B by on (Note.Out B hn) e = refl
+same A by on (Note.Came A link (HostNote.In m r)) e = refl
+same A by on (Note.Came A link hn) e = refl
+same A by on (Note.Came B link (HostNote.In m r)) e = refl
+same A by on (Note.Came B link hn) e = refl
+same B by on (Note.Came A link (HostNote.In m r)) e = refl
+same B by on (Note.Came A link hn) e = refl
+same B by on (Note.Came B link (HostNote.In m r)) e = refl
+same B by on (Note.Came B link hn) e = refl
+same A by on (Note.Lost A link) e = refl
+same A by on (Note.Lost B link) e = refl
+same B by on (Note.Lost A link) e = refl
+same B by on (Note.Lost B link) e = refl
+same A by on (Note.FoundDead A link) e = refl
+same A by on (Note.FoundDead B link) e = refl
+same B by on (Note.FoundDead A link) e = refl
+same B by on (Note.FoundDead B link) e = refl
+same A by on (Note.Nothing A link k) e = refl
+same A by on (Note.Nothing B link k) e = refl
+same B by on (Note.Nothing A link k) e = refl
+same B by on (Note.Nothing B link k) e = refl
 
-pub all-same : (side : Side) (on : ℕ) (before ns : List Note) (w : Hosts) → IsTranscript (before ++ ns) w → strip (deeds side on ns) ≡ strip (honest.deeds (as_rules side) on (told ns))
+pub all-same : (side : Side) (on : ℕ) (before ns : List Note) (w : Hosts) → IsTranscript (before ++ ns) w → strip (deeds_noted side on ns) ≡ strip (deeds_told (as_rules side) on (told ns))
 all-same side on before [] w t = refl
 all-same side on before (note ∷ ns) w t =
-    strip-append (deed_of side on note ∷ []) (deeds side on ns)
-    ∙ ap (λ (ds : List Deed). ds ++ strip (deeds side on ns)) (same side (side_of note) on note (linked before ns note w t))
-    ∙ ap (λ (ds : List Deed). strip (honest.deeds (as_rules side) on (notes_of (as_rules (side_of note)) (told_of note))) ++ ds) (all-same side on (before ++ note ∷ []) ns w (subst (λ (xs : List Note). IsTranscript xs w) (sym (append_assoc before (note ∷ []) ns)) t))
-    ∙ sym (strip-append (honest.deeds (as_rules side) on (notes_of (as_rules (side_of note)) (told_of note))) (honest.deeds (as_rules side) on (told ns)))
+    strip-append (deed_noted side on note ∷ []) (deeds_noted side on ns)
+    ∙ ap (λ (ds : List MessageDeed). ds ++ strip (deeds_noted side on ns)) (same side (side_of note) on note (linked before ns note w t))
+    ∙ ap (λ (ds : List MessageDeed). strip (deeds_told (as_rules side) on (notes_of (as_rules (side_of note)) (told_of note))) ++ ds) (all-same side on (before ++ note ∷ []) ns w (subst (λ (xs : List Note). IsTranscript xs w) (sym (append_assoc before (note ∷ []) ns)) t))
+    ∙ sym (strip-append (deeds_told (as_rules side) on (notes_of (as_rules (side_of note)) (told_of note))) (deeds_told (as_rules side) on (told ns)))
     ∙ ap strip (sym (deeds-append (as_rules side) on (notes_of (as_rules (side_of note)) (told_of note)) (told ns)))
 
-coming-strip : (ds : List Deed) → coming ds ≡ coming (strip ds)
+coming-strip : (ds : List MessageDeed) → messages_coming ds ≡ messages_coming (strip ds)
 coming-strip [] = refl
 coming-strip (Sent m ∷ ds) = coming-strip ds
 coming-strip (Comes m ∷ ds) = ap (λ (ms : List (List Bool)). m ∷ ms) (coming-strip ds)
@@ -116,7 +112,7 @@ coming-strip (Taken ∷ ds) = coming-strip ds
 coming-strip (Refused ∷ ds) = coming-strip ds
 coming-strip (Other ∷ ds) = coming-strip ds
 
-sent-strip : (n : ℕ) (fresh : Bool) (ds : List Deed) → sent_from n fresh ds ≡ sent_from n fresh (strip ds)
+sent-strip : (n : ℕ) (fresh : Bool) (ds : List MessageDeed) → sent_from n fresh ds ≡ sent_from n fresh (strip ds)
 sent-strip n fresh [] = refl
 sent-strip n true (Sent m ∷ ds) = ap (λ (ms : List (List Bool)). from_host n m ∷ ms) (sent-strip n true ds)
 sent-strip n false (Sent m ∷ ds) = sent-strip n false ds
@@ -125,15 +121,15 @@ sent-strip n fresh (Taken ∷ ds) = sent-strip n true ds
 sent-strip n fresh (Refused ∷ ds) = sent-strip n false ds
 sent-strip n fresh (Other ∷ ds) = sent-strip n fresh ds
 
-pub coming-same : (side : Side) (on : ℕ) (ns : List Note) (w : Hosts) → IsTranscript ns w → coming (deeds side on ns) ≡ honest.came (as_rules side) on (told ns)
-coming-same side on ns w t = coming-strip (deeds side on ns) ∙ ap coming (all-same side on [] ns w t) ∙ sym (coming-strip (honest.deeds (as_rules side) on (told ns)))
+pub coming-same : (side : Side) (on : ℕ) (ns : List Note) (w : Hosts) → IsTranscript ns w → messages_coming (deeds_noted side on ns) ≡ came (as_rules side) on (told ns)
+coming-same side on ns w t = coming-strip (deeds_noted side on ns) ∙ ap messages_coming (all-same side on [] ns w t) ∙ sym (coming-strip (deeds_told (as_rules side) on (told ns)))
 
-pub sent-same : (n : ℕ) (side : Side) (on : ℕ) (ns : List Note) (w : Hosts) → IsTranscript ns w → sent_from n true (deeds side on ns) ≡ honest.sent n (as_rules side) on (told ns)
-sent-same n side on ns w t = sent-strip n true (deeds side on ns) ∙ ap (sent_from n true) (all-same side on [] ns w t) ∙ sym (sent-strip n true (honest.deeds (as_rules side) on (told ns)))
+pub sent-same : (n : ℕ) (side : Side) (on : ℕ) (ns : List Note) (w : Hosts) → IsTranscript ns w → sent_from n true (deeds_noted side on ns) ≡ sent n (as_rules side) on (told ns)
+sent-same n side on ns w t = sent-strip n true (deeds_noted side on ns) ∙ ap (sent_from n true) (all-same side on [] ns w t) ∙ sym (sent-strip n true (deeds_told (as_rules side) on (told ns)))
 
 -- an honest subnet, with and without what is none of the link
 
-without : (n : ℕ) (p : Place) (ds : List Deed) → HonestFrom n p ds → HonestFrom n p (strip ds)
+without : (n : ℕ) (p : InFlight) (ds : List MessageDeed) → HonestFrom n p ds → HonestFrom n p (strip ds)
 without n p [] h = h
 without n Clear (Sent m ∷ ds) h = without n (Flying m) ds h
 without n Clear (Comes m ∷ ds) h = absurd h
@@ -151,7 +147,7 @@ without n Landed (Taken ∷ ds) h = without n Clear ds h
 without n Landed (Refused ∷ ds) h = absurd h
 without n Landed (Other ∷ ds) h = without n Landed ds h
 
-back : (n : ℕ) (p : Place) (ds : List Deed) → HonestFrom n p (strip ds) → HonestFrom n p ds
+back : (n : ℕ) (p : InFlight) (ds : List MessageDeed) → HonestFrom n p (strip ds) → HonestFrom n p ds
 back n p [] h = h
 back n Clear (Sent m ∷ ds) h = back n (Flying m) ds h
 back n Clear (Comes m ∷ ds) h = absurd h
@@ -169,5 +165,5 @@ back n Landed (Taken ∷ ds) h = back n Clear ds h
 back n Landed (Refused ∷ ds) h = absurd h
 back n Landed (Other ∷ ds) h = back n Landed ds h
 
-pub honest-same : (n : ℕ) (side : Side) (on : ℕ) (ns : List Note) (w : Hosts) → IsTranscript ns w → HonestFrom n Clear (honest.deeds (as_rules side) on (told ns)) → HonestFrom n Clear (deeds side on ns)
-honest-same n side on ns w t h = back n Clear (deeds side on ns) (subst (HonestFrom n Clear) (sym (all-same side on [] ns w t)) (without n Clear (honest.deeds (as_rules side) on (told ns)) h))
+pub honest-same : (n : ℕ) (side : Side) (on : ℕ) (ns : List Note) (w : Hosts) → IsTranscript ns w → HonestFrom n Clear (deeds_told (as_rules side) on (told ns)) → HonestFrom n Clear (deeds_noted side on ns)
+honest-same n side on ns w t h = back n Clear (deeds_noted side on ns) (subst (HonestFrom n Clear) (sym (all-same side on [] ns w t)) (without n Clear (deeds_told (as_rules side) on (told ns)) h))

@@ -3,7 +3,7 @@ use Rattle.std.proofs.Common.{◌≡◌, Bool, true, false, if◌then◌else◌,
 use Rattle.ncp_model.specs.declared.pair.Pair.{Pair}
 use Rattle.ncp_model.specs.Pairs.{sends, receives, turned}
 use Rattle.ncp_proof_watch.specs.Histories.{Past, IsBeginning}
-use Rattle.ncp_proof_machine.specs.Hosts.{past_of as past_here}
+use Rattle.ncp_proof_machine.specs.Hosts.{past_of}
 use Rattle.ncp_transcript_two.specs.declared.side.Side.{Side}
 use Rattle.ncp_transcript_two.specs.declared.note.Note.{Note}
 use Rattle.ncp_transcript_two.specs.Between.{Hosts, other}
@@ -26,14 +26,14 @@ goes-on t rest past_given g true begins said = (g, ap (λ (x : List Bool). x ++ 
 goes-on t rest past_given g false begins said = (rest, sym said ∙ sym begins)
 
 module _ (ns : List Note) (w : Hosts) (t : IsTranscript ns w) where
-  taken-is-all : (side : Side) (q : Pair) → receives q ≡ true → taken side q ns ≡ (past_here (mine side (histories_of ns w)) q).taken
+  taken-is-all : (side : Side) (q : Pair) → receives q ≡ true → taken side q ns ≡ (past_of (mine side (histories_of ns w)) q).taken
   taken-is-all side q r = taken-told ns w t side q ∙ ((all-kept q (Own ns w t side)).1 r).0 ∙ sym (ap (λ (x : Past). x.taken) (agree ns w t side q))
 
   taken-is-none : (side : Side) (q : Pair) → receives q ≡ false → taken side q ns ≡ []
   taken-is-none side q r = taken-told ns w t side q ∙ (all-kept q (Own ns w t side)).0 r
 
   -- where the histories say so
-  pub at-each-moment : (side : Side) (pair : Pair) → (sends pair ≡ true → IsBeginning (past_here (mine (other side) (histories_of ns w)) (turned pair)).taken (past_here (mine side (histories_of ns w)) pair).given)
+  pub at-each-moment : (side : Side) (pair : Pair) → (sends pair ≡ true → IsBeginning (past_of (mine (other side) (histories_of ns w)) (turned pair)).taken (past_of (mine side (histories_of ns w)) pair).given)
       → (rest : List Bool) × (given side pair ns ≡ taken (other side) (turned pair) ns ++ rest)
   at-each-moment side pair begins = go (sends pair) refl
     where

@@ -6,14 +6,13 @@ use Rattle.ncp_model.specs.declared.pair.Pair.{Pair}
 use Rattle.ncp_model.specs.Pairs.{sends, receives, turned}
 use Rattle.ncp_model.specs.End.{End, is_live, or_new}
 use Rattle.ncp_proof_watch.specs.Histories.{Past, IsBeginning}
-use Rattle.ncp_proof_machine.specs.Hosts.{past_of as past_here}
+use Rattle.ncp_proof_machine.specs.Hosts.{past_of}
 use Rattle.ncp_host.specs.PeerState.{PeerState, new_state}
 use Rattle.ncp_host.specs.Host.{Host, numbers_of, state_of}
 use Rattle.ncp_transcript.specs.declared.note.HostNote.{HostNote}
-use Rattle.ncp_transcript.specs.declared.note.HostNote.TheVariants as of_host
-use Rattle.ncp_transcript.specs.Runs as runs
-use Rattle.ncp_proof_runs.specs.Peers.{notes_of}
-use Rattle.ncp_proof_runs.specs.Histories.{past_of}
+use Rattle.ncp_transcript.specs.Runs.{IsHostSaid}
+use Rattle.ncp_proof_runs.specs.Peers.{notes_of_peer}
+use Rattle.ncp_proof_runs.specs.Histories.{past_so_far}
 use Rattle.ncp_proof_runs.proofs.Begun.{is_run, is_kept}
 use Rattle.ncp_proof_runs.proofs.InRuns.{kept_as_noted}
 use Rattle.ncp_transcript_two.specs.Watch.{Both}
@@ -22,8 +21,7 @@ use Rattle.ncp_transcript_two.specs.Sides.{notes_at}
 use Rattle.ncp_transcript_two.specs.declared.side.Side.{Side}
 use Rattle.ncp_transcript_two.specs.declared.side.Side.TheVariants.{A, B}
 use Rattle.ncp_transcript_two.specs.declared.note.Note.{Note}
-use Rattle.ncp_transcript_two.specs.declared.note.Note.TheVariants as notes
-use Rattle.ncp_transcript_two.specs.Between.{Hosts, other, number_of, host_of, after_notes}
+use Rattle.ncp_transcript_two.specs.Between.{Hosts, other, side_number, host_of, hosts_after_notes}
 use Rattle.ncp_transcript_two.specs.Transcript.{began, IsTranscript}
 use Rattle.ncp_transcript_two.specs.OfRules.{histories_of}
 use Rattle.ncp_transcript_two.proofs.OnePeer.{only-peer}
@@ -37,9 +35,8 @@ use Rattle.ncp_proof_promises.proofs.Beginnings.{begins}
 use Rattle.ncp_statement.specs.Statement.{Use, taken, given, allowed, WithinAllowance}
 use Rattle.ncp_proof_statement.specs.Since.{uses_by, did_run, tallied, Takings, no_takings, takings_with, TakenSince, no_givings, givings_with}
 use Rattle.ncp_proof_statement.proofs.Noted.{took-known, noted-from}
-use Rattle.ncp_proof_statement.proofs.Receiving as receiving
-use Rattle.ncp_proof_statement.proofs.Receiving.{Held, held-at, taken-tallied, allowed-tallied}
-use Rattle.ncp_proof_statement.proofs.Sending as sending
+use Rattle.ncp_proof_statement.proofs.Receiving.{Held, held-at, taken-tallied, allowed-tallied, run-kept}
+use Rattle.ncp_proof_statement.proofs.Sending
 use Rattle.ncp_proof_statement.proofs.Sending.{given-tallied}
 use Rattle.ncp_proof_statement.proofs.Walking.{mine, ours, only-one}
 use Rattle.ncp_proof_statement.proofs.Walk.{here, there}
@@ -55,18 +52,18 @@ live-taken : (q : Pair) (s noted : PeerState) (past : Past) (x : Takings) → no
 live-taken q s noted past x is live k = of-live (get noted.peer.ends q) past x (ap (λ (y : PeerState). is_live (get y.peer.ends q)) is ∙ live) k
 
 module _ (ns : List Note) (w : Hosts) (t : IsTranscript ns w) where
-  pub agree : (side : Side) (pair : Pair) → past_here (mine side (histories_of ns w)) pair ≡ past_of pair (notes_of (number_of (other side) w) (notes_at side ns))
+  pub agree : (side : Side) (pair : Pair) → past_of (mine side (histories_of ns w)) pair ≡ past_so_far pair (notes_of_peer (side_number (other side) w) (notes_at side ns))
   agree A pair = here ns w t pair
   agree B pair = there ns w t pair
 
   -- the notes of the host of a side for the other, and the uses that they tell
   abbrev pub Own : Side → List HostNote
-  Own side = notes_of (number_of (other side) w) (notes_at side ns)
+  Own side = notes_of_peer (side_number (other side) w) (notes_at side ns)
 
   told-uses : (side : Side) (q : Pair) → uses_by q (Own side) ≡ did_run q (Own side) new_state
   told-uses side q =
       let h : Host = host_of side w in
-      noted-from h.me (numbers_of h.peers) (number_of (other side) w) q [] (notes_at side ns) (is_run (notes_at side ns) h (by_itself ns w side t))
+      noted-from h.me (numbers_of h.peers) (side_number (other side) w) q [] (notes_at side ns) (is_run (notes_at side ns) h (by_itself ns w side t))
 
   pub taken-told : (side : Side) (q : Pair) → taken side q ns ≡ (tallied takings_with no_takings (did_run q (Own side) new_state)).taken
   taken-told side q = taken-by q side ns w t ∙ taken-tallied (uses_by q (Own side)) no_takings ∙ ap (λ (us : List Use). (tallied takings_with no_takings us).taken) (told-uses side q)
@@ -77,21 +74,21 @@ module _ (ns : List Note) (w : Hosts) (t : IsTranscript ns w) where
   given-told : (side : Side) (q : Pair) → given side q ns ≡ (tallied givings_with no_givings (did_run q (Own side) new_state)).given
   given-told side q = given-by q side ns w t ∙ given-tallied (uses_by q (Own side)) true [] ∙ ap (λ (us : List Use). (tallied givings_with no_givings us).given) (told-uses side q)
 
-  pub taken-is : (side : Side) (q : Pair) → receives q ≡ true → is_live (get (ours side w).peer.ends q) ≡ true → taken side q ns ≡ (past_here (mine side (histories_of ns w)) q).taken
+  pub taken-is : (side : Side) (q : Pair) → receives q ≡ true → is_live (get (ours side w).peer.ends q) ≡ true → taken side q ns ≡ (past_of (mine side (histories_of ns w)) q).taken
   taken-is side q r live =
-      let n : ℕ = number_of (other side) w in
+      let n : ℕ = side_number (other side) w in
       let h : Host = host_of side w in
       let all : List HostNote = notes_at side ns in
       let alone = by_itself ns w side t in
       let noted = kept_as_noted h.me (numbers_of h.peers) all n (ours side w) (is_run all h alone) (is_kept all h n (Some (ours side w)) alone (kept-for ns w side t)) in
-      let k = ((receiving.run-kept q (notes_of n all)).1 r).1 in
+      let k = ((run-kept q (notes_of_peer n all)).1 r).1 in
       taken-told side q
-      ∙ live-taken q (ours side w) _ (past_of q (notes_of n all)) _ (sym noted) live k
+      ∙ live-taken q (ours side w) _ (past_so_far q (notes_of_peer n all)) _ (sym noted) live k
       ∙ sym (ap (λ (x : Past). x.taken) (agree side q))
 
-  pub given-is : (side : Side) (p : Pair) → sends p ≡ true → (none : Bool) × ((past_here (mine side (histories_of ns w)) p).given ≡ (if none then [] else given side p ns))
+  pub given-is : (side : Side) (p : Pair) → sends p ≡ true → (none : Bool) × ((past_of (mine side (histories_of ns w)) p).given ≡ (if none then [] else given side p ns))
   given-is side p r =
-      let g = sending.run-kept p (Own side) r in (
+      let g = Sending.run-kept p (Own side) r in (
         g.0,
         ap (λ (x : Past). x.given) (agree side p)
             ∙ g.1.0
@@ -101,7 +98,7 @@ module _ (ns : List Note) (w : Hosts) (t : IsTranscript ns w) where
   pub allowance : WithinAllowance ns
   allowance side q =
       subst (λ (x : List Bool). length x ≤ allowed side q ns) (sym (taken-told side q))
-      (subst (λ (m : ℕ). length (tallied takings_with no_takings (did_run q (Own side) new_state)).taken ≤ m) (sym (allowed-told side q)) (receiving.run-kept q (Own side)).0)
+      (subst (λ (m : ℕ). length (tallied takings_with no_takings (did_run q (Own side) new_state)).taken ≤ m) (sym (allowed-told side q)) (run-kept q (Own side)).0)
 
 -- The text that is taken goes on what was taken.
 
@@ -124,36 +121,36 @@ goes-on t text later past_taken stored got rest past_given g none is held front 
 
 -- what was got at a side begins what was given at the other, and was taken there or is held
 pub record Carried (side : Side) (q : Pair) (w : Hosts) (p : Both) : Type 0 where
-  pub begins : is_live (get (ours side w).peer.ends q) ≡ true → IsBeginning (past_here (mine side p) q).got (past_here (mine (other side) p) (turned q)).given
-  pub kept : is_live (get (ours side w).peer.ends q) ≡ true → (or_new (get (ours side w).peer.ends q)).left ≡ false → (past_here (mine side p) q).got ≡ (past_here (mine side p) q).taken ++ (or_new (get (ours side w).peer.ends q)).stored
+  pub begins : is_live (get (ours side w).peer.ends q) ≡ true → IsBeginning (past_of (mine side p) q).got (past_of (mine (other side) p) (turned q)).given
+  pub kept : is_live (get (ours side w).peer.ends q) ≡ true → (or_new (get (ours side w).peer.ends q)).left ≡ false → (past_of (mine side p) q).got ≡ (past_of (mine side p) q).taken ++ (or_new (get (ours side w).peer.ends q)).stored
 
 pub turned-sends : (pair : Pair) → receives pair ≡ true → sends (turned pair) ≡ true
 turned-sends pair e = grind arith
 
 -- the host before a text was taken had it
-pub before-take : (before after : List Note) (w : Hosts) (side : Side) (peer : ℕ) (q : Pair) (bytes : ℕ) (text : List Bool) → IsTranscript (before ++ notes.Called side (of_host.Took peer q bytes text) ∷ after) w
-    → Held q (get (ours side (after_notes before (began w))).peer.ends q) text
+pub before-take : (before after : List Note) (w : Hosts) (side : Side) (peer : ℕ) (q : Pair) (bytes : ℕ) (text : List Bool) → IsTranscript (before ++ Note.Called side (HostNote.Took peer q bytes text) ∷ after) w
+    → Held q (get (ours side (hosts_after_notes before (began w))).peer.ends q) text
 before-take before after w side peer q bytes text t =
-    let note : Note = notes.Called side (of_host.Took peer q bytes text) in
-    let v : Hosts = after_notes before (began w) in
+    let note : Note = Note.Called side (HostNote.Took peer q bytes text) in
+    let v : Hosts = hosts_after_notes before (began w) in
     let s = said_at before after note (began w) t.run in
     let m = stands-at before (began w) (run_before before (note ∷ after) (began w) t.run) (stands (before ++ note ∷ after) w t) (new-ties (seen (began w)) (new (before ++ note ∷ after) w t)) in
-    let said : runs.IsSaid (of_host.Took peer q bytes text) (host_of side v) = own side v (of_event side s.0 note v s.1) in
+    let said : IsHostSaid (HostNote.Took peer q bytes text) (host_of side v) = own side v (of_event side s.0 note v s.1) in
     let had = took-known (state_of (host_of side v) peer) peer q bytes text said in
-    let is : peer ≡ number_of (other side) v = only-peer (number_of (other side) v) peer had.0 (host_of side v).peers (only-one side v m.0) had.1 in
+    let is : peer ≡ side_number (other side) v = only-peer (side_number (other side) v) peer had.0 (host_of side v).peers (only-one side v m.0) had.1 in
     let same : ours side v ≡ had.0 = ap (λ (n : ℕ). state_or_new (state_of (host_of side v) n)) (sym is) ∙ ap state_or_new had.1 in
     subst (λ (x : PeerState). Held q (get x.peer.ends q) text) (sym same) (held-at q bytes had.0 text had.2)
   where
-    own : (side : Side) (v : Hosts) → LeadsAt side (notes.Called side (of_host.Took peer q bytes text)) v → runs.IsSaid (of_host.Took peer q bytes text) (host_of side v)
+    own : (side : Side) (v : Hosts) → LeadsAt side (Note.Called side (HostNote.Took peer q bytes text)) v → IsHostSaid (HostNote.Took peer q bytes text) (host_of side v)
     own A v l = l.0.0
     own B v l = l.0.0
 
-pub took-goes-on : (before after : List Note) (w : Hosts) (side : Side) (peer : ℕ) (q : Pair) (bytes : ℕ) (text : List Bool) → IsTranscript (before ++ notes.Called side (of_host.Took peer q bytes text) ∷ after) w
-    → (IsTranscript before (after_notes before (began w)) → sends (turned q) ≡ true → Carried side q (after_notes before (began w)) (histories_of before (after_notes before (began w))))
+pub took-goes-on : (before after : List Note) (w : Hosts) (side : Side) (peer : ℕ) (q : Pair) (bytes : ℕ) (text : List Bool) → IsTranscript (before ++ Note.Called side (HostNote.Took peer q bytes text) ∷ after) w
+    → (IsTranscript before (hosts_after_notes before (began w)) → sends (turned q) ≡ true → Carried side q (hosts_after_notes before (began w)) (histories_of before (hosts_after_notes before (began w))))
     → (rest : List Bool) × (given (other side) (turned q) before ≡ (taken side q before ++ text) ++ rest)
 took-goes-on before after w side peer q bytes text t carried =
-    let v : Hosts = after_notes before (began w) in
-    let u : IsTranscript before v = begins before (notes.Called side (of_host.Took peer q bytes text) ∷ after) w t in
+    let v : Hosts = hosts_after_notes before (began w) in
+    let u : IsTranscript before v = begins before (Note.Called side (HostNote.Took peer q bytes text) ∷ after) w t in
     let h = before-take before after w side peer q bytes text t in
     let sender = turned-sends q h.receives_it in
     let c = carried u sender in

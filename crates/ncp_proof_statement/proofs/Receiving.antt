@@ -12,24 +12,23 @@ use Rattle.ncp_model.specs.End.{End, is_live, or_new}
 use Rattle.ncp_model.specs.Act.{Act, Stays, answer}
 use Rattle.ncp_model.specs.Calls.{bits_to_take, emptied, take_bits}
 use Rattle.ncp_model.specs.Happenings.{Happening, Outcome, Refused, of_take, happens}
-use Rattle.ncp_model.specs.Happenings as all
 use Rattle.ncp_model.specs.Leading.{suits}
 use Rattle.ncp_model.specs.Peers.{Take, comes_of, happened_at, reply_of_take}
 use Rattle.ncp_model.specs.Phase.{up}
-use Rattle.ncp_proof_watch.specs.Histories.{Past, no_past, is_accepted, taken_out}
+use Rattle.ncp_proof_watch.specs.Histories.{Past, no_past, is_outcome_accepted, taken_out}
 use Rattle.ncp_proof_watch.specs.Sound.{SoundAt}
 use Rattle.ncp_proof_watch.specs.Books.{BooksAt}
 use Rattle.ncp_proof_watch.proofs.SoundEnds.{one_way}
 use Rattle.ncp_proof_watch.proofs.BooksKept.{books-kept}
 use Rattle.ncp_host.specs.PeerState.{PeerState, new_state}
 use Rattle.ncp_transcript.specs.declared.note.HostNote.{HostNote}
-use Rattle.ncp_proof_runs.specs.Histories.{past_then, past_of}
+use Rattle.ncp_proof_runs.specs.Histories.{past_then, past_so_far}
 use Rattle.ncp_proof_runs.specs.Peers.{notes_for}
 use Rattle.ncp_statement.specs.Statement.{Use, Asked, Gave, Had, Let, Else, taken_from, allowed_from}
 use Rattle.ncp_proof_statement.specs.Since.{had_out, use_then, did_run, tallied, Takings, no_takings, takings_with, takings_then, TakenSince, Takes}
 use Rattle.ncp_proof_statement.proofs.Taking.{taken-kept}
-use Rattle.ncp_proof_statement.proofs.Tallies.{Ties}
-use Rattle.ncp_proof_statement.proofs.Tallies as tallies
+use Rattle.ncp_proof_statement.proofs.Tallies.{Ties, new-kept}
+use Rattle.ncp_proof_statement.proofs.Tallies
 
 -- Where `take` answers a text, the end is open and receives, it has not left, and it held the text in front.
 
@@ -51,7 +50,7 @@ taken-bits q e count text h = by (e.leaving && emptied e count) _ _ _ _ h
     by true x y c d h = cc h
     by false x y c d h = cc h
 
-held : (q : Pair) (bytes : ℕ) (o : Option End) (text : List Bool) → reply_of_take (happens q (all.Takes bytes) o).outcome ≡ Ok text → Held q o text
+held : (q : Pair) (bytes : ℕ) (o : Option End) (text : List Bool) → reply_of_take (happens q (Happening.Takes bytes) o).outcome ≡ Ok text → Held q o text
 held q bytes None text h = absurd (cc h)
 held q bytes (Some e) text h = go e.left e.opened (receives q) refl refl refl h
   where
@@ -74,8 +73,8 @@ held-at q bytes s text h = go (up s.peer.phase) h
 -- What a use adds is what the happening does.
 
 with-out : (o : Outcome) (x : Takings) → takings_with (had_out o) x ≡ record { taken = x.taken ++ taken_out o; allowed = x.allowed }
-with-out (all.Refused fault) x = ap (λ (t : List Bool). (let y : Takings = record { taken = t; allowed = x.allowed } in y)) (sym (append-nil x.taken))
-with-out (all.Took_out text) x = refl
+with-out (Outcome.Refused fault) x = ap (λ (t : List Bool). (let y : Takings = record { taken = t; allowed = x.allowed } in y)) (sym (append-nil x.taken))
+with-out (Outcome.Took_out text) x = refl
 with-out o x = refl
 
 asked-with : (b : Bool) (x : Takings) → takings_with (if b then Asked else Else) x ≡ (if b then no_takings else x)
@@ -94,11 +93,11 @@ let-with false bits x = ap (λ (n : ℕ). (let y : Takings = record { taken = x.
     plus-none n = grind arith
 
 pub as-then : (what : Happening) (o : Outcome) (x : Takings) → takings_with (use_then what o) x ≡ takings_then what o x
-as-then (all.Asks_to_send of_size with_room own full) o x = asked-with (is_accepted o) x
-as-then (all.Asks_to_receive with_room on own full) o x = asked-with (is_accepted o) x
-as-then (all.Gives text) o x = gave-with (is_accepted o) text x
-as-then (all.Takes bytes) o x = with-out o x
-as-then (all.Allocates m b full) o x = let-with (is_accepted o) b x
+as-then (Happening.Asks_to_send of_size with_room own full) o x = asked-with (is_outcome_accepted o) x
+as-then (Happening.Asks_to_receive with_room on own full) o x = asked-with (is_outcome_accepted o) x
+as-then (Happening.Gives text) o x = gave-with (is_outcome_accepted o) text x
+as-then (Happening.Takes bytes) o x = with-out o x
+as-then (Happening.Allocates m b full) o x = let-with (is_outcome_accepted o) b x
 as-then what o x = refl
 
 -- It is never more than was allowed.
@@ -122,42 +121,42 @@ had-within t text later stored past_taken got a bits back granted is all_of hold
     sum-within n front later a e = omega (arith, e)
 
 nothing-out : (o : Outcome) (fault : CallFault) → reply_of_take o ≡ Err fault → taken_out o ≡ []
-nothing-out (all.Took_out t) fault e = absurd (cc e)
+nothing-out (Outcome.Took_out t) fault e = absurd (cc e)
 nothing-out o fault e = refl
 
 out-is : (o : Outcome) (text : List Bool) → reply_of_take o ≡ Ok text → taken_out o ≡ text
-out-is (all.Took_out t) text e = cc
-out-is (all.Refused fault) text e = absurd (cc)
-out-is all.Accepted text e = cc
-out-is (all.Sent of_size t) text e = cc
-out-is all.Late text e = cc
-out-is (all.Erred error) text e = cc
-out-is all.Full text e = cc
-out-is all.Admitted text e = cc
-out-is all.WrongSize text e = cc
-out-is all.Over text e = cc
-out-is all.NotOpen text e = cc
+out-is (Outcome.Took_out t) text e = cc
+out-is (Outcome.Refused fault) text e = absurd (cc)
+out-is Outcome.Accepted text e = cc
+out-is (Outcome.Sent of_size t) text e = cc
+out-is Outcome.Late text e = cc
+out-is (Outcome.Erred error) text e = cc
+out-is Outcome.Full text e = cc
+out-is Outcome.Admitted text e = cc
+out-is Outcome.WrongSize text e = cc
+out-is Outcome.Over text e = cc
+out-is Outcome.NotOpen text e = cc
 
-takes-within : (pair : Pair) (bytes : ℕ) (o : Option End) (past : Past) (x : Takings) → Takes pair o past x → length (x.taken ++ taken_out (happens pair (all.Takes bytes) o).outcome) ≤ x.allowed
-takes-within pair bytes o past x k = go (reply_of_take (happens pair (all.Takes bytes) o).outcome) refl
+takes-within : (pair : Pair) (bytes : ℕ) (o : Option End) (past : Past) (x : Takings) → Takes pair o past x → length (x.taken ++ taken_out (happens pair (Happening.Takes bytes) o).outcome) ≤ x.allowed
+takes-within pair bytes o past x k = go (reply_of_take (happens pair (Happening.Takes bytes) o).outcome) refl
   where
     open-end : (p : Option End) (text : List Bool) → Held pair p text → BooksAt p past → TakenSince p past x → length (x.taken ++ text) ≤ x.allowed
     open-end None text h b s = absurd (cc h.live)
     open-end (Some e) text h b s = had-within x.taken text h.later e.stored past.taken past.got x.allowed e.bits past.returned_bits past.granted_bits (s.0 h.live).0 (s.0 h.live).1 (b.held h.live h.there) h.front (b.bits h.live)
 
-    go : (r : Result (List Bool) CallFault) → reply_of_take (happens pair (all.Takes bytes) o).outcome ≡ r → length (x.taken ++ taken_out (happens pair (all.Takes bytes) o).outcome) ≤ x.allowed
+    go : (r : Result (List Bool) CallFault) → reply_of_take (happens pair (Happening.Takes bytes) o).outcome ≡ r → length (x.taken ++ taken_out (happens pair (Happening.Takes bytes) o).outcome) ≤ x.allowed
     go (Ok text) e =
         let h = held pair bytes o text e in
-        subst (λ (t : List Bool). length (x.taken ++ t) ≤ x.allowed) (sym (out-is (happens pair (all.Takes bytes) o).outcome text e)) (open-end o text h (k.1 h.receives_it).0 (k.1 h.receives_it).1)
+        subst (λ (t : List Bool). length (x.taken ++ t) ≤ x.allowed) (sym (out-is (happens pair (Happening.Takes bytes) o).outcome text e)) (open-end o text h (k.1 h.receives_it).0 (k.1 h.receives_it).1)
     go (Err fault) e =
-        subst (λ (t : List Bool). length (x.taken ++ t) ≤ x.allowed) (sym (nothing-out (happens pair (all.Takes bytes) o).outcome fault e))
+        subst (λ (t : List Bool). length (x.taken ++ t) ≤ x.allowed) (sym (nothing-out (happens pair (Happening.Takes bytes) o).outcome fault e))
         (subst (λ (t : List Bool). length t ≤ x.allowed) (sym (append-nil x.taken)) k.0)
 
 within : (pair : Pair) (what : Happening) (o : Option End) (past : Past) (x : Takings) → Takes pair o past x → length (takings_then what (happens pair what o).outcome x).taken ≤ (takings_then what (happens pair what o).outcome x).allowed
-within pair (all.Asks_to_send of_size with_room own full) o past x k = asked-within (is_accepted (happens pair (all.Asks_to_send of_size with_room own full) o).outcome) x k.0
-within pair (all.Asks_to_receive with_room on own full) o past x k = asked-within (is_accepted (happens pair (all.Asks_to_receive with_room on own full) o).outcome) x k.0
-within pair (all.Takes bytes) o past x k = takes-within pair bytes o past x k
-within pair (all.Allocates m b full) o past x k = more-within (length x.taken) x.allowed _ k.0
+within pair (Happening.Asks_to_send of_size with_room own full) o past x k = asked-within (is_outcome_accepted (happens pair (Happening.Asks_to_send of_size with_room own full) o).outcome) x k.0
+within pair (Happening.Asks_to_receive with_room on own full) o past x k = asked-within (is_outcome_accepted (happens pair (Happening.Asks_to_receive with_room on own full) o).outcome) x k.0
+within pair (Happening.Takes bytes) o past x k = takes-within pair bytes o past x k
+within pair (Happening.Allocates m b full) o past x k = more-within (length x.taken) x.allowed _ k.0
 within pair what o past x k = k.0
 
 -- The tally is tied to each end, and so to each run.
@@ -182,10 +181,10 @@ takes-ties = record {
   frees = λ pair o past x h s k. (k.0, λ r. absurd (no-sender pair h r));
 }
 
-pub run-kept : (pair : Pair) (all_notes : List HostNote) → Takes pair (get (notes_for all_notes new_state).peer.ends pair) (past_of pair all_notes) (tallied takings_with no_takings (did_run pair all_notes new_state))
+pub run-kept : (pair : Pair) (all_notes : List HostNote) → Takes pair (get (notes_for all_notes new_state).peer.ends pair) (past_so_far pair all_notes) (tallied takings_with no_takings (did_run pair all_notes new_state))
 run-kept pair all_notes =
-    (tallies.run-kept Takings takings_with Takes takes-ties pair all_notes new_state no_past no_takings
-    (tallies.new-kept Takings takings_with Takes takes-ties pair no_takings (none-within, λ r. (tt, tt)))).1
+    (Tallies.run-kept Takings takings_with Takes takes-ties pair all_notes new_state no_past no_takings
+    (new-kept Takings takings_with Takes takes-ties pair no_takings (none-within, λ r. (tt, tt)))).1
   where
     none-within : 0 ≤ 0
     none-within = grind arith

@@ -5,19 +5,18 @@ use Rattle.ncp_model.specs.declared.pair.Pair.{Pair}
 use Rattle.ncp_model.specs.Pairs.{sends}
 use Rattle.ncp_model.specs.End.{End}
 use Rattle.ncp_model.specs.Happenings.{Happening, Outcome, happens}
-use Rattle.ncp_model.specs.Happenings as all
 use Rattle.ncp_model.specs.Leading.{suits}
-use Rattle.ncp_proof_watch.specs.Histories.{Past, no_past, is_accepted}
+use Rattle.ncp_proof_watch.specs.Histories.{Past, no_past, is_outcome_accepted}
 use Rattle.ncp_proof_watch.specs.Sound.{SoundAt}
 use Rattle.ncp_host.specs.PeerState.{new_state}
 use Rattle.ncp_transcript.specs.declared.note.HostNote.{HostNote}
-use Rattle.ncp_proof_runs.specs.Histories.{past_then, past_of}
+use Rattle.ncp_proof_runs.specs.Histories.{past_then, past_so_far}
 use Rattle.ncp_proof_runs.specs.Peers.{notes_for}
 use Rattle.ncp_statement.specs.Statement.{Use, Asked, Gave, Had, Let, Else, given_from}
 use Rattle.ncp_proof_statement.specs.Since.{had_out, use_then, did_run, tallied, Givings, no_givings, givings_with, givings_then, GivenSince, Gives}
 use Rattle.ncp_proof_statement.proofs.Giving.{given-kept, given-goes, given-freed, other_way}
-use Rattle.ncp_proof_statement.proofs.Tallies.{Ties}
-use Rattle.ncp_proof_statement.proofs.Tallies as tallies
+use Rattle.ncp_proof_statement.proofs.Tallies.{Ties, new-kept}
+use Rattle.ncp_proof_statement.proofs.Tallies
 
 -- What a use adds is what the happening does.
 
@@ -38,7 +37,7 @@ asked-not : (b : Bool) (g : Givings) → b ≡ false → givings_with (if b then
 asked-not true g e = absurd (cc e)
 asked-not false g e = refl
 
-refused-it : (pair : Pair) (room on own : ℕ) (full : Bool) (o : Option End) → sends pair ≡ true → is_accepted (happens pair (all.Asks_to_receive room on own full) o).outcome ≡ false
+refused-it : (pair : Pair) (room on own : ℕ) (full : Bool) (o : Option End) → sends pair ≡ true → is_outcome_accepted (happens pair (Happening.Asks_to_receive room on own full) o).outcome ≡ false
 refused-it pair room on own full None h = grind arith
 refused-it pair room on own full (Some e) h = grind arith
 
@@ -47,7 +46,7 @@ gave-with true text g = refl
 gave-with false text g = refl
 
 had-with : (o : Outcome) (g : Givings) → givings_with (had_out o) g ≡ g
-had-with (all.Refused fault) g = refl
+had-with (Outcome.Refused fault) g = refl
 had-with o g = refl
 
 let-with : (b : Bool) (bits : ℕ) (g : Givings) → givings_with (if b then Let bits else Else) g ≡ g
@@ -55,11 +54,11 @@ let-with true bits g = refl
 let-with false bits g = refl
 
 as-then : (pair : Pair) (what : Happening) (o : Option End) (g : Givings) → sends pair ≡ true → givings_with (use_then what (happens pair what o).outcome) g ≡ givings_then what (happens pair what o).outcome g
-as-then pair (all.Asks_to_send of_size with_room own full) o g h = asked-with (is_accepted (happens pair (all.Asks_to_send of_size with_room own full) o).outcome) g
-as-then pair (all.Asks_to_receive with_room on own full) o g h = asked-not (is_accepted (happens pair (all.Asks_to_receive with_room on own full) o).outcome) g (refused-it pair with_room on own full o h)
-as-then pair (all.Gives text) o g h = gave-with (is_accepted (happens pair (all.Gives text) o).outcome) text g
-as-then pair (all.Takes bytes) o g h = had-with (happens pair (all.Takes bytes) o).outcome g
-as-then pair (all.Allocates m b full) o g h = let-with (is_accepted (happens pair (all.Allocates m b full) o).outcome) b g
+as-then pair (Happening.Asks_to_send of_size with_room own full) o g h = asked-with (is_outcome_accepted (happens pair (Happening.Asks_to_send of_size with_room own full) o).outcome) g
+as-then pair (Happening.Asks_to_receive with_room on own full) o g h = asked-not (is_outcome_accepted (happens pair (Happening.Asks_to_receive with_room on own full) o).outcome) g (refused-it pair with_room on own full o h)
+as-then pair (Happening.Gives text) o g h = gave-with (is_outcome_accepted (happens pair (Happening.Gives text) o).outcome) text g
+as-then pair (Happening.Takes bytes) o g h = had-with (happens pair (Happening.Takes bytes) o).outcome g
+as-then pair (Happening.Allocates m b full) o g h = let-with (is_outcome_accepted (happens pair (Happening.Allocates m b full) o).outcome) b g
 as-then pair what o g h = refl
 
 -- The tally is tied to each end, and so to each run.
@@ -79,10 +78,10 @@ gives-ties = record {
   frees = λ pair o past g h s k i. given-freed pair o past g s (k i);
 }
 
-pub run-kept : (pair : Pair) (all_notes : List HostNote) → sends pair ≡ true → GivenSince (get (notes_for all_notes new_state).peer.ends pair) (past_of pair all_notes) (tallied givings_with no_givings (did_run pair all_notes new_state))
+pub run-kept : (pair : Pair) (all_notes : List HostNote) → sends pair ≡ true → GivenSince (get (notes_for all_notes new_state).peer.ends pair) (past_so_far pair all_notes) (tallied givings_with no_givings (did_run pair all_notes new_state))
 run-kept pair all_notes h =
-    (tallies.run-kept Givings givings_with Gives gives-ties pair all_notes new_state no_past no_givings
-    (tallies.new-kept Givings givings_with Gives gives-ties pair no_givings (λ i. (true, (refl, tt))))).1 h
+    (Tallies.run-kept Givings givings_with Gives gives-ties pair all_notes new_state no_past no_givings
+    (new-kept Givings givings_with Gives gives-ties pair no_givings (λ i. (true, (refl, tt))))).1 h
 
 -- As the page counts.
 

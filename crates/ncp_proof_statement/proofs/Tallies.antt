@@ -9,7 +9,6 @@ use Rattle.ncp_leader.specs.declared.fault.MessageFault.{MessageFault}
 use Rattle.ncp_leader.specs.Leader.{leader_in}
 use Rattle.ncp_leader.specs.Message.{Message, message_in}
 use Rattle.ncp_terms.specs.declared.command.Command.{Command}
-use Rattle.ncp_terms.specs.declared.command.Command.TheVariants as commands
 use Rattle.ncp_terms.specs.declared.fault.CommandFault.{CommandFault}
 use Rattle.ncp_control.specs.Reading.{commands_in, fault_in}
 use Rattle.ncp_slot.specs.declared.slot.Slot.TheVariants.{Empty, Ready, Travelling, Held}
@@ -21,15 +20,15 @@ use Rattle.ncp_model.specs.declared.pair.Pair.{Pair}
 use Rattle.ncp_model.specs.Pairs.{same, sends, pair_cmp}
 use Rattle.ncp_model.specs.End.{End}
 use Rattle.ncp_model.specs.Act.{Act, end_after}
-use Rattle.ncp_model.specs.Texts as texts
+use Rattle.ncp_model.specs.Texts
 use Rattle.ncp_model.specs.Ends.{Ends, uses_link, hears_link, pair_of, receiver_on, sender_on, leads_to, hear, text_in, cut_in, answered_in, map_after, map_after_at, no_ends, put}
 use Rattle.ncp_model.specs.Happenings.{Happening, Text_comes, Text_goes_out, Is_answered, happens}
 use Rattle.ncp_model.specs.Texts.{made_by_text, hear_text}
 use Rattle.ncp_model.specs.Leading.{suits, comes}
 use Rattle.ncp_model.specs.Phase.{Phase, up, is_resetting, resets}
 use Rattle.ncp_model.specs.Sending.{is_full}
-use Rattle.ncp_model.specs.Peers.{Peer, Ask_to_send, Ask_to_receive, Close, Give, Take, Allocate, Call_back, Interrupt, kept, called, happened_at}
-use Rattle.ncp_model.specs.Peers as peers
+use Rattle.ncp_model.specs.Peers.{Peer, Ask_to_send, Ask_to_receive, Close, Give, Take, Allocate, Call_back, Interrupt, kept, called, happened_at, PairCall, calls, calls_echo, calls_reset, calls_up, cleared, cuts, echo_called, frees_up, hears, hears_fault, hears_other, hears_text, makes, peer_sends, takes_text}
+use Rattle.ncp_model.specs.Peers
 use Rattle.ncp_model.proofs.EndsAfter.{after-at, after-elsewhere}
 use Rattle.ncp_model.proofs.LinksLead.{led, command-led, cut-led, answered-led, hearer-sends, user-receives, suits-led}
 use Rattle.ncp_proof_watch.specs.Histories.{Past, no_past}
@@ -37,13 +36,11 @@ use Rattle.ncp_proof_watch.specs.Sound.{SoundAt}
 use Rattle.ncp_proof_watch.proofs.SoundEnds.{sound-after}
 use Rattle.ncp_host.specs.Counting.{one_more}
 use Rattle.ncp_host.specs.PeerState.{PeerState, new_state, control_link, is_answered, answer_taken, answer_comes, frees_on, after_answer}
-use Rattle.ncp_host.specs.Hearing.{control_size, control_after, text_after, is_wrong_link, hears, hears_all, hears_last, message_after}
+use Rattle.ncp_host.specs.Hearing.{control_size, state_after_control, state_after_text, is_wrong_link, state_hears, state_hears_all, hears_last, message_after}
 use Rattle.ncp_host.specs.Output.{after_made, after_by}
 use Rattle.ncp_host.specs.Calls.{sockets}
 use Rattle.ncp_transcript.specs.declared.call.Call.{Call}
-use Rattle.ncp_transcript.specs.declared.call.Call.TheVariants as calls_of
 use Rattle.ncp_transcript.specs.declared.note.HostNote.{HostNote}
-use Rattle.ncp_transcript.specs.declared.note.HostNote.TheVariants as notes
 use Rattle.ncp_proof_runs.specs.Peers.{called_for, bits_for, out_for, note_for, notes_for}
 use Rattle.ncp_proof_runs.specs.Histories.{past_then, past_at, past_called, past_heard, past_heard_all, past_text, past_message, past_bits, past_of_call, past_by, past_from}
 use Rattle.ncp_model.specs.Happenings.{Outcome}
@@ -61,7 +58,7 @@ pub record Ties (X : Type 0) (add : Use → X → X) (K : Pair → Option End �
   -- also where no more is asked of what happened than what it leaves
   pub ends : (pair : Pair) (o : Option End) (past : Past) (x : X) → K pair o past x → K pair None past x
   pub goes : (pair : Pair) (o : Option End) (past : Past) (x : X) → sends pair ≡ true → SoundAt pair o → K pair o past x → K pair (happens pair Text_goes_out o).after past x
-  pub frees : (pair : Pair) (o : Option End) (past : Past) (x : X) → sends pair ≡ true → SoundAt pair o → K pair o past x → K pair (happens pair (Is_answered texts.Rfnm) o).after past x
+  pub frees : (pair : Pair) (o : Option End) (past : Past) (x : X) → sends pair ≡ true → SoundAt pair o → K pair o past x → K pair (happens pair (Is_answered Texts.Rfnm) o).after past x
 
 module _ (X : Type 0) (add : Use → X → X) (K : Pair → Option End → Past → X → Type 0) (ties : Ties X add K) where
   -- the end of a pair is sound, and the tally is tied to it
@@ -100,7 +97,7 @@ module _ (X : Type 0) (add : Use → X → X) (K : Pair → Option End → Past 
 
     -- A call.
 
-    call-kept : (p : Pair) (call : peers.Call) (s : PeerState) (past : Past) → Kept pair t s.peer.ends past → Kept pair (add (did_called pair p call s) t) (peers.calls p call s.peer).ends (past_called pair p call s past)
+    call-kept : (p : Pair) (call : PairCall) (s : PeerState) (past : Past) → Kept pair t s.peer.ends past → Kept pair (add (did_called pair p call s) t) (calls p call s.peer).ends (past_called pair p call s past)
     call-kept p call s past k = go (up s.peer.phase)
       where
         if_so : (u : Use) (b : Bool) → b ≡ true → add u t ≡ add (if b then u else Else) t
@@ -115,8 +112,8 @@ module _ (X : Type 0) (add : Use → X → X) (K : Pair → Option End → Past 
         moves = moved s.peer.ends (put s.peer.ends p (happened_at p call s.peer).after) p (called call (is_full s.peer.phase) s.peer.ends) past (add (did_at pair p (called call (is_full s.peer.phase) s.peer.ends) s.peer.ends) t) (if_so (use_then (called call (is_full s.peer.phase) s.peer.ends) (happens pair (called call (is_full s.peer.phase) s.peer.ends) (get s.peer.ends pair)).outcome) (same pair p)) (if_not (use_then (called call (is_full s.peer.phase) s.peer.ends) (happens pair (called call (is_full s.peer.phase) s.peer.ends) (get s.peer.ends pair)).outcome) (same pair p)) (called-suits pair p call (is_full s.peer.phase) s.peer.ends)
             (put_here pair s.peer.ends p (happened_at p call s.peer).after) (put_there pair s.peer.ends p (happened_at p call s.peer).after) k
 
-        go : (b : Bool) → Kept pair (add (if b then did_at pair p (called call (is_full s.peer.phase) s.peer.ends) s.peer.ends else Else) t) (if b then peers.calls_up p call s.peer else s.peer).ends (if b then past_at pair (Some p) (Some (called call (is_full s.peer.phase) s.peer.ends)) s.peer.ends past else past)
-        go true = while-up pair (add (did_at pair p (called call (is_full s.peer.phase) s.peer.ends) s.peer.ends) t) (peers.calls_up p call s.peer).phase (put s.peer.ends p (happened_at p call s.peer).after) (past_at pair (Some p) (Some (called call (is_full s.peer.phase) s.peer.ends)) s.peer.ends past) moves
+        go : (b : Bool) → Kept pair (add (if b then did_at pair p (called call (is_full s.peer.phase) s.peer.ends) s.peer.ends else Else) t) (if b then calls_up p call s.peer else s.peer).ends (if b then past_at pair (Some p) (Some (called call (is_full s.peer.phase) s.peer.ends)) s.peer.ends past else past)
+        go true = while-up pair (add (did_at pair p (called call (is_full s.peer.phase) s.peer.ends) s.peer.ends) t) (calls_up p call s.peer).phase (put s.peer.ends p (happened_at p call s.peer).after) (past_at pair (Some p) (Some (called call (is_full s.peer.phase) s.peer.ends)) s.peer.ends past) moves
         go false = subst (λ (x : X). Kept pair x s.peer.ends past) (sym (ties.quiet t)) k
 
     either : (a b : Bool) → (if a then (if b then Else else Else) else Else) ≡ Else
@@ -125,8 +122,8 @@ module _ (X : Type 0) (add : Use → X → X) (K : Pair → Option End → Past 
     either false b = refl
 
     -- the other calls are no use of the pair
-    other-call : (p : Pair) (call : peers.Call) (s : PeerState) (past : Past) → did_called pair p call s ≡ Else → Kept pair t s.peer.ends past → Kept pair (add Else t) (peers.calls p call s.peer).ends (past_called pair p call s past)
-    other-call p call s past e k = subst (λ (u : Use). Kept pair (add u t) (peers.calls p call s.peer).ends (past_called pair p call s past)) e (call-kept p call s past k)
+    other-call : (p : Pair) (call : PairCall) (s : PeerState) (past : Past) → did_called pair p call s ≡ Else → Kept pair t s.peer.ends past → Kept pair (add Else t) (calls p call s.peer).ends (past_called pair p call s past)
+    other-call p call s past e k = subst (λ (u : Use). Kept pair (add u t) (calls p call s.peer).ends (past_called pair p call s past)) e (call-kept p call s past k)
 
     -- what is no use of the pair leaves the tally
     quiet-kept : (m : Ends) (past : Past) → Kept pair t m past → Kept pair (add Else t) m past
@@ -135,14 +132,14 @@ module _ (X : Type 0) (add : Use → X → X) (K : Pair → Option End → Past 
     -- A command that comes.
 
     comes-stays : (c : Command) (m : Ends) (what : Happening) (o : Outcome) → comes c m ≡ Some what → add (use_then what o) t ≡ t
-    comes-stays (commands.Rts receive send on) m what o e = subst (λ (w : Happening). add (use_then w o) t ≡ t) (some_same e) (ties.quiet t)
-    comes-stays (commands.Str send receive of_size) m what o e = subst (λ (w : Happening). add (use_then w o) t ≡ t) (some_same e) (ties.quiet t)
-    comes-stays (commands.Cls my your) m what o e = subst (λ (w : Happening). add (use_then w o) t ≡ t) (some_same e) (ties.quiet t)
-    comes-stays (commands.All on a b) m what o e = subst (λ (w : Happening). add (use_then w o) t ≡ t) (some_same e) (ties.quiet t)
-    comes-stays (commands.Gvb on a b) m what o e = subst (λ (w : Happening). add (use_then w o) t ≡ t) (some_same e) (ties.quiet t)
-    comes-stays (commands.Ret on a b) m what o e = subst (λ (w : Happening). add (use_then w o) t ≡ t) (some_same e) (ties.quiet t)
-    comes-stays (commands.Inr on) m what o e = subst (λ (w : Happening). add (use_then w o) t ≡ t) (some_same e) (ties.quiet t)
-    comes-stays (commands.Ins on) m what o e = subst (λ (w : Happening). add (use_then w o) t ≡ t) (some_same e) (ties.quiet t)
+    comes-stays (Command.Rts receive send on) m what o e = subst (λ (w : Happening). add (use_then w o) t ≡ t) (some_same e) (ties.quiet t)
+    comes-stays (Command.Str send receive of_size) m what o e = subst (λ (w : Happening). add (use_then w o) t ≡ t) (some_same e) (ties.quiet t)
+    comes-stays (Command.Cls my your) m what o e = subst (λ (w : Happening). add (use_then w o) t ≡ t) (some_same e) (ties.quiet t)
+    comes-stays (Command.All on a b) m what o e = subst (λ (w : Happening). add (use_then w o) t ≡ t) (some_same e) (ties.quiet t)
+    comes-stays (Command.Gvb on a b) m what o e = subst (λ (w : Happening). add (use_then w o) t ≡ t) (some_same e) (ties.quiet t)
+    comes-stays (Command.Ret on a b) m what o e = subst (λ (w : Happening). add (use_then w o) t ≡ t) (some_same e) (ties.quiet t)
+    comes-stays (Command.Inr on) m what o e = subst (λ (w : Happening). add (use_then w o) t ≡ t) (some_same e) (ties.quiet t)
+    comes-stays (Command.Ins on) m what o e = subst (λ (w : Happening). add (use_then w o) t ≡ t) (some_same e) (ties.quiet t)
     comes-stays c m what o e = absurd (cc)
 
     command-moves : (c : Command) (m : Ends) (past : Past) → Kept pair t m past → Kept pair t (map_after_at m (leads_to c m) (hear c m)) (past_at pair (leads_to c m) (comes c m) m past)
@@ -155,34 +152,34 @@ module _ (X : Type 0) (add : Use → X → X) (K : Pair → Option End → Past 
             let l = command-led m c p what e f in
             moved m (map_after m p (hear c m)) p what past t (λ h. comes-stays c m what _ f) (λ h. refl) (suits-led p what (get m p) l.0) (after-at m p (hear c m) ∙ sym (ap (λ h. h.after) l.1)) (λ q n. after-elsewhere m p q (hear c m) n) k
 
-    other-kept : (quiet : Bool) (c : Command) (p : Peer) (past : Past) → Kept pair t p.ends past → Kept pair t (if up p.phase then peers.hears_other quiet c p else p).ends (if up p.phase then past_at pair (leads_to c p.ends) (comes c p.ends) p.ends past else past)
+    other-kept : (quiet : Bool) (c : Command) (p : Peer) (past : Past) → Kept pair t p.ends past → Kept pair t (if up p.phase then hears_other quiet c p else p).ends (if up p.phase then past_at pair (leads_to c p.ends) (comes c p.ends) p.ends past else past)
     other-kept quiet c p past k = go (up p.phase)
       where
-        go : (b : Bool) → Kept pair t (if b then peers.hears_other quiet c p else p).ends (if b then past_at pair (leads_to c p.ends) (comes c p.ends) p.ends past else past)
-        go true = while-up pair t (peers.hears_other quiet c p).phase (map_after_at p.ends (leads_to c p.ends) (hear c p.ends)) (past_at pair (leads_to c p.ends) (comes c p.ends) p.ends past) (command-moves c p.ends past k)
+        go : (b : Bool) → Kept pair t (if b then hears_other quiet c p else p).ends (if b then past_at pair (leads_to c p.ends) (comes c p.ends) p.ends past else past)
+        go true = while-up pair t (hears_other quiet c p).phase (map_after_at p.ends (leads_to c p.ends) (hear c p.ends)) (past_at pair (leads_to c p.ends) (comes c p.ends) p.ends past) (command-moves c p.ends past k)
         go false = k
 
     either-past : (b : Bool) (m : Ends) (past : Past) → Kept pair t m past → Kept pair t m (if b then past else past)
     either-past true m past k = k
     either-past false m past k = k
 
-    heard-kept : (quiet : Bool) (c : Command) (p : Peer) (past : Past) → Kept pair t p.ends past → Kept pair t (peers.hears quiet c p).ends (if up p.phase then past_at pair (leads_to c p.ends) (comes c p.ends) p.ends past else past)
-    heard-kept quiet commands.Rst p past k = none-kept pair t p.ends (if up p.phase then past else past) (either-past (up p.phase) p.ends past k)
-    heard-kept quiet commands.Rrp p past k = either-past (up p.phase) p.ends past k
+    heard-kept : (quiet : Bool) (c : Command) (p : Peer) (past : Past) → Kept pair t p.ends past → Kept pair t (hears quiet c p).ends (if up p.phase then past_at pair (leads_to c p.ends) (comes c p.ends) p.ends past else past)
+    heard-kept quiet Command.Rst p past k = none-kept pair t p.ends (if up p.phase then past else past) (either-past (up p.phase) p.ends past k)
+    heard-kept quiet Command.Rrp p past k = either-past (up p.phase) p.ends past k
     heard-kept quiet c p past k = other-kept quiet c p past k
 
-    all-kept : (cs : List Command) (s : PeerState) (past : Past) → Kept pair t s.peer.ends past → Kept pair t (hears_all cs s).peer.ends (past_heard_all pair cs s past)
+    all-kept : (cs : List Command) (s : PeerState) (past : Past) → Kept pair t s.peer.ends past → Kept pair t (state_hears_all cs s).peer.ends (past_heard_all pair cs s past)
     all-kept [] s past k = k
-    all-kept (c ∷ cs) s past k = all-kept cs (hears c s) (past_heard pair c s past) (heard-kept (is_quiet s.slots) c s.peer past k)
+    all-kept (c ∷ cs) s past k = all-kept cs (state_hears c s) (past_heard pair c s past) (heard-kept (is_quiet s.slots) c s.peer past k)
 
-    fault-kept : (fault : CommandFault) (p : Peer) (past : Past) → Kept pair t p.ends past → Kept pair t (peers.hears_fault fault p).ends past
+    fault-kept : (fault : CommandFault) (p : Peer) (past : Past) → Kept pair t p.ends past → Kept pair t (hears_fault fault p).ends past
     fault-kept fault p past k = go (up p.phase)
       where
         made : Peer
-        made = peers.makes (commands.Err fault.code fault.bytes ∷ []) p
+        made = makes (Command.Err fault.code fault.bytes ∷ []) p
 
-        go : (b : Bool) → Kept pair t (if b then peers.makes (commands.Err fault.code fault.bytes ∷ []) p else p).ends past
-        go true = while-up pair t (peers.makes (commands.Err fault.code fault.bytes ∷ []) p).phase p.ends past k
+        go : (b : Bool) → Kept pair t (if b then makes (Command.Err fault.code fault.bytes ∷ []) p else p).ends past
+        go true = while-up pair t (makes (Command.Err fault.code fault.bytes ∷ []) p).phase p.ends past k
         go false = k
 
     last-kept : (fault : Option CommandFault) (s : PeerState) (past : Past) → Kept pair t s.peer.ends past → Kept pair t (hears_last fault s).peer.ends past
@@ -204,11 +201,11 @@ module _ (X : Type 0) (add : Use → X → X) (K : Pair → Option End → Past 
             (λ q n. after-elsewhere m p q (text_in on of_size text m) n) k
 
     text-kept : (on : ℕ) (head : List Bool) (of_size : ℕ) (text : List Bool) (p : Peer) (past : Past) → Kept pair t p.ends past
-        → Kept pair t (peers.hears_text on head of_size text p).ends (if up p.phase then past_at pair (pair_of (receiver_on on p.ends)) (Some (Text_comes head of_size text)) p.ends past else past)
+        → Kept pair t (hears_text on head of_size text p).ends (if up p.phase then past_at pair (pair_of (receiver_on on p.ends)) (Some (Text_comes head of_size text)) p.ends past else past)
     text-kept on head of_size text p past k = go (up p.phase)
       where
-        go : (b : Bool) → Kept pair t (if b then peers.takes_text on head of_size text p else p).ends (if b then past_at pair (pair_of (receiver_on on p.ends)) (Some (Text_comes head of_size text)) p.ends past else past)
-        go true = while-up pair t (peers.takes_text on head of_size text p).phase (map_after_at p.ends (pair_of (receiver_on on p.ends)) (text_in on of_size text p.ends)) (past_at pair (pair_of (receiver_on on p.ends)) (Some (Text_comes head of_size text)) p.ends past) (text-moves on head of_size text p.ends past k)
+        go : (b : Bool) → Kept pair t (if b then takes_text on head of_size text p else p).ends (if b then past_at pair (pair_of (receiver_on on p.ends)) (Some (Text_comes head of_size text)) p.ends past else past)
+        go true = while-up pair t (takes_text on head of_size text p).phase (map_after_at p.ends (pair_of (receiver_on on p.ends)) (text_in on of_size text p.ends)) (past_at pair (pair_of (receiver_on on p.ends)) (Some (Text_comes head of_size text)) p.ends past) (text-moves on head of_size text p.ends past k)
         go false = k
 
     -- A text that goes out, and one that was taken, are of a pair that sends.
@@ -235,11 +232,11 @@ module _ (X : Type 0) (add : Use → X → X) (K : Pair → Option End → Past 
         go None e = k
         go (Some p) e = by p (same pair p) e refl
 
-    freed : (on : ℕ) (m : Ends) (past : Past) → Kept pair t m past → Kept pair t (map_after_at m (pair_of (sender_on on m)) (answered_in on texts.Rfnm m)) past
+    freed : (on : ℕ) (m : Ends) (past : Past) → Kept pair t m past → Kept pair t (map_after_at m (pair_of (sender_on on m)) (answered_in on Texts.Rfnm m)) past
     freed on m past k =
-        sender-moves on m (answered_in on texts.Rfnm m) past
-        (λ p e s. subst (λ (o : Option End). SoundAt p o) (ap (λ h. h.after) (answered-led m on texts.Rfnm p e).1) (sound-after p (Is_answered texts.Rfnm) (get m p) s))
-        (λ p e h s w. subst (λ (o : Option End). K p o past t) (ap (λ h. h.after) (answered-led m on texts.Rfnm p e).1) (ties.frees p (get m p) past t h s w)) k
+        sender-moves on m (answered_in on Texts.Rfnm m) past
+        (λ p e s. subst (λ (o : Option End). SoundAt p o) (ap (λ h. h.after) (answered-led m on Texts.Rfnm p e).1) (sound-after p (Is_answered Texts.Rfnm) (get m p) s))
+        (λ p e h s w. subst (λ (o : Option End). K p o past t) (ap (λ h. h.after) (answered-led m on Texts.Rfnm p e).1) (ties.frees p (get m p) past t h s w)) k
 
     gone : (on : ℕ) (m : Ends) (past : Past) → Kept pair t m past → Kept pair t (map_after_at m (pair_of (sender_on on m)) (cut_in on m)) past
     gone on m past k =
@@ -247,17 +244,17 @@ module _ (X : Type 0) (add : Use → X → X) (K : Pair → Option End → Past 
         (λ p e s. subst (λ (o : Option End). SoundAt p o) (ap (λ h. h.after) (cut-led m on p e).1) (sound-after p Text_goes_out (get m p) s))
         (λ p e h s w. subst (λ (o : Option End). K p o past t) (ap (λ h. h.after) (cut-led m on p e).1) (ties.goes p (get m p) past t h s w)) k
 
-    frees-kept : (on : ℕ) (p : Peer) (past : Past) → Kept pair t p.ends past → Kept pair t (peers.frees on p).ends past
+    frees-kept : (on : ℕ) (p : Peer) (past : Past) → Kept pair t p.ends past → Kept pair t (Peers.frees on p).ends past
     frees-kept on p past k = go (up p.phase)
       where
-        go : (b : Bool) → Kept pair t (if b then peers.frees_up on p else p).ends past
-        go true = while-up pair t (peers.frees_up on p).phase (map_after_at p.ends (pair_of (sender_on on p.ends)) (answered_in on texts.Rfnm p.ends)) past (freed on p.ends past k)
+        go : (b : Bool) → Kept pair t (if b then frees_up on p else p).ends past
+        go true = while-up pair t (frees_up on p).phase (map_after_at p.ends (pair_of (sender_on on p.ends)) (answered_in on Texts.Rfnm p.ends)) past (freed on p.ends past k)
         go false = k
 
     freed-kept : (on : ℕ) (p : Peer) (past : Past) → Kept pair t p.ends past → Kept pair t (frees_on on p).ends past
     freed-kept on p past k = go (on == control_link)
       where
-        go : (b : Bool) → Kept pair t (if b then p else peers.frees on p).ends past
+        go : (b : Bool) → Kept pair t (if b then p else Peers.frees on p).ends past
         go true = k
         go false = frees-kept on p past k
 
@@ -276,7 +273,7 @@ module _ (X : Type 0) (add : Use → X → X) (K : Pair → Option End → Past 
     made-kept : (on : ℕ) (p : Peer) (past : Past) → Kept pair t p.ends past → Kept pair t (after_made on p).ends past
     made-kept on p past k = go (on == control_link)
       where
-        go : (b : Bool) → Kept pair t (if b then peers.sends p else peers.cuts on p).ends past
+        go : (b : Bool) → Kept pair t (if b then peer_sends p else cuts on p).ends past
         go true = k
         go false = gone on p.ends past k
 
@@ -296,12 +293,12 @@ module _ (X : Type 0) (add : Use → X → X) (K : Pair → Option End → Past 
     message-kept on bits (Err fault) s past k = k
     message-kept on bits (Ok m) s past k = go (is_wrong_link on) (on == control_link)
       where
-        control : (b : Bool) → Kept pair t (if b then hears_last (fault_in (bytes_of m.text)) (hears_all (commands_in (bytes_of m.text)) s) else record s { counts = record s.counts { wrong_size = one_more s.counts.wrong_size } }).peer.ends
+        control : (b : Bool) → Kept pair t (if b then hears_last (fault_in (bytes_of m.text)) (state_hears_all (commands_in (bytes_of m.text)) s) else record s { counts = record s.counts { wrong_size = one_more s.counts.wrong_size } }).peer.ends
             (if b then past_heard_all pair (commands_in (bytes_of m.text)) s past else past)
-        control true = last-kept (fault_in (bytes_of m.text)) (hears_all (commands_in (bytes_of m.text)) s) (past_heard_all pair (commands_in (bytes_of m.text)) s past) (all-kept (commands_in (bytes_of m.text)) s past k)
+        control true = last-kept (fault_in (bytes_of m.text)) (state_hears_all (commands_in (bytes_of m.text)) s) (past_heard_all pair (commands_in (bytes_of m.text)) s past) (all-kept (commands_in (bytes_of m.text)) s past k)
         control false = k
 
-        go : (a b : Bool) → Kept pair t (if a then record s { counts = record s.counts { wrong_link = one_more s.counts.wrong_link } } else if b then control_after m s else text_after on (take 72 bits) m s).peer.ends
+        go : (a b : Bool) → Kept pair t (if a then record s { counts = record s.counts { wrong_link = one_more s.counts.wrong_link } } else if b then state_after_control m s else state_after_text on (take 72 bits) m s).peer.ends
             (if a then past else if b then (if m.size == control_size then past_heard_all pair (commands_in (bytes_of m.text)) s past else past) else past_text pair on (take 72 bits) m s past)
         go true b = k
         go false true = control (m.size == control_size)
@@ -313,57 +310,57 @@ module _ (X : Type 0) (add : Use → X → X) (K : Pair → Option End → Past 
 
     -- The other calls.
 
-    reset-kept : (quiet : Bool) (p : Peer) (past : Past) → Kept pair t p.ends past → Kept pair t (peers.calls_reset quiet p).ends past
+    reset-kept : (quiet : Bool) (p : Peer) (past : Past) → Kept pair t p.ends past → Kept pair t (calls_reset quiet p).ends past
     reset-kept quiet p past k = go (is_resetting p.phase)
       where
-        go : (b : Bool) → Kept pair t (if b then p else peers.cleared (resets quiet p.phase) p).ends past
+        go : (b : Bool) → Kept pair t (if b then p else cleared (resets quiet p.phase) p).ends past
         go true = k
         go false = none-kept pair t p.ends past k
 
-    echo-kept : (byte : ℕ) (p : Peer) (past : Past) → Kept pair t p.ends past → Kept pair t (peers.calls_echo byte p).ends past
+    echo-kept : (byte : ℕ) (p : Peer) (past : Past) → Kept pair t p.ends past → Kept pair t (calls_echo byte p).ends past
     echo-kept byte p past k = go (up p.phase)
       where
-        go : (b : Bool) → Kept pair t (if b then peers.echo_called byte p else p).ends past
-        go true = while-up pair t (peers.echo_called byte p).phase p.ends past k
+        go : (b : Bool) → Kept pair t (if b then echo_called byte p else p).ends past
+        go true = while-up pair t (echo_called byte p).phase p.ends past k
         go false = k
 
-    done-kept : (call : Call) (s : PeerState) (past : Past) → Kept pair t s.peer.ends past → Kept pair (add (did_by pair (notes.Done call) s) t) (called_for call s).peer.ends (past_of_call pair call s past)
-    done-kept (calls_of.Reset peer) s past k = quiet-kept (peers.calls_reset (is_quiet s.slots) s.peer).ends past (reset-kept (is_quiet s.slots) s.peer past k)
-    done-kept (calls_of.AskSend peer local remote size room) s past k = call-kept (sockets local remote) (Ask_to_send size room) s past k
-    done-kept (calls_of.AskReceive peer local remote room) s past k = call-kept (sockets local remote) (Ask_to_receive room) s past k
-    done-kept (calls_of.Give peer p text) s past k = call-kept p (Give text) s past k
-    done-kept (calls_of.Take peer p bytes) s past k = call-kept p (Take bytes) s past k
-    done-kept (calls_of.Allocate peer p messages bits) s past k = call-kept p (Allocate messages bits) s past k
-    done-kept (calls_of.CallBack peer p fm fb) s past k = other-call p (Call_back fm fb) s past (either (up s.peer.phase) (same pair p)) k
-    done-kept (calls_of.Interrupt peer p) s past k = other-call p Interrupt s past (either (up s.peer.phase) (same pair p)) k
-    done-kept (calls_of.Echo peer byte) s past k = quiet-kept (peers.calls_echo byte s.peer).ends past (echo-kept byte s.peer past k)
-    done-kept (calls_of.Close peer p) s past k = other-call p Close s past (either (up s.peer.phase) (same pair p)) k
-    done-kept (calls_of.Wake peer) s past k = quiet-kept s.peer.ends past k
-    done-kept (calls_of.State peer p) s past k = quiet-kept s.peer.ends past k
-    done-kept (calls_of.Phase peer) s past k = quiet-kept s.peer.ends past k
-    done-kept (calls_of.Echoed peer) s past k = quiet-kept s.peer.ends past k
-    done-kept (calls_of.Errors peer) s past k = quiet-kept s.peer.ends past k
-    done-kept (calls_of.Counts peer) s past k = quiet-kept s.peer.ends past k
-    done-kept (calls_of.Waiting peer place) s past k = quiet-kept s.peer.ends past k
-    done-kept (calls_of.Kept peer link) s past k = quiet-kept s.peer.ends past k
-    done-kept calls_of.Ignored s past k = quiet-kept s.peer.ends past k
+    done-kept : (call : Call) (s : PeerState) (past : Past) → Kept pair t s.peer.ends past → Kept pair (add (did_by pair (HostNote.Done call) s) t) (called_for call s).peer.ends (past_of_call pair call s past)
+    done-kept (Call.Reset peer) s past k = quiet-kept (calls_reset (is_quiet s.slots) s.peer).ends past (reset-kept (is_quiet s.slots) s.peer past k)
+    done-kept (Call.AskSend peer local remote size room) s past k = call-kept (sockets local remote) (Ask_to_send size room) s past k
+    done-kept (Call.AskReceive peer local remote room) s past k = call-kept (sockets local remote) (Ask_to_receive room) s past k
+    done-kept (Call.Give peer p text) s past k = call-kept p (Give text) s past k
+    done-kept (Call.Take peer p bytes) s past k = call-kept p (Take bytes) s past k
+    done-kept (Call.Allocate peer p messages bits) s past k = call-kept p (Allocate messages bits) s past k
+    done-kept (Call.CallBack peer p fm fb) s past k = other-call p (Call_back fm fb) s past (either (up s.peer.phase) (same pair p)) k
+    done-kept (Call.Interrupt peer p) s past k = other-call p Interrupt s past (either (up s.peer.phase) (same pair p)) k
+    done-kept (Call.Echo peer byte) s past k = quiet-kept (calls_echo byte s.peer).ends past (echo-kept byte s.peer past k)
+    done-kept (Call.Close peer p) s past k = other-call p Close s past (either (up s.peer.phase) (same pair p)) k
+    done-kept (Call.Wake peer) s past k = quiet-kept s.peer.ends past k
+    done-kept (Call.State peer p) s past k = quiet-kept s.peer.ends past k
+    done-kept (Call.Phase peer) s past k = quiet-kept s.peer.ends past k
+    done-kept (Call.Echoed peer) s past k = quiet-kept s.peer.ends past k
+    done-kept (Call.Errors peer) s past k = quiet-kept s.peer.ends past k
+    done-kept (Call.Counts peer) s past k = quiet-kept s.peer.ends past k
+    done-kept (Call.Waiting peer place) s past k = quiet-kept s.peer.ends past k
+    done-kept (Call.Kept peer link) s past k = quiet-kept s.peer.ends past k
+    done-kept Call.Ignored s past k = quiet-kept s.peer.ends past k
 
     note-kept : (note : HostNote) (s : PeerState) (past : Past) → Kept pair t s.peer.ends past → Kept pair (add (did_by pair note s) t) (note_for note s).peer.ends (past_by pair note s past)
-    note-kept (notes.Refused call fault) s past k = quiet-kept s.peer.ends past k
-    note-kept (notes.Done call) s past k = done-kept call s past k
-    note-kept (notes.Took peer p bytes text) s past k = call-kept p (Take bytes) s past k
-    note-kept (notes.State peer p told) s past k = quiet-kept s.peer.ends past k
-    note-kept (notes.Phase peer flags) s past k = quiet-kept s.peer.ends past k
-    note-kept (notes.Echoed peer byte) s past k = quiet-kept s.peer.ends past k
-    note-kept (notes.Errors peer errors) s past k = quiet-kept s.peer.ends past k
-    note-kept (notes.Counts peer counts) s past k = quiet-kept s.peer.ends past k
-    note-kept (notes.Waiting peer place command) s past k = quiet-kept s.peer.ends past k
-    note-kept (notes.Kept peer link message) s past k = quiet-kept s.peer.ends past k
-    note-kept (notes.Ignored ignored) s past k = quiet-kept s.peer.ends past k
-    note-kept (notes.Out message) s past k = quiet-kept (out_for (leader_in message) message s).peer.ends past (sent-kept (leader_in message) message s past k)
-    note-kept notes.Nothing s past k = quiet-kept s.peer.ends past k
-    note-kept (notes.In message told) s past k = quiet-kept (bits_for (leader_in message) message s).peer.ends (past_bits pair (leader_in message) message s past) (bits-kept (leader_in message) message s past k)
-    note-kept (notes.Answered peer link how told) s past k = quiet-kept (answer_comes link how s).peer.ends past (answers-kept link how s past k)
+    note-kept (HostNote.Refused call fault) s past k = quiet-kept s.peer.ends past k
+    note-kept (HostNote.Done call) s past k = done-kept call s past k
+    note-kept (HostNote.Took peer p bytes text) s past k = call-kept p (Take bytes) s past k
+    note-kept (HostNote.State peer p told) s past k = quiet-kept s.peer.ends past k
+    note-kept (HostNote.Phase peer flags) s past k = quiet-kept s.peer.ends past k
+    note-kept (HostNote.Echoed peer byte) s past k = quiet-kept s.peer.ends past k
+    note-kept (HostNote.Errors peer errors) s past k = quiet-kept s.peer.ends past k
+    note-kept (HostNote.Counts peer counts) s past k = quiet-kept s.peer.ends past k
+    note-kept (HostNote.Waiting peer place command) s past k = quiet-kept s.peer.ends past k
+    note-kept (HostNote.Kept peer link message) s past k = quiet-kept s.peer.ends past k
+    note-kept (HostNote.Ignored ignored) s past k = quiet-kept s.peer.ends past k
+    note-kept (HostNote.Out message) s past k = quiet-kept (out_for (leader_in message) message s).peer.ends past (sent-kept (leader_in message) message s past k)
+    note-kept HostNote.Nothing s past k = quiet-kept s.peer.ends past k
+    note-kept (HostNote.In message told) s past k = quiet-kept (bits_for (leader_in message) message s).peer.ends (past_bits pair (leader_in message) message s past) (bits-kept (leader_in message) message s past k)
+    note-kept (HostNote.Answered peer link how told) s past k = quiet-kept (answer_comes link how s).peer.ends past (answers-kept link how s past k)
 
   pub run-kept : (pair : Pair) (all : List HostNote) (s : PeerState) (past : Past) (t : X) → Kept pair t s.peer.ends past → Kept pair (tallied add t (did_run pair all s)) (notes_for all s).peer.ends (past_from pair all s past)
   run-kept pair [] s past t k = k

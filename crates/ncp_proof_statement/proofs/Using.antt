@@ -16,23 +16,19 @@ use Rattle.ncp_host.specs.Turns.{next_output}
 use Rattle.ncp_host.specs.declared.received.Received.{Received}
 use Rattle.ncp_subnet.specs.Messages.{arriving, answer_about}
 use Rattle.ncp_transcript.specs.declared.call.Call.{Call}
-use Rattle.ncp_transcript.specs.declared.call.Call.TheVariants as calls
 use Rattle.ncp_transcript.specs.declared.note.HostNote.{HostNote}
-use Rattle.ncp_transcript.specs.declared.note.HostNote.TheVariants as of_host
 use Rattle.ncp_transcript.specs.Notes.{done_or_refused, told_or_refused}
 use Rattle.ncp_transcript.specs.Answers.{answer_to}
 use Rattle.ncp_transcript.specs.Noting.{CallNoted, answer_in, note_as, note_of_bits, note_of_message}
-use Rattle.ncp_proof_runs.specs.Peers.{names, notes_of}
-use Rattle.ncp_transcript_two.specs.Sides.{if_same, note_at, notes_at}
+use Rattle.ncp_proof_runs.specs.Peers.{names, notes_of_peer}
+use Rattle.ncp_transcript_two.specs.Sides.{if_same, notes_at_side, notes_at}
 use Rattle.ncp_transcript_two.specs.declared.side.Side.{Side}
 use Rattle.ncp_transcript_two.specs.declared.side.Side.TheVariants.{A, B}
 use Rattle.ncp_transcript_two.specs.declared.event.Event.{Event}
-use Rattle.ncp_transcript_two.specs.declared.event.Event.TheVariants as events
-use Rattle.ncp_transcript_two.specs.declared.note.Move.TheVariants as move_kinds
+use Rattle.ncp_transcript_two.specs.declared.note.Move.{Move}
 use Rattle.ncp_transcript_two.specs.declared.note.Note.{Note}
-use Rattle.ncp_transcript_two.specs.declared.note.Note.TheVariants as notes
-use Rattle.ncp_transcript_two.specs.Between.{Hosts, other, number_of, host_of, transit_of, after_note}
-use Rattle.ncp_transcript_two.specs.Happening.{Noted, came, answered}
+use Rattle.ncp_transcript_two.specs.Between.{Hosts, other, side_number, host_of, transit_of, hosts_after_note}
+use Rattle.ncp_transcript_two.specs.Happening.{Noted, note_of_coming, note_of_answering}
 use Rattle.ncp_transcript_two.specs.Transcript.{IsRun, began, IsTranscript}
 use Rattle.ncp_transcript_two.proofs.OnePeer.{only-peer}
 use Rattle.ncp_transcript_two.proofs.SeenSteps.{Stand}
@@ -89,7 +85,7 @@ module _ (pair : Pair) where
   by-append (x ∷ xs) ys = ap (λ (us : List Use). use_of pair x ∷ us) (by-append xs ys)
 
   abbrev UseStep : Side → Note → Hosts → Type 0
-  UseStep side note w = strip (use_at side pair note ∷ []) ≡ strip (uses_by pair (notes_of (number_of (other side) w) (note_at side note)))
+  UseStep side note w = strip (use_at side pair note ∷ []) ≡ strip (uses_by pair (notes_of_peer (side_number (other side) w) (notes_at_side side note)))
 
   nothing : (b : Bool) (hn : HostNote) → use_of pair hn ≡ Else → strip (use_of pair hn ∷ []) ≡ strip (uses_by pair (cond b (hn ∷ []) []))
   nothing true hn e = refl
@@ -105,69 +101,69 @@ module _ (pair : Pair) where
 
   module _ (side : Side) (w : Hosts) (k : Stand w) where
     abbrev Own : HostNote → Type 0
-    Own hn = strip (use_of pair hn ∷ []) ≡ strip (uses_by pair (notes_of (number_of (other side) w) (hn ∷ [])))
+    Own hn = strip (use_of pair hn ∷ []) ≡ strip (uses_by pair (notes_of_peer (side_number (other side) w) (hn ∷ [])))
 
     quiet : (hn : HostNote) → use_of pair hn ≡ Else → Own hn
-    quiet hn e = nothing (names (number_of (other side) w) hn) hn e
+    quiet hn e = nothing (names (side_number (other side) w) hn) hn e
 
-    of_peer : (peer : ℕ) (hn : HostNote) → names (number_of (other side) w) hn ≡ (peer == number_of (other side) w) → peer ≡ number_of (other side) w → Own hn
-    of_peer peer hn e is = named (names (number_of (other side) w) hn) hn (e ∙ eq-eqb peer (number_of (other side) w) is)
+    of_peer : (peer : ℕ) (hn : HostNote) → names (side_number (other side) w) hn ≡ (peer == side_number (other side) w) → peer ≡ side_number (other side) w → Own hn
+    of_peer peer hn e is = named (names (side_number (other side) w) hn) hn (e ∙ eq-eqb peer (side_number (other side) w) is)
 
-    own-made : {T : Type 0} (call : Call) (told : T → HostNote) (peer : ℕ) (f : PeerState → Result T CallFault) → ((x : T) → peer ≡ number_of (other side) w → Own (told x)) → Own (told_or_refused call told (if_known (state_of (host_of side w) peer) f))
+    own-made : {T : Type 0} (call : Call) (told : T → HostNote) (peer : ℕ) (f : PeerState → Result T CallFault) → ((x : T) → peer ≡ side_number (other side) w → Own (told x)) → Own (told_or_refused call told (if_known (state_of (host_of side w) peer) f))
     own-made call told peer f made = go (state_of (host_of side w) peer) refl
       where
         by : (s : PeerState) → state_of (host_of side w) peer ≡ Some s → (r : Result _ CallFault) → Own (told_or_refused call told r)
-        by s e (Ok x) = made x (only-peer (number_of (other side) w) peer s (host_of side w).peers (only-one side w k) e)
-        by s e (Err fault) = quiet (of_host.Refused call fault) refl
+        by s e (Ok x) = made x (only-peer (side_number (other side) w) peer s (host_of side w).peers (only-one side w k) e)
+        by s e (Err fault) = quiet (HostNote.Refused call fault) refl
 
         go : (o : Option PeerState) → state_of (host_of side w) peer ≡ o → Own (told_or_refused call told (if_known o f))
-        go None e = quiet (of_host.Refused call UnknownPeer) refl
+        go None e = quiet (HostNote.Refused call UnknownPeer) refl
         go (Some s) e = by s e (f s)
 
-    own-done : (call : Call) (peer : ℕ) (f : PeerState → Result (Unit {0}) CallFault) → names (number_of (other side) w) (of_host.Done call) ≡ (peer == number_of (other side) w) → Own (done_or_refused call (if_known (state_of (host_of side w) peer) f))
-    own-done call peer f e = subst Own (sym (same_note (if_known (state_of (host_of side w) peer) f))) (own-made call (λ (u : Unit {0}). of_host.Done call) peer f (λ x is. of_peer peer (of_host.Done call) e is))
+    own-done : (call : Call) (peer : ℕ) (f : PeerState → Result (Unit {0}) CallFault) → names (side_number (other side) w) (HostNote.Done call) ≡ (peer == side_number (other side) w) → Own (done_or_refused call (if_known (state_of (host_of side w) peer) f))
+    own-done call peer f e = subst Own (sym (same_note (if_known (state_of (host_of side w) peer) f))) (own-made call (λ (u : Unit {0}). HostNote.Done call) peer f (λ x is. of_peer peer (HostNote.Done call) e is))
       where
-        same_note : (r : Result (Unit {0}) CallFault) → done_or_refused call r ≡ told_or_refused call (λ (u : Unit {0}). of_host.Done call) r
+        same_note : (r : Result (Unit {0}) CallFault) → done_or_refused call r ≡ told_or_refused call (λ (u : Unit {0}). HostNote.Done call) r
         same_note (Ok u) = refl
         same_note (Err fault) = refl
 
     reading : {T : Type 0} (call : Call) (told : T → HostNote) (r : Result T CallFault) → ((x : T) → use_of pair (told x) ≡ Else) → Own (told_or_refused call told r)
     reading call told (Ok x) says = quiet (told x) (says x)
-    reading call told (Err fault) says = quiet (of_host.Refused call fault) refl
+    reading call told (Err fault) says = quiet (HostNote.Refused call fault) refl
 
     own-answer : (call : Call) → Own (answer_to call (host_of side w))
-    own-answer (calls.Reset peer) = own-done (calls.Reset peer) peer (λ s. reset_answer s.peer.phase) refl
-    own-answer (calls.AskSend peer local remote size room) = own-done (calls.AskSend peer local remote size room) peer (λ s. reply (comes_of (sockets local remote) (Ask_to_send size room) s.peer)) refl
-    own-answer (calls.AskReceive peer local remote room) = own-done (calls.AskReceive peer local remote room) peer (λ s. reply (comes_of (sockets local remote) (Ask_to_receive room) s.peer)) refl
-    own-answer (calls.Give peer q text) = own-done (calls.Give peer q text) peer (λ s. reply (comes_of q (Give text) s.peer)) refl
-    own-answer (calls.Take peer q bytes) = own-made (calls.Take peer q bytes) (of_host.Took peer q bytes) peer (λ s. reply_of_take (comes_of q (Take bytes) s.peer)) (λ x is. of_peer peer (of_host.Took peer q bytes x) refl is)
-    own-answer (calls.Allocate peer q m b) = own-done (calls.Allocate peer q m b) peer (λ s. reply (comes_of q (Allocate m b) s.peer)) refl
-    own-answer (calls.CallBack peer q fm fb) = own-done (calls.CallBack peer q fm fb) peer (λ s. reply (comes_of q (Call_back fm fb) s.peer)) refl
-    own-answer (calls.Interrupt peer q) = own-done (calls.Interrupt peer q) peer (λ s. reply (comes_of q Interrupt s.peer)) refl
-    own-answer (calls.Echo peer byte) = own-done (calls.Echo peer byte) peer (λ s. reply_of_echo byte s.peer) refl
-    own-answer (calls.Close peer q) = own-done (calls.Close peer q) peer (λ s. reply (comes_of q Close s.peer)) refl
-    own-answer (calls.Wake peer) = own-done (calls.Wake peer) peer (λ s. Ok tt) refl
-    own-answer (calls.State peer q) = reading (calls.State peer q) (of_host.State peer q) (record_told peer q (host_of side w)) (λ x. refl)
-    own-answer (calls.Phase peer) = reading (calls.Phase peer) (of_host.Phase peer) (flags_told peer (host_of side w)) (λ x. refl)
-    own-answer (calls.Echoed peer) = reading (calls.Echoed peer) (of_host.Echoed peer) (echoed_told peer (host_of side w)) (λ x. refl)
-    own-answer (calls.Errors peer) = reading (calls.Errors peer) (of_host.Errors peer) (errors_told peer (host_of side w)) (λ x. refl)
-    own-answer (calls.Counts peer) = reading (calls.Counts peer) (of_host.Counts peer) (counts_told peer (host_of side w)) (λ x. refl)
-    own-answer (calls.Waiting peer place) = quiet (answer_to (calls.Waiting peer place) (host_of side w)) refl
-    own-answer (calls.Kept peer link) = quiet (answer_to (calls.Kept peer link) (host_of side w)) refl
-    own-answer calls.Ignored = quiet (answer_to calls.Ignored (host_of side w)) refl
+    own-answer (Call.Reset peer) = own-done (Call.Reset peer) peer (λ s. reset_answer s.peer.phase) refl
+    own-answer (Call.AskSend peer local remote size room) = own-done (Call.AskSend peer local remote size room) peer (λ s. reply (comes_of (sockets local remote) (Ask_to_send size room) s.peer)) refl
+    own-answer (Call.AskReceive peer local remote room) = own-done (Call.AskReceive peer local remote room) peer (λ s. reply (comes_of (sockets local remote) (Ask_to_receive room) s.peer)) refl
+    own-answer (Call.Give peer q text) = own-done (Call.Give peer q text) peer (λ s. reply (comes_of q (Give text) s.peer)) refl
+    own-answer (Call.Take peer q bytes) = own-made (Call.Take peer q bytes) (HostNote.Took peer q bytes) peer (λ s. reply_of_take (comes_of q (Take bytes) s.peer)) (λ x is. of_peer peer (HostNote.Took peer q bytes x) refl is)
+    own-answer (Call.Allocate peer q m b) = own-done (Call.Allocate peer q m b) peer (λ s. reply (comes_of q (Allocate m b) s.peer)) refl
+    own-answer (Call.CallBack peer q fm fb) = own-done (Call.CallBack peer q fm fb) peer (λ s. reply (comes_of q (Call_back fm fb) s.peer)) refl
+    own-answer (Call.Interrupt peer q) = own-done (Call.Interrupt peer q) peer (λ s. reply (comes_of q Interrupt s.peer)) refl
+    own-answer (Call.Echo peer byte) = own-done (Call.Echo peer byte) peer (λ s. reply_of_echo byte s.peer) refl
+    own-answer (Call.Close peer q) = own-done (Call.Close peer q) peer (λ s. reply (comes_of q Close s.peer)) refl
+    own-answer (Call.Wake peer) = own-done (Call.Wake peer) peer (λ s. Ok tt) refl
+    own-answer (Call.State peer q) = reading (Call.State peer q) (HostNote.State peer q) (record_told peer q (host_of side w)) (λ x. refl)
+    own-answer (Call.Phase peer) = reading (Call.Phase peer) (HostNote.Phase peer) (flags_told peer (host_of side w)) (λ x. refl)
+    own-answer (Call.Echoed peer) = reading (Call.Echoed peer) (HostNote.Echoed peer) (echoed_told peer (host_of side w)) (λ x. refl)
+    own-answer (Call.Errors peer) = reading (Call.Errors peer) (HostNote.Errors peer) (errors_told peer (host_of side w)) (λ x. refl)
+    own-answer (Call.Counts peer) = reading (Call.Counts peer) (HostNote.Counts peer) (counts_told peer (host_of side w)) (λ x. refl)
+    own-answer (Call.Waiting peer place) = quiet (answer_to (Call.Waiting peer place) (host_of side w)) refl
+    own-answer (Call.Kept peer link) = quiet (answer_to (Call.Kept peer link) (host_of side w)) refl
+    own-answer Call.Ignored = quiet (answer_to Call.Ignored (host_of side w)) refl
 
     own : (call : Call) (hn : HostNote) → CallNoted call hn (host_of side w) → Own hn
     own call hn (inl e) = subst Own (sym e) (own-answer call)
-    own call hn (inr want) = subst Own (sym want.said) (quiet (of_host.Refused call OutOfMemory) refl)
+    own call hn (inr want) = subst Own (sym want.said) (quiet (HostNote.Refused call OutOfMemory) refl)
 
-  called : (side by : Side) (w : Hosts) → Stand w → (call : Call) (hn : HostNote) → CallNoted call hn (host_of by w) → UseStep side (notes.Called by hn) w
+  called : (side by : Side) (w : Hosts) → Stand w → (call : Call) (hn : HostNote) → CallNoted call hn (host_of by w) → UseStep side (Note.Called by hn) w
   called A A w k call hn c = own A w k call hn c
   called B B w k call hn c = own B w k call hn c
   called A B w k call hn c = refl
   called B A w k call hn c = refl
 
   -- what is no call is no use, at whichever side it is noted
-  no-use : (side at : Side) (hn : HostNote) (n : ℕ) → use_of pair hn ≡ Else → [] ≡ strip (uses_by pair (notes_of n (if_same side at hn)))
+  no-use : (side at : Side) (hn : HostNote) (n : ℕ) → use_of pair hn ≡ Else → [] ≡ strip (uses_by pair (notes_of_peer n (if_same side at hn)))
   no-use A A hn n e = aside (names n hn) hn e
   no-use B B hn n e = aside (names n hn) hn e
   no-use A B hn n e = refl
@@ -181,53 +177,53 @@ module _ (pair : Pair) where
   bits-use None bits r = refl
   bits-use (Some l) bits r = refl
 
-  came-here : (side by : Side) (link : ℕ) (o : Option (List Bool)) (w : Hosts) → UseStep side (came by link o w) w
+  came-here : (side by : Side) (link : ℕ) (o : Option (List Bool)) (w : Hosts) → UseStep side (note_of_coming by link o w) w
   came-here side by link None w = refl
-  came-here side by link (Some m) w = no-use side (other by) (note_of_bits m (host_of (other by) w)) (number_of (other side) w) (bits-use (answer_in m (host_of (other by) w)) m (received_in m (host_of (other by) w)))
+  came-here side by link (Some m) w = no-use side (other by) (note_of_bits m (host_of (other by) w)) (side_number (other side) w) (bits-use (answer_in m (host_of (other by) w)) m (received_in m (host_of (other by) w)))
 
-  answered-here : (side by : Side) (link : ℕ) (o : Option (List Bool)) (w : Hosts) → UseStep side (answered by link o w) w
+  answered-here : (side by : Side) (link : ℕ) (o : Option (List Bool)) (w : Hosts) → UseStep side (note_of_answering by link o w) w
   answered-here side by link None w = refl
-  answered-here side by link (Some m) w = no-use side by (note_of_bits m (host_of by w)) (number_of (other side) w) (bits-use (answer_in m (host_of by w)) m (received_in m (host_of by w)))
+  answered-here side by link (Some m) w = no-use side by (note_of_bits m (host_of by w)) (side_number (other side) w) (bits-use (answer_in m (host_of by w)) m (received_in m (host_of by w)))
 
-  lost-here : (side by : Side) (link : ℕ) (b : Bool) (w : Hosts) → UseStep side (if b then notes.Lost by link else notes.Nothing by link move_kinds.Lose) w
+  lost-here : (side by : Side) (link : ℕ) (b : Bool) (w : Hosts) → UseStep side (if b then Note.Lost by link else Note.Nothing by link Move.Lose) w
   lost-here side by link true w = refl
   lost-here side by link false w = refl
 
-  dead-here : (side by : Side) (link : ℕ) (b : Bool) (w : Hosts) → UseStep side (if b then notes.FoundDead by link else notes.Nothing by link move_kinds.Dead) w
+  dead-here : (side by : Side) (link : ℕ) (b : Bool) (w : Hosts) → UseStep side (if b then Note.FoundDead by link else Note.Nothing by link Move.Dead) w
   dead-here side by link true w = refl
   dead-here side by link false w = refl
 
   use-step : (side : Side) (w : Hosts) → Stand w → (event : Event) (note : Note) → Noted event note w → UseStep side note w
-  use-step side w k (events.Call by call) note n = subst (λ (y : Note). UseStep side y w) (sym n.said) (called side by w k call n.of_host n.noted)
-  use-step side w k (events.Out by) note n = subst (λ (y : Note). UseStep side y w) (sym n) (no-use side by (note_of_message (next_output (host_of by w))) (number_of (other side) w) (out-use (next_output (host_of by w))))
-  use-step side w k (events.Deliver by link) note n = subst (λ (y : Note). UseStep side y w) (sym n) (came-here side by link (arriving (number_of by w) (transit_of by link w)) w)
-  use-step side w k (events.Lose by link) note n = subst (λ (y : Note). UseStep side y w) (sym n) (lost-here side by link _ w)
-  use-step side w k (events.Dead by link) note n = subst (λ (y : Note). UseStep side y w) (sym n) (dead-here side by link _ w)
-  use-step side w k (events.Answer by link) note n = subst (λ (y : Note). UseStep side y w) (sym n) (answered-here side by link (answer_about (number_of (other by) w) link (transit_of by link w)) w)
+  use-step side w k (Event.Call by call) note n = subst (λ (y : Note). UseStep side y w) (sym n.said) (called side by w k call n.of_host n.noted)
+  use-step side w k (Event.Out by) note n = subst (λ (y : Note). UseStep side y w) (sym n) (no-use side by (note_of_message (next_output (host_of by w))) (side_number (other side) w) (out-use (next_output (host_of by w))))
+  use-step side w k (Event.Deliver by link) note n = subst (λ (y : Note). UseStep side y w) (sym n) (came-here side by link (arriving (side_number by w) (transit_of by link w)) w)
+  use-step side w k (Event.Lose by link) note n = subst (λ (y : Note). UseStep side y w) (sym n) (lost-here side by link _ w)
+  use-step side w k (Event.Dead by link) note n = subst (λ (y : Note). UseStep side y w) (sym n) (dead-here side by link _ w)
+  use-step side w k (Event.Answer by link) note n = subst (λ (y : Note). UseStep side y w) (sym n) (answered-here side by link (answer_about (side_number (other by) w) link (transit_of by link w)) w)
 
-  uses-walk : (side : Side) (ns : List Note) (w : Hosts) → IsRun ns w → Stand w → strip (uses side pair ns) ≡ strip (uses_by pair (notes_of (number_of (other side) w) (notes_at side ns)))
+  uses-walk : (side : Side) (ns : List Note) (w : Hosts) → IsRun ns w → Stand w → strip (uses side pair ns) ≡ strip (uses_by pair (notes_of_peer (side_number (other side) w) (notes_at side ns)))
   uses-walk side [] w r k = refl
   uses-walk side (note ∷ ns) w r k =
-      let n : ℕ = number_of (other side) w in
-      let own_notes : List HostNote = notes_of n (note_at side note) in
-      let rest : List HostNote = notes_of n (notes_at side ns) in
+      let n : ℕ = side_number (other side) w in
+      let own_notes : List HostNote = notes_of_peer n (notes_at_side side note) in
+      let rest : List HostNote = notes_of_peer n (notes_at side ns) in
       strip-append (use_at side pair note ∷ []) (uses side pair ns)
       ∙ ap (λ (us : List Use). us ++ strip (uses side pair ns)) (use-step side w k r.0.0 note r.0.1)
-      ∙ ap (λ (us : List Use). strip (uses_by pair own_notes) ++ us) (uses-walk side ns (after_note note w) r.1 (stand-after note w k))
-      ∙ ap (λ (j : ℕ). strip (uses_by pair own_notes) ++ strip (uses_by pair (notes_of j (notes_at side ns)))) (stays side note w)
+      ∙ ap (λ (us : List Use). strip (uses_by pair own_notes) ++ us) (uses-walk side ns (hosts_after_note note w) r.1 (stand-after note w k))
+      ∙ ap (λ (j : ℕ). strip (uses_by pair own_notes) ++ strip (uses_by pair (notes_of_peer j (notes_at side ns)))) (stays side note w)
       ∙ sym (strip-append (uses_by pair own_notes) (uses_by pair rest))
       ∙ ap strip (sym (by-append own_notes rest))
-      ∙ ap (λ (xs : List HostNote). strip (uses_by pair xs)) (sym (filter-append (names n) (note_at side note) (notes_at side ns)))
+      ∙ ap (λ (xs : List HostNote). strip (uses_by pair xs)) (sym (filter-append (names n) (notes_at_side side note) (notes_at side ns)))
 
-  same-uses : (side : Side) (ns : List Note) (w : Hosts) → IsTranscript ns w → strip (uses side pair ns) ≡ strip (uses_by pair (notes_of (number_of (other side) w) (notes_at side ns)))
+  same-uses : (side : Side) (ns : List Note) (w : Hosts) → IsTranscript ns w → strip (uses side pair ns) ≡ strip (uses_by pair (notes_of_peer (side_number (other side) w) (notes_at side ns)))
   same-uses A ns w t = uses-walk A ns (began w) t.run (stands ns w t)
   same-uses B ns w t = uses-walk B ns (began w) t.run (stands ns w t)
 
-  pub taken-by : (side : Side) (ns : List Note) (w : Hosts) → IsTranscript ns w → taken side pair ns ≡ taken_from [] (uses_by pair (notes_of (number_of (other side) w) (notes_at side ns)))
-  taken-by side ns w t = taken-strip (uses side pair ns) [] ∙ ap (taken_from []) (same-uses side ns w t) ∙ sym (taken-strip (uses_by pair (notes_of (number_of (other side) w) (notes_at side ns))) [])
+  pub taken-by : (side : Side) (ns : List Note) (w : Hosts) → IsTranscript ns w → taken side pair ns ≡ taken_from [] (uses_by pair (notes_of_peer (side_number (other side) w) (notes_at side ns)))
+  taken-by side ns w t = taken-strip (uses side pair ns) [] ∙ ap (taken_from []) (same-uses side ns w t) ∙ sym (taken-strip (uses_by pair (notes_of_peer (side_number (other side) w) (notes_at side ns))) [])
 
-  pub given-by : (side : Side) (ns : List Note) (w : Hosts) → IsTranscript ns w → given side pair ns ≡ given_from true [] (uses_by pair (notes_of (number_of (other side) w) (notes_at side ns)))
-  given-by side ns w t = given-strip (uses side pair ns) true [] ∙ ap (given_from true []) (same-uses side ns w t) ∙ sym (given-strip (uses_by pair (notes_of (number_of (other side) w) (notes_at side ns))) true [])
+  pub given-by : (side : Side) (ns : List Note) (w : Hosts) → IsTranscript ns w → given side pair ns ≡ given_from true [] (uses_by pair (notes_of_peer (side_number (other side) w) (notes_at side ns)))
+  given-by side ns w t = given-strip (uses side pair ns) true [] ∙ ap (given_from true []) (same-uses side ns w t) ∙ sym (given-strip (uses_by pair (notes_of_peer (side_number (other side) w) (notes_at side ns))) true [])
 
-  pub allowed-by : (side : Side) (ns : List Note) (w : Hosts) → IsTranscript ns w → allowed side pair ns ≡ allowed_from 0 (uses_by pair (notes_of (number_of (other side) w) (notes_at side ns)))
-  allowed-by side ns w t = allowed-strip (uses side pair ns) 0 ∙ ap (allowed_from 0) (same-uses side ns w t) ∙ sym (allowed-strip (uses_by pair (notes_of (number_of (other side) w) (notes_at side ns))) 0)
+  pub allowed-by : (side : Side) (ns : List Note) (w : Hosts) → IsTranscript ns w → allowed side pair ns ≡ allowed_from 0 (uses_by pair (notes_of_peer (side_number (other side) w) (notes_at side ns)))
+  allowed-by side ns w t = allowed-strip (uses side pair ns) 0 ∙ ap (allowed_from 0) (same-uses side ns w t) ∙ sym (allowed-strip (uses_by pair (notes_of_peer (side_number (other side) w) (notes_at side ns))) 0)

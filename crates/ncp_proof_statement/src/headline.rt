@@ -6,14 +6,14 @@ ghost use Rattle.ncp_model.specs.Pairs.{receives, turned};
 ghost use Rattle.ncp_model.specs.End.{is_live, or_new};
 ghost use Rattle.ncp_transcript_two.specs.declared.note.Note.{Note};
 ghost use Rattle.ncp_transcript_two.specs.declared.side.Side.{Side};
-ghost use Rattle.ncp_transcript_two.specs.Between.{Hosts, other, number_of, host_of, transit_of};
+ghost use Rattle.ncp_transcript_two.specs.Between.{Hosts, other, side_number, host_of, transit_of};
 ghost use Rattle.ncp_transcript_two.specs.Seen.{had_for};
 ghost use Rattle.ncp_transcript_two.specs.Transcript.{IsTranscript};
 ghost use Rattle.ncp_statement.specs.Statement.{taken, given, TakesGoOn, WithinAllowance, Each, ReadsAll, HasNoComplaint, InOrder, Delivers, carried, TakesWhatGoesOut, Headline};
 ghost use Rattle.ncp_proof_statement.specs.Since.{ComesRight};
 
 use ncp_proof_promises::promises::what_comes_acts_once_and_is_right;
-use ncp_proof_promises::taking::what_goes_out_is_taken as each_out_is_taken;
+use ncp_proof_promises::taking;
 use ncp_transcript_two::transcripts::{
     nothing_is_noted_only_where_nothing_can_be, transcripts_are_honest,
     transcripts_keep_the_headline,
@@ -30,7 +30,7 @@ pub fn takes_go_on()
 /// After any run, where an end that receives has opened and is not left, what `take` answered since the ask and what is
 /// held there are a beginning of what was given at the other host: of every pair, at either host.
 pub fn what_is_taken_and_held_begins_what_is_given()
-    ensures { (notes : List Note) (w : Hosts) (side : Side) (pair : Pair) → IsTranscript notes w → receives pair ≡ true → let end = get (had_for (number_of (other side) w) (host_of side w)).peer.ends pair in is_live end ≡ true → (or_new end).left ≡ false → (rest : List Bool) × (given (other side) (turned pair) notes ≡ (taken side pair notes ++ (or_new end).stored) ++ rest) }
+    ensures { (notes : List Note) (w : Hosts) (side : Side) (pair : Pair) → IsTranscript notes w → receives pair ≡ true → let end = get (had_for (side_number (other side) w) (host_of side w)).peer.ends pair in is_live end ≡ true → (or_new end).left ≡ false → (rest : List Bool) × (given (other side) (turned pair) notes ≡ (taken side pair notes ++ (or_new end).stored) ++ rest) }
 {
     transcripts_keep_the_headline();
 }
@@ -61,7 +61,7 @@ pub fn what_goes_out_is_taken()
     ensures carried { (notes : List Note) (w : Hosts) (side : Side) (on : ℕ) → IsTranscript notes w → carried side on notes ≡ transit_of side on w }
     ensures vain { (notes : List Note) (w : Hosts) → IsTranscript notes w → TakesWhatGoesOut notes }
 {
-    each_out_is_taken();
+    taking::what_goes_out_is_taken();
     nothing_is_noted_only_where_nothing_can_be();
 }
 

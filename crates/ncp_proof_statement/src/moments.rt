@@ -5,7 +5,7 @@ ghost use Rattle.ncp_model.specs.declared.pair.Pair.{Pair};
 ghost use Rattle.ncp_transcript_two.specs.declared.note.Note.{Note};
 ghost use Rattle.ncp_transcript_two.specs.Between.{Hosts};
 ghost use Rattle.ncp_transcript_two.specs.Transcript.{IsTranscript};
-ghost use Rattle.ncp_statement.specs.Examples.{asks_send, asks_receive, gives, takes};
+ghost use Rattle.ncp_statement.specs.Examples.{asks_send, asks_receive, noted_give, noted_take};
 ghost use Rattle.ncp_proof_statement.specs.Moments.{TakenBegins};
 
 use ncp_proof_headline::machines::hosts_are_tied_to_machines;
@@ -25,7 +25,7 @@ pub fn what_is_taken_begins_what_is_given()
 /// What that refuses: a text that was taken before it was given, or in another order; and one that still counts as
 /// taken where the sender asked anew and gave another.
 pub fn wrong_moments_are_seen()
-    ensures first { TakenBegins (asks_send ∷ asks_receive ∷ takes (true ∷ []) ∷ []) → ⊥ }
-    ensures order { TakenBegins (asks_send ∷ asks_receive ∷ gives (true ∷ []) ∷ gives (false ∷ []) ∷ takes (false ∷ []) ∷ []) → ⊥ }
-    ensures anew { TakenBegins (asks_send ∷ asks_receive ∷ gives (true ∷ []) ∷ takes (true ∷ []) ∷ asks_send ∷ gives (false ∷ []) ∷ []) → ⊥ }
+    ensures first { TakenBegins (asks_send ∷ asks_receive ∷ noted_take (true ∷ []) ∷ []) → ⊥ }
+    ensures order { TakenBegins (asks_send ∷ asks_receive ∷ noted_give (true ∷ []) ∷ noted_give (false ∷ []) ∷ noted_take (false ∷ []) ∷ []) → ⊥ }
+    ensures anew { TakenBegins (asks_send ∷ asks_receive ∷ noted_give (true ∷ []) ∷ noted_take (true ∷ []) ∷ asks_send ∷ noted_give (false ∷ []) ∷ []) → ⊥ }
 {}

@@ -11,10 +11,10 @@ ghost use Rattle.ncp_proof_watch.specs.Histories.{Past};
 ghost use Rattle.ncp_proof_watch.specs.Sound.{SoundAt};
 ghost use Rattle.ncp_host.specs.PeerState.{PeerState};
 ghost use Rattle.ncp_host.specs.Host.{state_of, new_host};
-ghost use Rattle.ncp_transcript.specs.declared.note.HostNote.{HostNote as Note};
+ghost use Rattle.ncp_transcript.specs.declared.note.HostNote.{HostNote};
 ghost use Rattle.ncp_transcript.specs.After.{after_notes};
-ghost use Rattle.ncp_proof_runs.specs.Peers.{FromBeginning, notes_of};
-ghost use Rattle.ncp_proof_runs.specs.Histories.{past_then, past_of};
+ghost use Rattle.ncp_proof_runs.specs.Peers.{FromBeginning, notes_of_peer};
+ghost use Rattle.ncp_proof_runs.specs.Histories.{past_then, past_so_far};
 ghost use Rattle.ncp_statement.specs.Statement.{taken_from, given_from, allowed_from};
 ghost use Rattle.ncp_proof_statement.specs.Since.{Takings, takings_then, TakenSince, Givings, givings_then, GivenSince, uses_by};
 
@@ -34,13 +34,13 @@ pub fn what_is_given_since_the_ask_is_given_since_the_opening()
 /// were allocated, each since the last ask that was done, are what was taken and granted since the connection opened.
 /// And of each pair, what was taken since the ask is never more than what was allocated.
 pub fn what_is_taken_since_the_ask_of_each_run()
-    ensures taken { (me : ℕ) (ns : List ℕ) (all : List Note) (n : ℕ) (s : PeerState) (pair : Pair) (e : End) → FromBeginning me ns all → state_of (after_notes all (new_host me ns)) n ≡ Some s → receives pair ≡ true → get s.peer.ends pair ≡ Some e → e.opened ≡ true → taken_from [] (uses_by pair (notes_of n all)) ≡ (past_of pair (notes_of n all)).taken }
-    ensures allowed { (me : ℕ) (ns : List ℕ) (all : List Note) (n : ℕ) (s : PeerState) (pair : Pair) (e : End) → FromBeginning me ns all → state_of (after_notes all (new_host me ns)) n ≡ Some s → receives pair ≡ true → get s.peer.ends pair ≡ Some e → e.opened ≡ true → allowed_from 0 (uses_by pair (notes_of n all)) ≡ (past_of pair (notes_of n all)).granted_bits }
-    ensures within { (me : ℕ) (ns : List ℕ) (all : List Note) (n : ℕ) (pair : Pair) → FromBeginning me ns all → length (taken_from [] (uses_by pair (notes_of n all))) ≤ allowed_from 0 (uses_by pair (notes_of n all)) }
+    ensures taken { (me : ℕ) (ns : List ℕ) (all : List HostNote) (n : ℕ) (s : PeerState) (pair : Pair) (e : End) → FromBeginning me ns all → state_of (after_notes all (new_host me ns)) n ≡ Some s → receives pair ≡ true → get s.peer.ends pair ≡ Some e → e.opened ≡ true → taken_from [] (uses_by pair (notes_of_peer n all)) ≡ (past_so_far pair (notes_of_peer n all)).taken }
+    ensures allowed { (me : ℕ) (ns : List ℕ) (all : List HostNote) (n : ℕ) (s : PeerState) (pair : Pair) (e : End) → FromBeginning me ns all → state_of (after_notes all (new_host me ns)) n ≡ Some s → receives pair ≡ true → get s.peer.ends pair ≡ Some e → e.opened ≡ true → allowed_from 0 (uses_by pair (notes_of_peer n all)) ≡ (past_so_far pair (notes_of_peer n all)).granted_bits }
+    ensures within { (me : ℕ) (ns : List ℕ) (all : List HostNote) (n : ℕ) (pair : Pair) → FromBeginning me ns all → length (taken_from [] (uses_by pair (notes_of_peer n all))) ≤ allowed_from 0 (uses_by pair (notes_of_peer n all)) }
 {}
 
 /// After any run, what the history of a pair that sends has as given is the joined texts of the gives since the last
 /// ask that has a give, by what the notes say; or it is nothing, as none was given since the pair opened.
 pub fn what_is_given_since_the_ask_of_each_run()
-    ensures { (me : ℕ) (ns : List ℕ) (all : List Note) (n : ℕ) (pair : Pair) → FromBeginning me ns all → sends pair ≡ true → (none : Bool) × ((past_of pair (notes_of n all)).given ≡ (if none then [] else given_from true [] (uses_by pair (notes_of n all)))) }
+    ensures { (me : ℕ) (ns : List ℕ) (all : List HostNote) (n : ℕ) (pair : Pair) → FromBeginning me ns all → sends pair ≡ true → (none : Bool) × ((past_so_far pair (notes_of_peer n all)).given ≡ (if none then [] else given_from true [] (uses_by pair (notes_of_peer n all)))) }
 {}

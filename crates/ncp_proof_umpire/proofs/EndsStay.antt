@@ -2,14 +2,12 @@
 use Rattle.std.proofs.Common.{◌≡◌, ℕ, Bool, true, List, [], Option, None, Some, refl, ap}
 use Rattle.std.specs.FinMap.{get}
 use Rattle.ncp_terms.specs.declared.command.Command.{Command}
-use Rattle.ncp_terms.specs.declared.command.Command.TheVariants as commands
 use Rattle.ncp_model.specs.declared.pair.Pair.{Pair}
 use Rattle.ncp_model.specs.End.{End}
 use Rattle.ncp_model.specs.Act.{Act, end_after}
 use Rattle.ncp_model.specs.Texts.{hear_text, Rfnm}
 use Rattle.ncp_model.specs.Ends.{Ends, uses_link, sender_on, receiver_on, pair_of, leads_to, hear, text_in, cut_in, answered_in, map_after, map_after_at}
 use Rattle.ncp_model.specs.Happenings.{Happening, Happened, happens}
-use Rattle.ncp_model.specs.Happenings as all
 use Rattle.ncp_model.specs.Leading.{suits, comes}
 use Rattle.ncp_model.proofs.LinksLead.{led, command-led, cut-led, answered-led, suits-led, user-receives}
 use Rattle.ncp_proof_machine.proofs.EndsGood.{Good, Fresh, act-changes, none-fresh, comes-fresh, good-after}
@@ -21,14 +19,14 @@ looked m None act f g = g
 looked m (Some pair) act f g = let w = f pair refl in good-after m (map_after m pair act) pair w.0 w.2 (act-changes m pair w.0 act w.1) w.3 g
 
 comes_some : (c : Command) (m : Ends) (pair : Pair) → leads_to c m ≡ Some pair → (what : Happening) × (comes c m ≡ Some what)
-comes_some (commands.Rts a b d) m pair e = (_, refl)
-comes_some (commands.Str a b d) m pair e = (_, refl)
-comes_some (commands.Cls a b) m pair e = (_, refl)
-comes_some (commands.All a b d) m pair e = (_, refl)
-comes_some (commands.Gvb a b d) m pair e = (_, refl)
-comes_some (commands.Ret a b d) m pair e = (_, refl)
-comes_some (commands.Inr a) m pair e = (_, refl)
-comes_some (commands.Ins a) m pair e = (_, refl)
+comes_some (Command.Rts a b d) m pair e = (_, refl)
+comes_some (Command.Str a b d) m pair e = (_, refl)
+comes_some (Command.Cls a b) m pair e = (_, refl)
+comes_some (Command.All a b d) m pair e = (_, refl)
+comes_some (Command.Gvb a b d) m pair e = (_, refl)
+comes_some (Command.Ret a b d) m pair e = (_, refl)
+comes_some (Command.Inr a) m pair e = (_, refl)
+comes_some (Command.Ins a) m pair e = (_, refl)
 comes_some c m pair e = absurd (cc e)
 
 pub command_good : (c : Command) (m : Ends) → Good m → Good (map_after_at m (leads_to c m) (hear c m))
@@ -40,18 +38,18 @@ pub text_good : (m : Ends) (on of_size : ℕ) (text : List Bool) → Good m → 
 text_good m on of_size text =
     looked m (pair_of (receiver_on on m)) (text_in on of_size text m)
     (λ pair e. let l = led (uses_link on) m pair e in (
-      all.Text_comes [] of_size text,
+      Happening.Text_comes [] of_size text,
       ap (λ (o : Option End). end_after (get m pair) (hear_text of_size text o)) l.0,
       user-receives on pair (get m pair) l.1,
-      none-fresh m (all.Text_comes [] of_size text) (λ k. refl) (λ k. refl),
+      none-fresh m (Happening.Text_comes [] of_size text) (λ k. refl) (λ k. refl),
     ))
 
 pub cut_good : (m : Ends) (on : ℕ) → Good m → Good (map_after_at m (pair_of (sender_on on m)) (cut_in on m))
 cut_good m on =
     looked m (pair_of (sender_on on m)) (cut_in on m)
-    (λ pair e. let l = cut-led m on pair e in (all.Text_goes_out, ap (λ (d : Happened). d.after) l.1, l.0, none-fresh m all.Text_goes_out (λ k. refl) (λ k. refl)))
+    (λ pair e. let l = cut-led m on pair e in (Happening.Text_goes_out, ap (λ (d : Happened). d.after) l.1, l.0, none-fresh m Happening.Text_goes_out (λ k. refl) (λ k. refl)))
 
 pub answered_good : (m : Ends) (on : ℕ) → Good m → Good (map_after_at m (pair_of (sender_on on m)) (answered_in on Rfnm m))
 answered_good m on =
     looked m (pair_of (sender_on on m)) (answered_in on Rfnm m)
-    (λ pair e. let l = answered-led m on Rfnm pair e in (all.Is_answered Rfnm, ap (λ (d : Happened). d.after) l.1, l.0, none-fresh m (all.Is_answered Rfnm) (λ k. refl) (λ k. refl)))
+    (λ pair e. let l = answered-led m on Rfnm pair e in (Happening.Is_answered Rfnm, ap (λ (d : Happened). d.after) l.1, l.0, none-fresh m (Happening.Is_answered Rfnm) (λ k. refl) (λ k. refl)))

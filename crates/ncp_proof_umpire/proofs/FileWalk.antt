@@ -5,12 +5,10 @@ use Rattle.ncp_host.specs.PeerState.{PeerState}
 use Rattle.ncp_host.specs.Host.{Host, state_of, is_one_of, are_distinct, new_host}
 use Rattle.ncp_host.specs.Turns.{next_output}
 use Rattle.ncp_transcript.specs.declared.input.Input.{Input}
-use Rattle.ncp_transcript.specs.declared.input.Input.TheVariants as inputs
 use Rattle.ncp_transcript.specs.declared.note.HostNote.{HostNote}
-use Rattle.ncp_transcript.specs.declared.note.HostNote.TheVariants as notes
 use Rattle.ncp_transcript.specs.After.{after_note}
 use Rattle.ncp_transcript.specs.Noting.{answer_in, note_of_message}
-use Rattle.ncp_transcript.specs.Runs.{IsSaid, AreNotes}
+use Rattle.ncp_transcript.specs.Runs.{IsHostSaid, AreHostNotes}
 use Rattle.ncp_transcript.proofs.Saying.{noted_said}
 use Rattle.ncp_transcript_two.proofs.Fitting.{note-fits}
 use Rattle.ncp_proof_runs.proofs.Said.{IsOut}
@@ -22,14 +20,14 @@ use Rattle.ncp_umpire.specs.declared.way.Way.{Way}
 use Rattle.ncp_umpire.specs.declared.way.Way.TheVariants.{ToImp, FromImp}
 use Rattle.ncp_umpire.specs.Judged.{new_umpire, record_findings, after_record}
 use Rattle.ncp_umpire.proofs.Passing.{Pass, both}
-use Rattle.ncp_proof_umpire.specs.Recordings.{gone_by, recording, spares, begun, AreFit, any_rule, at_interface, found_at, NobodyBlamed}
+use Rattle.ncp_proof_umpire.specs.Recordings.{gone_by, recording, spares, begun_alone, AreFit, any_rule, at_interface, found_at, NobodyBlamed}
 use Rattle.ncp_proof_umpire.proofs.Spared.{spared}
 use Rattle.ncp_proof_umpire.proofs.Steps.{noted}
 use Rattle.ncp_proof_umpire.proofs.Leaders.{peers_parts, peer_of_turn}
 use Rattle.ncp_proof_umpire.proofs.HostSlots.{call_noted}
 use Rattle.ncp_proof_umpire.proofs.Linked.{after_call, after_out_of, after_in_of}
-use Rattle.ncp_proof_umpire.proofs.LinkWalk.{begins as follows_begins}
-use Rattle.ncp_proof_umpire.proofs.ReadyPeers.{AllReady, ready_after, fits_in, fits_out, begins as ready_begins}
+use Rattle.ncp_proof_umpire.proofs.LinkWalk.{follows_begins}
+use Rattle.ncp_proof_umpire.proofs.ReadyPeers.{AllReady, ready_after, fits_in, fits_out, ready_begins}
 use Rattle.ncp_proof_umpire.proofs.PhaseWalk.{call_all, in_all, out_all, out_spared, seen_begins}
 use Rattle.ncp_proof_umpire.proofs.Others.{Watched, watched, other_leaves}
 
@@ -80,32 +78,32 @@ no_more me (one ∷ more) umpire e = go (one.0 == me) refl (no_more me more (aft
 
 -- ---- the walk
 
-walk : (ns : List ℕ) (me : ℕ) (given : List Input) (noted : List HostNote) (h : Host) (umpire : Umpire) (file : List (ℕ × Way × List Bool)) → me < 256 → is_one_of me ns ≡ false → Holds ns h → Watched me h umpire → AllReady h → AreFit given → AreNotes given noted h
+walk : (ns : List ℕ) (me : ℕ) (given : List Input) (noted : List HostNote) (h : Host) (umpire : Umpire) (file : List (ℕ × Way × List Bool)) → me < 256 → is_one_of me ns ≡ false → Holds ns h → Watched me h umpire → AllReady h → AreFit given → AreHostNotes given noted h
     → at_interface me file ≡ recording given noted → Pass (spares any_rule me) (found_at umpire me file)
 walk ns me [] noted h umpire file l a k w ready f p e = no_more me file umpire e
 walk ns me (input ∷ given) [] h umpire file l a k w ready f p e = no_more me file umpire e
-walk ns me (inputs.Call call ∷ given) (note ∷ noted) h umpire file l a k w ready f p e =
-    let said = noted_said (inputs.Call call) note h p.0 in
+walk ns me (Input.Call call ∷ given) (note ∷ noted) h umpire file l a k w ready f p e =
+    let said = noted_said (Input.Call call) note h p.0 in
     let c = call_noted call note h p.0 in
     walk ns me given noted (after_note note h) umpire file l a (holds-after ns note h k said) (record { follows = after_call ns me note h umpire k said c w.follows; seen = call_all ns me note h umpire k said c ready w.seen })
     (ready_after ns note h k said (note-fits call note h p.0 f.0) ready) f.1 p.1 e
-walk ns me (inputs.In bits ∷ given) (note ∷ noted) h umpire file l a k w ready f p e =
-    let said = noted_said (inputs.In bits) note h p.0 in
+walk ns me (Input.In bits ∷ given) (note ∷ noted) h umpire file l a k w ready f p e =
+    let said = noted_said (Input.In bits) note h p.0 in
     skip me h file umpire (FromImp, bits) (recording given noted) (λ n s there. (k.good n s there).0) w e
     (λ u more v d.
     both (spares any_rule me) (record_findings u FromImp me bits) (found_at (after_record u FromImp me bits) me more) (spared any_rule me u bits)
     (walk ns me given noted (after_note note h) (after_record u FromImp me bits) more l a (holds-after ns note h k said)
     (record { follows = after_in_of ns me h u bits note k a said p.0 v.follows; seen = in_all ns me h u bits note k a l said p.0 v.follows v.seen })
     (ready_after ns note h k said (fits_in (answer_in bits h) bits h note p.0) ready) f p.1 d))
-walk ns me (inputs.Out ∷ given) (note ∷ noted) h umpire file l a k w ready f p e =
-    let said = noted_said inputs.Out note h p.0 in
+walk ns me (Input.Out ∷ given) (note ∷ noted) h umpire file l a k w ready f p e =
+    let said = noted_said Input.Out note h p.0 in
     go (next_output h) refl p.0 said e
     (λ u more v d. walk ns me given noted (after_note note h) u more l a (holds-after ns note h k said) v (ready_after ns note h k said (fits_out (next_output h) note p.0) ready) f p.1 d)
   where
     Rest : HostNote → Type 0
     Rest x = (u : Umpire) (more : List (ℕ × Way × List Bool)) → Watched me (after_note x h) u → at_interface me more ≡ recording given noted → Pass (spares any_rule me) (found_at u me more)
 
-    out : (message : List Bool) → next_output h ≡ Some message → IsSaid (notes.Out message) h → at_interface me file ≡ (ToImp, message) ∷ recording given noted → Rest (notes.Out message) → Pass (spares any_rule me) (found_at umpire me file)
+    out : (message : List Bool) → next_output h ≡ Some message → IsHostSaid (HostNote.Out message) h → at_interface me file ≡ (ToImp, message) ∷ recording given noted → Rest (HostNote.Out message) → Pass (spares any_rule me) (found_at umpire me file)
     out message q said e rest =
         let t = out-turn ns h message k q in
         let is : IsOut t.n message t.s = out-is ns h message k t in
@@ -119,19 +117,19 @@ walk ns me (inputs.Out ∷ given) (note ∷ noted) h umpire file l a k w ready f
           seen = out_all ns me t.n h u message t.s is k l a said t.found v.follows ready v.seen other;
         }) d))
 
-    go : (o : Option (List Bool)) → next_output h ≡ o → note ≡ note_of_message o → IsSaid note h → at_interface me file ≡ gone_by note ++ recording given noted → Rest note → Pass (spares any_rule me) (found_at umpire me file)
+    go : (o : Option (List Bool)) → next_output h ≡ o → note ≡ note_of_message o → IsHostSaid note h → at_interface me file ≡ gone_by note ++ recording given noted → Rest note → Pass (spares any_rule me) (found_at umpire me file)
     go None q is said e rest = (subst Rest is rest) umpire file w (subst (λ (x : HostNote). at_interface me file ≡ gone_by x ++ recording given noted) is e)
     go (Some message) q is said e rest =
-        out message q (subst (λ (x : HostNote). IsSaid x h) is said) (subst (λ (x : HostNote). at_interface me file ≡ gone_by x ++ recording given noted) is e) (subst Rest is rest)
+        out message q (subst (λ (x : HostNote). IsHostSaid x h) is said) (subst (λ (x : HostNote). at_interface me file ≡ gone_by x ++ recording given noted) is e) (subst Rest is rest)
 
 -- from the beginning
-pub run_spared : (ns : List ℕ) (me : ℕ) (given : List Input) (noted : List HostNote) (file : List (ℕ × Way × List Bool)) → are_distinct ns ≡ true → is_one_of me ns ≡ false → ((n : ℕ) → is_one_of n ns ≡ true → n < 256) → me < 256 → AreFit given → AreNotes given noted (new_host me ns)
+pub run_spared : (ns : List ℕ) (me : ℕ) (given : List Input) (noted : List HostNote) (file : List (ℕ × Way × List Bool)) → are_distinct ns ≡ true → is_one_of me ns ≡ false → ((n : ℕ) → is_one_of n ns ≡ true → n < 256) → me < 256 → AreFit given → AreHostNotes given noted (new_host me ns)
     → at_interface me file ≡ recording given noted → Pass (spares any_rule me) (found_at (new_umpire false) me file)
 run_spared ns me given noted file distinct away places small fit p here =
     walk ns me given noted (new_host me ns) (new_umpire false) file small away (new-holds me ns distinct places) (record { follows = follows_begins me ns; seen = seen_begins me ns }) (ready_begins me ns) fit p here
 
 pub none_blamed : NobodyBlamed
 none_blamed me ns given now file peers places small fit steps here =
-    let w = noted given (begun me ns) now steps in
+    let w = noted given (begun_alone me ns) now steps in
     let parts = peers_parts me ns peers in
     run_spared ns me given w.0 file parts.0 parts.1 places small fit w.2 (subst (λ (all : List HostNote). at_interface me file ≡ recording given all) w.1 here)

@@ -5,13 +5,11 @@ use Rattle.ncp_numbers.specs.Bytes.{bytes_of}
 use Rattle.ncp_leader.specs.declared.leader.Leader.{Leader}
 use Rattle.ncp_leader.specs.declared.leader.Short.{Short}
 use Rattle.ncp_leader.specs.declared.fault.MessageFault.{MessageFault}
-use Rattle.ncp_leader.specs.declared.fault.MessageFault.TheVariants as faults
 use Rattle.ncp_leader.specs.declared.regular.TheConstants.{FRONT_BITS}
 use Rattle.ncp_leader.specs.Leader.{leader_in, number_at}
 use Rattle.ncp_leader.specs.Message.{Message, message_in, message_at, size_at, text_end}
 use Rattle.ncp_terms.specs.declared.command.Command.{Command}
 use Rattle.ncp_terms.specs.declared.command.Command.TheVariants.{Rst, Rrp}
-use Rattle.ncp_terms.specs.declared.command.Command.TheVariants as commands
 use Rattle.ncp_terms.specs.declared.fault.CommandFault.{CommandFault}
 use Rattle.ncp_terms.specs.declared.answer.Answer.{Answer}
 use Rattle.ncp_terms.specs.declared.answer.Answer.TheVariants.{Rfnm, Incomplete, Dead}
@@ -19,7 +17,7 @@ use Rattle.ncp_terms.specs.Spelling.{IsCommand}
 use Rattle.ncp_control.specs.Reading.{commands_in, fault_in}
 use Rattle.ncp_control.proofs.Reading.{reads, error_at_fault}
 use Rattle.ncp_control.proofs.Text.{bytes_are_small}
-use Rattle.ncp_slot.specs.declared.slot.Slot.TheVariants as slots
+use Rattle.ncp_slot.specs.declared.slot.Slot.{Slot}
 use Rattle.ncp_slot.specs.Slots.{LinkSlot, LinkSlots, slot_at, with_slot, is_quiet}
 use Rattle.ncp_slot.specs.Slot.{answered}
 use Rattle.ncp_model.specs.declared.pair.Pair.{Pair}
@@ -27,25 +25,22 @@ use Rattle.ncp_model.specs.Act.{answer, made_if_any, made_by_call}
 use Rattle.ncp_model.specs.Echo.{echo_answer}
 use Rattle.ncp_model.specs.Ends.{Ends, put, sender_on, receiver_on, pair_of, leads_to, hear, text_in, answered_in, map_after_at, no_ends}
 use Rattle.ncp_model.specs.Happenings.{Happening, happens}
-use Rattle.ncp_model.specs.Phase.{up, is_resetting, makes_all}
-use Rattle.ncp_model.specs.Phase as phases
+use Rattle.ncp_model.specs.Phase.{up, is_resetting, makes_all, phase_hears, resets}
 use Rattle.ncp_model.specs.Sending.{is_full}
 use Rattle.ncp_model.specs.Texts.{made_by_text}
-use Rattle.ncp_model.specs.Peers.{Peer, Call, Ask_to_send, Ask_to_receive, Close, Give, Take, Allocate, Call_back, Interrupt}
-use Rattle.ncp_model.specs.Peers as peers
+use Rattle.ncp_model.specs.Peers.{Peer, PairCall, Ask_to_send, Ask_to_receive, Close, Give, Take, Allocate, Call_back, Interrupt, called, calls_echo, calls_reset, calls_up, cleared, cuts, echo_called, frees, frees_up, hears, hears_fault, hears_other, hears_text, makes, peer_sends, reaction, takes_text}
+use Rattle.ncp_model.specs.Peers
 use Rattle.ncp_proof_machine.proofs.EndsGood.{Good, none-good, good-after, put-changes, called-suits, called-fresh}
 use Rattle.ncp_transcript_two.specs.Tie.{IsPair, IsCall, Well}
-use Rattle.ncp_transcript_two.specs.Seen.{told_call, Fits}
+use Rattle.ncp_transcript_two.specs.Seen.{told_call, NoteFits}
 use Rattle.ncp_transcript_two.proofs.Well.{makes-well, calls-well, echo-well, reset-well, settles-well, sends-well, hears-well, text-well, frees-well, cuts-well}
 use Rattle.ncp_host.specs.PeerState.{PeerState, control_link, frees_on, after_answer, is_answered, answer_taken, answer_comes}
 use Rattle.ncp_host.specs.Counting.{one_more}
-use Rattle.ncp_host.specs.Hearing.{hears, hears_all, hears_last, hears_text, control_size, control_after, text_after, is_wrong_link, message_after}
+use Rattle.ncp_host.specs.Hearing.{state_hears, state_hears_all, hears_last, state_hears_text, control_size, state_after_control, state_after_text, is_wrong_link, message_after}
 use Rattle.ncp_host.specs.Output.{after_by}
 use Rattle.ncp_host.specs.Calls.{sockets}
-use Rattle.ncp_transcript.specs.declared.call.Call.{Call as Called}
-use Rattle.ncp_transcript.specs.declared.call.Call.TheVariants as calls
+use Rattle.ncp_transcript.specs.declared.call.Call.{Call}
 use Rattle.ncp_transcript.specs.declared.note.HostNote.{HostNote}
-use Rattle.ncp_transcript.specs.declared.note.HostNote.TheVariants as notes
 use Rattle.ncp_proof_runs.specs.Peers.{called_for, bits_for, out_for, note_for}
 use Rattle.ncp_proof_umpire.proofs.EndsStay.{command_good, text_good, cut_good, answered_good}
 
@@ -73,76 +68,76 @@ second p = p.1
 
 -- ---- calls
 
-calls_fine : (pair : Pair) (call : Call) (p : Peer) → IsPair pair × IsCall call → Fine p → Fine (peers.calls pair call p)
+calls_fine : (pair : Pair) (call : PairCall) (p : Peer) → IsPair pair × IsCall call → Fine p → Fine (Peers.calls pair call p)
 calls_fine pair call p f k =
-    let what : Happening = peers.called call (is_full p.phase) p.ends in
+    let what : Happening = called call (is_full p.phase) p.ends in
     let did = happens pair what (get p.ends pair) in
     record {
-      good = good_if (up p.phase) (peers.calls_up pair call p) p
+      good = good_if (up p.phase) (calls_up pair call p) p
           (kept_good (up (makes_all did.made p.phase)) (put p.ends pair did.after)
           (good-after p.ends (put p.ends pair did.after) pair what (called-suits pair call (is_full p.phase) p.ends) (put-changes p.ends pair what) (called-fresh call (is_full p.phase) p.ends) k.good))
           k.good;
       well = calls-well pair call p (first f) (second f) (k.good.limits pair) k.well;
     }
 
-echo_fine : (byte : ℕ) (p : Peer) → byte < 2 ^ 8 → Fine p → Fine (peers.calls_echo byte p)
+echo_fine : (byte : ℕ) (p : Peer) → byte < 2 ^ 8 → Fine p → Fine (calls_echo byte p)
 echo_fine byte p f k = record {
-  good = good_if (up p.phase) (peers.echo_called byte p) p (kept_good (up (makes_all (made_by_call (echo_answer byte (is_full p.phase) p.echoes)) p.phase)) p.ends k.good) k.good;
+  good = good_if (up p.phase) (echo_called byte p) p (kept_good (up (makes_all (made_by_call (echo_answer byte (is_full p.phase) p.echoes)) p.phase)) p.ends k.good) k.good;
   well = echo-well byte p f k.well;
 }
 
-reset_fine : (q : Bool) (p : Peer) → Fine p → Fine (peers.calls_reset q p)
-reset_fine q p k = record { good = good_if (is_resetting p.phase) p (peers.cleared (phases.resets q p.phase) p) k.good none-good; well = reset-well q p k.well }
+reset_fine : (q : Bool) (p : Peer) → Fine p → Fine (calls_reset q p)
+reset_fine q p k = record { good = good_if (is_resetting p.phase) p (cleared (resets q p.phase) p) k.good none-good; well = reset-well q p k.well }
 
-called_fine : (call : Called) (s : PeerState) → Fits (told_call (notes.Done call)) → Fine s.peer → Fine (called_for call s).peer
-called_fine (calls.Reset peer) s f k = reset_fine (is_quiet s.slots) s.peer k
-called_fine (calls.AskSend peer local remote size room) s f k = calls_fine (sockets local remote) (Ask_to_send size room) s.peer f k
-called_fine (calls.AskReceive peer local remote room) s f k = calls_fine (sockets local remote) (Ask_to_receive room) s.peer f k
-called_fine (calls.Give peer pair text) s f k = calls_fine pair (Give text) s.peer f k
-called_fine (calls.Take peer pair bytes) s f k = calls_fine pair (Take bytes) s.peer f k
-called_fine (calls.Allocate peer pair messages bits) s f k = calls_fine pair (Allocate messages bits) s.peer f k
-called_fine (calls.CallBack peer pair fm fb) s f k = calls_fine pair (Call_back fm fb) s.peer f k
-called_fine (calls.Interrupt peer pair) s f k = calls_fine pair Interrupt s.peer f k
-called_fine (calls.Echo peer byte) s f k = echo_fine byte s.peer f k
-called_fine (calls.Close peer pair) s f k = calls_fine pair Close s.peer f k
-called_fine (calls.Wake peer) s f k = k
-called_fine (calls.State peer pair) s f k = k
-called_fine (calls.Phase peer) s f k = k
-called_fine (calls.Echoed peer) s f k = k
-called_fine (calls.Errors peer) s f k = k
-called_fine (calls.Counts peer) s f k = k
-called_fine (calls.Waiting peer place) s f k = k
-called_fine (calls.Kept peer link) s f k = k
-called_fine calls.Ignored s f k = k
+called_fine : (call : Call) (s : PeerState) → NoteFits (told_call (HostNote.Done call)) → Fine s.peer → Fine (called_for call s).peer
+called_fine (Call.Reset peer) s f k = reset_fine (is_quiet s.slots) s.peer k
+called_fine (Call.AskSend peer local remote size room) s f k = calls_fine (sockets local remote) (Ask_to_send size room) s.peer f k
+called_fine (Call.AskReceive peer local remote room) s f k = calls_fine (sockets local remote) (Ask_to_receive room) s.peer f k
+called_fine (Call.Give peer pair text) s f k = calls_fine pair (Give text) s.peer f k
+called_fine (Call.Take peer pair bytes) s f k = calls_fine pair (Take bytes) s.peer f k
+called_fine (Call.Allocate peer pair messages bits) s f k = calls_fine pair (Allocate messages bits) s.peer f k
+called_fine (Call.CallBack peer pair fm fb) s f k = calls_fine pair (Call_back fm fb) s.peer f k
+called_fine (Call.Interrupt peer pair) s f k = calls_fine pair Interrupt s.peer f k
+called_fine (Call.Echo peer byte) s f k = echo_fine byte s.peer f k
+called_fine (Call.Close peer pair) s f k = calls_fine pair Close s.peer f k
+called_fine (Call.Wake peer) s f k = k
+called_fine (Call.State peer pair) s f k = k
+called_fine (Call.Phase peer) s f k = k
+called_fine (Call.Echoed peer) s f k = k
+called_fine (Call.Errors peer) s f k = k
+called_fine (Call.Counts peer) s f k = k
+called_fine (Call.Waiting peer place) s f k = k
+called_fine (Call.Kept peer link) s f k = k
+called_fine Call.Ignored s f k = k
 
 -- ---- bits come
 
-hears_fine : (q : Bool) (c : Command) (p : Peer) → IsCommand c → Fine p → Fine (peers.hears q c p)
+hears_fine : (q : Bool) (c : Command) (p : Peer) → IsCommand c → Fine p → Fine (hears q c p)
 hears_fine q c p f k = record { good = by c; well = hears-well q c p f k.good k.well }
   where
-    by : (c : Command) → Good (peers.hears q c p).ends
+    by : (c : Command) → Good (hears q c p).ends
     by Rst = none-good
     by Rrp = k.good
-    by c = good_if (up p.phase) (peers.hears_other q c p) p (kept_good (up (phases.hears c (peers.reaction q c p) p.phase)) (map_after_at p.ends (leads_to c p.ends) (hear c p.ends)) (command_good c p.ends k.good)) k.good
+    by c = good_if (up p.phase) (hears_other q c p) p (kept_good (up (phase_hears c (reaction q c p) p.phase)) (map_after_at p.ends (leads_to c p.ends) (hear c p.ends)) (command_good c p.ends k.good)) k.good
 
-all_fine : (cs : List Command) (s : PeerState) → All IsCommand cs → Fine s.peer → Fine (hears_all cs s).peer
+all_fine : (cs : List Command) (s : PeerState) → All IsCommand cs → Fine s.peer → Fine (state_hears_all cs s).peer
 all_fine [] s f k = k
-all_fine (c ∷ cs) s f k = all_fine cs (hears c s) (λ i d l. f (suc i) d (omega (arith, l))) (hears_fine (is_quiet s.slots) c s.peer (f 0 c (omega arith)) k)
+all_fine (c ∷ cs) s f k = all_fine cs (state_hears c s) (λ i d l. f (suc i) d (omega (arith, l))) (hears_fine (is_quiet s.slots) c s.peer (f 0 c (omega arith)) k)
 
-fault_fine : (fault : CommandFault) (p : Peer) → IsCommand (commands.Err fault.code fault.bytes) → Fine p → Fine (peers.hears_fault fault p)
+fault_fine : (fault : CommandFault) (p : Peer) → IsCommand (Command.Err fault.code fault.bytes) → Fine p → Fine (hears_fault fault p)
 fault_fine fault p f k =
-    let cs : List Command = commands.Err fault.code fault.bytes ∷ [] in
-    fine_if (up p.phase) (peers.makes cs p) p (record { good = kept_good (up (makes_all cs p.phase)) p.ends k.good; well = makes-well cs p (f, tt) k.well }) k
+    let cs : List Command = Command.Err fault.code fault.bytes ∷ [] in
+    fine_if (up p.phase) (makes cs p) p (record { good = kept_good (up (makes_all cs p.phase)) p.ends k.good; well = makes-well cs p (f, tt) k.well }) k
 
-last_fine : (o : Option CommandFault) (s : PeerState) → ((fault : CommandFault) → o ≡ Some fault → IsCommand (commands.Err fault.code fault.bytes)) → Fine s.peer → Fine (hears_last o s).peer
+last_fine : (o : Option CommandFault) (s : PeerState) → ((fault : CommandFault) → o ≡ Some fault → IsCommand (Command.Err fault.code fault.bytes)) → Fine s.peer → Fine (hears_last o s).peer
 last_fine None s f k = k
 last_fine (Some fault) s f k = fault_fine fault s.peer (f fault refl) k
 
-text_fine : (on : ℕ) (head : List Bool) (of_size : ℕ) (text : List Bool) (p : Peer) → length head ≡ 72 → Fine p → Fine (peers.hears_text on head of_size text p)
+text_fine : (on : ℕ) (head : List Bool) (of_size : ℕ) (text : List Bool) (p : Peer) → length head ≡ 72 → Fine p → Fine (hears_text on head of_size text p)
 text_fine on head of_size text p l k =
     let took = text_in on of_size text p.ends in
     record {
-      good = good_if (up p.phase) (peers.takes_text on head of_size text p) p
+      good = good_if (up p.phase) (takes_text on head of_size text p) p
           (kept_good (up (makes_all (made_by_text head text (answer took)) p.phase)) (map_after_at p.ends (pair_of (receiver_on on p.ends)) took) (text_good p.ends on of_size text k.good))
           k.good;
       well = text-well on head of_size text p l k.good k.well;
@@ -152,11 +147,11 @@ long : (bits : List Bool) (m : Message) → message_in bits ≡ Ok m → length 
 long bits m e = go (nat_lt (length bits) FRONT_BITS) refl e
   where
     go : (b : Bool) → nat_lt (length bits) FRONT_BITS ≡ b
-        → (if b then Err faults.ShortPrefix
-        else if not (number_at bits 32 8 == 0) then Err faults.M1NotZero
-        else if size_at bits == 0 then Err faults.SizeZero
-        else if not (number_at bits 64 8 == 0) then Err faults.M2NotZero
-        else if nat_lt (length bits) (text_end bits) then Err faults.TextMissing
+        → (if b then Err MessageFault.ShortPrefix
+        else if not (number_at bits 32 8 == 0) then Err MessageFault.M1NotZero
+        else if size_at bits == 0 then Err MessageFault.SizeZero
+        else if not (number_at bits 64 8 == 0) then Err MessageFault.M2NotZero
+        else if nat_lt (length bits) (text_end bits) then Err MessageFault.TextMissing
         else Ok (message_at bits)) ≡ Ok m
         → length (take FRONT_BITS bits) ≡ 72
     go true g e = absurd (cc)
@@ -169,16 +164,16 @@ message_fine on bits (Ok m) s e k = go (is_wrong_link on) (on == control_link) (
     bytes : List ℕ
     bytes = bytes_of m.text
 
-    control : Fine (hears_text (commands_in bytes) (fault_in bytes) s).peer
+    control : Fine (state_hears_text (commands_in bytes) (fault_in bytes) s).peer
     control =
         let small = bytes_are_small m.text in
-        last_fine (fault_in bytes) (hears_all (commands_in bytes) s) (λ fault f. error_at_fault bytes fault small f) (all_fine (commands_in bytes) s (reads bytes small).each k)
+        last_fine (fault_in bytes) (state_hears_all (commands_in bytes) s) (λ fault f. error_at_fault bytes fault small f) (all_fine (commands_in bytes) s (reads bytes small).each k)
 
-    in_control : (b : Bool) → Fine (if b then hears_text (commands_in bytes) (fault_in bytes) s else record s { counts = record s.counts { wrong_size = one_more s.counts.wrong_size } }).peer
+    in_control : (b : Bool) → Fine (if b then state_hears_text (commands_in bytes) (fault_in bytes) s else record s { counts = record s.counts { wrong_size = one_more s.counts.wrong_size } }).peer
     in_control true = control
     in_control false = k
 
-    go : (wrong zero eight : Bool) → Fine (if wrong then record s { counts = record s.counts { wrong_link = one_more s.counts.wrong_link } } else if zero then control_after m s else text_after on (take FRONT_BITS bits) m s).peer
+    go : (wrong zero eight : Bool) → Fine (if wrong then record s { counts = record s.counts { wrong_link = one_more s.counts.wrong_link } } else if zero then state_after_control m s else state_after_text on (take FRONT_BITS bits) m s).peer
     go true zero eight = k
     go false true eight = in_control (m.size == control_size)
     go false false eight = text_fine on (take FRONT_BITS bits) m.size m.text s.peer (long bits m e) k
@@ -189,11 +184,11 @@ bits_fine (Ok leader) bits s k = message_fine leader.link bits (message_in bits)
 
 -- ---- an answer comes
 
-frees_fine : (on : ℕ) (p : Peer) → Fine p → Fine (peers.frees on p)
+frees_fine : (on : ℕ) (p : Peer) → Fine p → Fine (frees on p)
 frees_fine on p k =
     let act = answered_in on Rfnm p.ends in
     record {
-      good = good_if (up p.phase) (peers.frees_up on p) p (kept_good (up (makes_all (made_if_any (answer act)) p.phase)) (map_after_at p.ends (pair_of (sender_on on p.ends)) act) (answered_good p.ends on k.good)) k.good;
+      good = good_if (up p.phase) (frees_up on p) p (kept_good (up (makes_all (made_if_any (answer act)) p.phase)) (map_after_at p.ends (pair_of (sender_on on p.ends)) act) (answered_good p.ends on k.good)) k.good;
       well = frees-well on p k.good k.well;
     }
 
@@ -203,7 +198,7 @@ answer_fine on how s k = go (is_answered on s)
     now : LinkSlots
     now = with_slot s.slots on (answered how (slot_at s.slots on))
 
-    freed : (b : Bool) → Fine (if b then s.peer else peers.frees on s.peer)
+    freed : (b : Bool) → Fine (if b then s.peer else frees on s.peer)
     freed true = k
     freed false = frees_fine on s.peer k
 
@@ -224,31 +219,31 @@ out_fine : (r : Result Leader Short) (message : List Bool) (s : PeerState) → F
 out_fine (Err short) message s k = k
 out_fine (Ok leader) message s k = by (slot_at s.slots leader.link)
   where
-    made : (b : Bool) → Fine (if b then peers.sends s.peer else peers.cuts leader.link s.peer)
+    made : (b : Bool) → Fine (if b then peer_sends s.peer else cuts leader.link s.peer)
     made true = record { good = k.good; well = sends-well s.peer k.well }
     made false = record { good = cut_good s.peer.ends leader.link k.good; well = cuts-well leader.link s.peer k.well }
 
     by : (slot : LinkSlot) → Fine (after_by slot leader.link s.peer)
-    by slots.Empty = made (leader.link == control_link)
-    by (slots.Ready m) = k
-    by (slots.Travelling m) = k
-    by (slots.Held m) = k
+    by Slot.Empty = made (leader.link == control_link)
+    by (Slot.Ready m) = k
+    by (Slot.Travelling m) = k
+    by (Slot.Held m) = k
 
 -- ---- a note
 
-pub note_fine : (note : HostNote) (s : PeerState) → Fits (told_call note) → Fine s.peer → Fine (note_for note s).peer
-note_fine (notes.Refused call fault) s f k = k
-note_fine (notes.Done call) s f k = called_fine call s f k
-note_fine (notes.Took peer pair bytes text) s f k = calls_fine pair (Take bytes) s.peer f k
-note_fine (notes.State peer pair r) s f k = k
-note_fine (notes.Phase peer flags) s f k = k
-note_fine (notes.Echoed peer byte) s f k = k
-note_fine (notes.Errors peer errors) s f k = k
-note_fine (notes.Counts peer counts) s f k = k
-note_fine (notes.Waiting peer place command) s f k = k
-note_fine (notes.Kept peer link message) s f k = k
-note_fine (notes.Ignored ignored) s f k = k
-note_fine (notes.Out message) s f k = out_fine (leader_in message) message s k
-note_fine notes.Nothing s f k = k
-note_fine (notes.In message received) s f k = bits_fine (leader_in message) message s k
-note_fine (notes.Answered peer link how received) s f k = answer_fine link how s k
+pub note_fine : (note : HostNote) (s : PeerState) → NoteFits (told_call note) → Fine s.peer → Fine (note_for note s).peer
+note_fine (HostNote.Refused call fault) s f k = k
+note_fine (HostNote.Done call) s f k = called_fine call s f k
+note_fine (HostNote.Took peer pair bytes text) s f k = calls_fine pair (Take bytes) s.peer f k
+note_fine (HostNote.State peer pair r) s f k = k
+note_fine (HostNote.Phase peer flags) s f k = k
+note_fine (HostNote.Echoed peer byte) s f k = k
+note_fine (HostNote.Errors peer errors) s f k = k
+note_fine (HostNote.Counts peer counts) s f k = k
+note_fine (HostNote.Waiting peer place command) s f k = k
+note_fine (HostNote.Kept peer link message) s f k = k
+note_fine (HostNote.Ignored ignored) s f k = k
+note_fine (HostNote.Out message) s f k = out_fine (leader_in message) message s k
+note_fine HostNote.Nothing s f k = k
+note_fine (HostNote.In message received) s f k = bits_fine (leader_in message) message s k
+note_fine (HostNote.Answered peer link how received) s f k = answer_fine link how s k

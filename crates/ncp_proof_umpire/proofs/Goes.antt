@@ -10,30 +10,28 @@ use Rattle.ncp_leader.proofs.Messages.{message_leader}
 use Rattle.ncp_host.specs.Output.{leader_to, links}
 use Rattle.ncp_host.specs.Host.{is_one_of}
 use Rattle.ncp_umpire.specs.declared.finding.Rule.{Rule}
-use Rattle.ncp_umpire.specs.declared.finding.Rule.TheVariants as rule
 use Rattle.ncp_umpire.specs.declared.kept.Slot.{Slot}
-use Rattle.ncp_umpire.specs.declared.kept.Slot.TheVariants as slot
 use Rattle.ncp_umpire.specs.declared.umpire.Umpire.{Umpire}
-use Rattle.ncp_umpire.specs.Messages.{is_unused, bits_behind, has_extras, extras_of, rule_of_message}
-use Rattle.ncp_umpire.specs.Judged.{by_host, slot_of, same_of, out_rule, out_finding}
+use Rattle.ncp_umpire.specs.Messages.{is_unused, bits_after_text, has_extras, extras_of, rule_of_message}
+use Rattle.ncp_umpire.specs.Judged.{by_host, slot_of_link, same_of, out_rule, out_finding}
 use Rattle.ncp_proof_umpire.specs.Recordings.{spares}
 use Rattle.ncp_umpire.proofs.Passing.{Pass, one}
 use Rattle.ncp_proof_umpire.proofs.Spared.{rule_spared}
 
 -- ---- the rules of links, where they are not asked for
 
-pub links_unjudged : (judged : Rule → Bool) (umpire : Umpire) (me n on : ℕ) (bits : List Bool) → judged (rule.Occupied on) ≡ false → judged (rule.Changed on) ≡ false
+pub links_unjudged : (judged : Rule → Bool) (umpire : Umpire) (me n on : ℕ) (bits : List Bool) → judged (Rule.Occupied on) ≡ false → judged (Rule.Changed on) ≡ false
     → Pass (spares judged me) (option_to_list (out_finding umpire me n on bits))
-links_unjudged judged umpire me n on bits o c = go umpire.full (slot_of umpire me n on) (same_of umpire me n on bits)
+links_unjudged judged umpire me n on bits o c = go umpire.full (slot_of_link umpire me n on) (same_of umpire me n on bits)
   where
     go : (full : Bool) (s : Slot) (same : Bool) → Pass (spares judged me) (option_to_list (if full then None else option_map (by_host me) (out_rule s same on)))
     go true s same = refl
-    go false slot.Unknown same = refl
-    go false slot.Empty same = refl
-    go false slot.Out same = one (spares judged me) (by_host me (rule.Occupied on)) (rule_spared judged me (by_host me (rule.Occupied on)) o)
-    go false slot.Came same = one (spares judged me) (by_host me (rule.Occupied on)) (rule_spared judged me (by_host me (rule.Occupied on)) o)
-    go false slot.Again true = refl
-    go false slot.Again false = one (spares judged me) (by_host me (rule.Changed on)) (rule_spared judged me (by_host me (rule.Changed on)) c)
+    go false Slot.Unknown same = refl
+    go false Slot.Empty same = refl
+    go false Slot.Out same = one (spares judged me) (by_host me (Rule.Occupied on)) (rule_spared judged me (by_host me (Rule.Occupied on)) o)
+    go false Slot.Came same = one (spares judged me) (by_host me (Rule.Occupied on)) (rule_spared judged me (by_host me (Rule.Occupied on)) o)
+    go false Slot.Again true = refl
+    go false Slot.Again false = one (spares judged me) (by_host me (Rule.Changed on)) (rule_spared judged me (by_host me (Rule.Changed on)) c)
 
 -- ---- a link that is used
 
@@ -54,7 +52,7 @@ used on h = not_true (is_unused on) (in_all (λ (k : ℕ). not (is_unused k)) li
 
 -- a message on it breaks no rule of its leader by itself
 pub rules_of_used : (judged : Rule → Bool) (bits : List Bool) (n on : ℕ) (r : Rule) → leader_in bits ≡ Ok (leader_to n on) → is_unused on ≡ false
-    → ((m : MessageFault) → judged (rule.Fault m on) ≡ false) → ((size : ℕ) → judged (rule.WrongSize size) ≡ false) → ((flags low text rest : ℕ) → judged (rule.Extras flags low text rest) ≡ false)
+    → ((m : MessageFault) → judged (Rule.Fault m on) ≡ false) → ((size : ℕ) → judged (Rule.WrongSize size) ≡ false) → ((flags low text rest : ℕ) → judged (Rule.Extras flags low text rest) ≡ false)
     → rule_of_message (message_in bits) on (length bits) ≡ Some r → judged r ≡ false
 rules_of_used judged bits n on r led u f w x e = read (message_in bits) refl e
   where
@@ -71,12 +69,12 @@ rules_of_used judged bits n on r led u f w x e = read (message_in bits) refl e
         ap (λ (l : Leader). is_unused l.link) here ∙ u
 
     by_parts : (m : Message) (a b c : Bool) → a ≡ false
-        → (if a then Some (rule.WrongLink m.leader.link) else if b then Some (rule.WrongSize m.size) else if c then Some (extras_of m (length bits)) else None) ≡ Some r → judged r ≡ false
+        → (if a then Some (Rule.WrongLink m.leader.link) else if b then Some (Rule.WrongSize m.size) else if c then Some (extras_of m (length bits)) else None) ≡ Some r → judged r ≡ false
     by_parts m true b c a q = absurd (cc)
-    by_parts m false true c a q = is (rule.WrongSize m.size) (w m.size) q
-    by_parts m false false true a q = is (extras_of m (length bits)) (x m.leader.flags m.leader.low (length m.text) (bits_behind m (length bits))) q
+    by_parts m false true c a q = is (Rule.WrongSize m.size) (w m.size) q
+    by_parts m false false true a q = is (extras_of m (length bits)) (x m.leader.flags m.leader.low (length m.text) (bits_after_text m (length bits))) q
     by_parts m false false false a q = absurd (cc)
 
     read : (o : Result Message MessageFault) → message_in bits ≡ o → rule_of_message o on (length bits) ≡ Some r → judged r ≡ false
-    read (Err fault) g q = is (rule.Fault fault on) (f fault) q
+    read (Err fault) g q = is (Rule.Fault fault on) (f fault) q
     read (Ok m) g q = by_parts m (is_unused m.leader.link) (m.leader.link == 0 && not (m.size == 8)) (has_extras m (length bits)) (link_of m g) q

@@ -5,7 +5,7 @@ use Rattle.ncp_leader.specs.declared.leader.Short.{Short}
 use Rattle.ncp_leader.specs.Message.{message_in}
 use Rattle.ncp_terms.specs.declared.answer.Answer.{Answer}
 use Rattle.ncp_terms.specs.declared.answer.Answer.TheVariants.{Rfnm, Incomplete, Dead}
-use Rattle.ncp_slot.specs.declared.slot.Slot.TheVariants as host
+use Rattle.ncp_slot.specs.declared.slot.Slot.{Slot}
 use Rattle.ncp_slot.specs.Slot.{answered, is_travelling, woken}
 use Rattle.ncp_slot.specs.Slots.{LinkSlot, LinkSlots, slot_at}
 use Rattle.ncp_slot.proofs.Places.{slot_at-with_slot_same, slot_at-with_slot_other}
@@ -17,14 +17,12 @@ use Rattle.ncp_host.specs.PeerState.{PeerState, is_answered, answer_taken, answe
 use Rattle.ncp_host.specs.Host.{Host, state_of}
 use Rattle.ncp_host.specs.Calls.{call_reply, take_reply, reset_reply, echo_reply, wake_reply, record_told, flags_told, echoed_told, errors_told, counts_told, sockets}
 use Rattle.ncp_transcript.specs.declared.call.Call.{Call}
-use Rattle.ncp_transcript.specs.declared.call.Call.TheVariants as calls
 use Rattle.ncp_transcript.specs.declared.note.HostNote.{HostNote}
-use Rattle.ncp_transcript.specs.declared.note.HostNote.TheVariants as notes
 use Rattle.ncp_transcript.specs.Notes.{done_or_refused, told_or_refused}
 use Rattle.ncp_transcript.specs.Answers.{answer_to}
 use Rattle.ncp_transcript.specs.After.{after_note}
 use Rattle.ncp_transcript.specs.Noting.{CallNoted}
-use Rattle.ncp_transcript.specs.Runs.{IsSaid}
+use Rattle.ncp_transcript.specs.Runs.{IsHostSaid}
 use Rattle.ncp_proof_runs.specs.Peers.{names, called_for, bits_for, note_for}
 use Rattle.ncp_proof_runs.proofs.States.{done}
 use Rattle.ncp_proof_runs.proofs.PeerRuns.{message-slots}
@@ -33,10 +31,10 @@ use Rattle.ncp_proof_runs.proofs.HostRuns.{Holds, some_same, note-state}
 -- ---- the note of a call
 
 abbrev pub is_of_call : HostNote → Bool
-is_of_call (notes.Out message) = false
-is_of_call notes.Nothing = false
-is_of_call (notes.In message received) = false
-is_of_call (notes.Answered peer link how received) = false
+is_of_call (HostNote.Out message) = false
+is_of_call HostNote.Nothing = false
+is_of_call (HostNote.In message received) = false
+is_of_call (HostNote.Answered peer link how received) = false
 is_of_call other = true
 
 done_call : (call : Call) (r : Result (Unit {0}) CallFault) → is_of_call (done_or_refused call r) ≡ true
@@ -48,25 +46,25 @@ told_call call told (Ok a) h = h a
 told_call call told (Err fault) h = refl
 
 answer_call : (call : Call) (h : Host) → is_of_call (answer_to call h) ≡ true
-answer_call (calls.Reset peer) h = done_call (calls.Reset peer) (reset_reply peer h)
-answer_call (calls.AskSend peer local remote size room) h = done_call (calls.AskSend peer local remote size room) (call_reply peer (sockets local remote) (Ask_to_send size room) h)
-answer_call (calls.AskReceive peer local remote room) h = done_call (calls.AskReceive peer local remote room) (call_reply peer (sockets local remote) (Ask_to_receive room) h)
-answer_call (calls.Give peer pair text) h = done_call (calls.Give peer pair text) (call_reply peer pair (Give text) h)
-answer_call (calls.Take peer pair bytes) h = told_call (calls.Take peer pair bytes) (notes.Took peer pair bytes) (take_reply peer pair bytes h) (λ a. refl)
-answer_call (calls.Allocate peer pair messages bits) h = done_call (calls.Allocate peer pair messages bits) (call_reply peer pair (Allocate messages bits) h)
-answer_call (calls.CallBack peer pair fm fb) h = done_call (calls.CallBack peer pair fm fb) (call_reply peer pair (Call_back fm fb) h)
-answer_call (calls.Interrupt peer pair) h = done_call (calls.Interrupt peer pair) (call_reply peer pair Interrupt h)
-answer_call (calls.Echo peer byte) h = done_call (calls.Echo peer byte) (echo_reply peer byte h)
-answer_call (calls.Close peer pair) h = done_call (calls.Close peer pair) (call_reply peer pair Close h)
-answer_call (calls.Wake peer) h = done_call (calls.Wake peer) (wake_reply peer h)
-answer_call (calls.State peer pair) h = told_call (calls.State peer pair) (notes.State peer pair) (record_told peer pair h) (λ a. refl)
-answer_call (calls.Phase peer) h = told_call (calls.Phase peer) (notes.Phase peer) (flags_told peer h) (λ a. refl)
-answer_call (calls.Echoed peer) h = told_call (calls.Echoed peer) (notes.Echoed peer) (echoed_told peer h) (λ a. refl)
-answer_call (calls.Errors peer) h = told_call (calls.Errors peer) (notes.Errors peer) (errors_told peer h) (λ a. refl)
-answer_call (calls.Counts peer) h = told_call (calls.Counts peer) (notes.Counts peer) (counts_told peer h) (λ a. refl)
-answer_call (calls.Waiting peer place) h = refl
-answer_call (calls.Kept peer link) h = refl
-answer_call calls.Ignored h = refl
+answer_call (Call.Reset peer) h = done_call (Call.Reset peer) (reset_reply peer h)
+answer_call (Call.AskSend peer local remote size room) h = done_call (Call.AskSend peer local remote size room) (call_reply peer (sockets local remote) (Ask_to_send size room) h)
+answer_call (Call.AskReceive peer local remote room) h = done_call (Call.AskReceive peer local remote room) (call_reply peer (sockets local remote) (Ask_to_receive room) h)
+answer_call (Call.Give peer pair text) h = done_call (Call.Give peer pair text) (call_reply peer pair (Give text) h)
+answer_call (Call.Take peer pair bytes) h = told_call (Call.Take peer pair bytes) (HostNote.Took peer pair bytes) (take_reply peer pair bytes h) (λ a. refl)
+answer_call (Call.Allocate peer pair messages bits) h = done_call (Call.Allocate peer pair messages bits) (call_reply peer pair (Allocate messages bits) h)
+answer_call (Call.CallBack peer pair fm fb) h = done_call (Call.CallBack peer pair fm fb) (call_reply peer pair (Call_back fm fb) h)
+answer_call (Call.Interrupt peer pair) h = done_call (Call.Interrupt peer pair) (call_reply peer pair Interrupt h)
+answer_call (Call.Echo peer byte) h = done_call (Call.Echo peer byte) (echo_reply peer byte h)
+answer_call (Call.Close peer pair) h = done_call (Call.Close peer pair) (call_reply peer pair Close h)
+answer_call (Call.Wake peer) h = done_call (Call.Wake peer) (wake_reply peer h)
+answer_call (Call.State peer pair) h = told_call (Call.State peer pair) (HostNote.State peer pair) (record_told peer pair h) (λ a. refl)
+answer_call (Call.Phase peer) h = told_call (Call.Phase peer) (HostNote.Phase peer) (flags_told peer h) (λ a. refl)
+answer_call (Call.Echoed peer) h = told_call (Call.Echoed peer) (HostNote.Echoed peer) (echoed_told peer h) (λ a. refl)
+answer_call (Call.Errors peer) h = told_call (Call.Errors peer) (HostNote.Errors peer) (errors_told peer h) (λ a. refl)
+answer_call (Call.Counts peer) h = told_call (Call.Counts peer) (HostNote.Counts peer) (counts_told peer h) (λ a. refl)
+answer_call (Call.Waiting peer place) h = refl
+answer_call (Call.Kept peer link) h = refl
+answer_call Call.Ignored h = refl
 
 pub call_noted : (call : Call) (note : HostNote) (h : Host) → CallNoted call note h → is_of_call note ≡ true
 call_noted call note h (inl e) = ap is_of_call e ∙ answer_call call h
@@ -78,42 +76,42 @@ abbrev pub Leaves : ℕ → PeerState → PeerState → Type 0
 Leaves on s now = (slot_at now.slots on ≡ slot_at s.slots on) ⊎ (slot_at now.slots on ≡ woken (slot_at s.slots on))
 
 called : (call : Call) (s : PeerState) (on : ℕ) → Leaves on s (called_for call s)
-called (calls.Reset peer) s on = inl refl
-called (calls.AskSend peer local remote size room) s on = inl refl
-called (calls.AskReceive peer local remote room) s on = inl refl
-called (calls.Give peer pair text) s on = inl refl
-called (calls.Take peer pair bytes) s on = inl refl
-called (calls.Allocate peer pair messages bits) s on = inl refl
-called (calls.CallBack peer pair fm fb) s on = inl refl
-called (calls.Interrupt peer pair) s on = inl refl
-called (calls.Echo peer byte) s on = inl refl
-called (calls.Close peer pair) s on = inl refl
-called (calls.Wake peer) s on = inr (slot_at-all_woken s.slots on)
-called (calls.State peer pair) s on = inl refl
-called (calls.Phase peer) s on = inl refl
-called (calls.Echoed peer) s on = inl refl
-called (calls.Errors peer) s on = inl refl
-called (calls.Counts peer) s on = inl refl
-called (calls.Waiting peer place) s on = inl refl
-called (calls.Kept peer link) s on = inl refl
-called calls.Ignored s on = inl refl
+called (Call.Reset peer) s on = inl refl
+called (Call.AskSend peer local remote size room) s on = inl refl
+called (Call.AskReceive peer local remote room) s on = inl refl
+called (Call.Give peer pair text) s on = inl refl
+called (Call.Take peer pair bytes) s on = inl refl
+called (Call.Allocate peer pair messages bits) s on = inl refl
+called (Call.CallBack peer pair fm fb) s on = inl refl
+called (Call.Interrupt peer pair) s on = inl refl
+called (Call.Echo peer byte) s on = inl refl
+called (Call.Close peer pair) s on = inl refl
+called (Call.Wake peer) s on = inr (slot_at-all_woken s.slots on)
+called (Call.State peer pair) s on = inl refl
+called (Call.Phase peer) s on = inl refl
+called (Call.Echoed peer) s on = inl refl
+called (Call.Errors peer) s on = inl refl
+called (Call.Counts peer) s on = inl refl
+called (Call.Waiting peer place) s on = inl refl
+called (Call.Kept peer link) s on = inl refl
+called Call.Ignored s on = inl refl
 
 pub call_leaves : (note : HostNote) → is_of_call note ≡ true → (s : PeerState) (on : ℕ) → Leaves on s (note_for note s)
-call_leaves (notes.Refused call fault) e s on = inl refl
-call_leaves (notes.Done call) e s on = called call s on
-call_leaves (notes.Took peer pair bytes text) e s on = inl refl
-call_leaves (notes.State peer pair r) e s on = inl refl
-call_leaves (notes.Phase peer flags) e s on = inl refl
-call_leaves (notes.Echoed peer byte) e s on = inl refl
-call_leaves (notes.Errors peer errors) e s on = inl refl
-call_leaves (notes.Counts peer counts) e s on = inl refl
-call_leaves (notes.Waiting peer place command) e s on = inl refl
-call_leaves (notes.Kept peer link message) e s on = inl refl
-call_leaves (notes.Ignored ignored) e s on = inl refl
-call_leaves (notes.Out message) e s on = absurd (cc)
-call_leaves notes.Nothing e s on = absurd (cc)
-call_leaves (notes.In message received) e s on = absurd (cc)
-call_leaves (notes.Answered peer link how received) e s on = absurd (cc)
+call_leaves (HostNote.Refused call fault) e s on = inl refl
+call_leaves (HostNote.Done call) e s on = called call s on
+call_leaves (HostNote.Took peer pair bytes text) e s on = inl refl
+call_leaves (HostNote.State peer pair r) e s on = inl refl
+call_leaves (HostNote.Phase peer flags) e s on = inl refl
+call_leaves (HostNote.Echoed peer byte) e s on = inl refl
+call_leaves (HostNote.Errors peer errors) e s on = inl refl
+call_leaves (HostNote.Counts peer counts) e s on = inl refl
+call_leaves (HostNote.Waiting peer place command) e s on = inl refl
+call_leaves (HostNote.Kept peer link message) e s on = inl refl
+call_leaves (HostNote.Ignored ignored) e s on = inl refl
+call_leaves (HostNote.Out message) e s on = absurd (cc)
+call_leaves HostNote.Nothing e s on = absurd (cc)
+call_leaves (HostNote.In message received) e s on = absurd (cc)
+call_leaves (HostNote.Answered peer link how received) e s on = absurd (cc)
 
 -- bits that are no answer leave them
 pub bits_leave : (r : Result Leader Short) (bits : List Bool) (s : PeerState) (on : ℕ) → slot_at (bits_for r bits s).slots on ≡ slot_at s.slots on
@@ -135,22 +133,22 @@ answer_here link how s = go (slot_at s.slots link) refl how
     stays slot q t a = taken false (ap is_travelling q ∙ t) ∙ q ∙ sym a ∙ ap (answered how) (sym q)
 
     go : (slot : LinkSlot) → slot_at s.slots link ≡ slot → (h : Answer) → slot_at (answer_comes link how s).slots link ≡ answered how (slot_at s.slots link)
-    go (host.Travelling m) q h = taken true (ap is_travelling q) ∙ slot_at-with_slot_same s.slots link (answered how (slot_at s.slots link))
-    go host.Empty q h = stays host.Empty q refl (empty how)
+    go (Slot.Travelling m) q h = taken true (ap is_travelling q) ∙ slot_at-with_slot_same s.slots link (answered how (slot_at s.slots link))
+    go Slot.Empty q h = stays Slot.Empty q refl (empty how)
       where
-        empty : (a : Answer) → answered {M = List Bool} a host.Empty ≡ host.Empty
+        empty : (a : Answer) → answered {M = List Bool} a Slot.Empty ≡ Slot.Empty
         empty Rfnm = refl
         empty Incomplete = refl
         empty Dead = refl
-    go (host.Ready m) q h = stays (host.Ready m) q refl (ready how)
+    go (Slot.Ready m) q h = stays (Slot.Ready m) q refl (ready how)
       where
-        ready : (a : Answer) → answered a (host.Ready m) ≡ host.Ready m
+        ready : (a : Answer) → answered a (Slot.Ready m) ≡ Slot.Ready m
         ready Rfnm = refl
         ready Incomplete = refl
         ready Dead = refl
-    go (host.Held m) q h = stays (host.Held m) q refl (held how)
+    go (Slot.Held m) q h = stays (Slot.Held m) q refl (held how)
       where
-        held : (a : Answer) → answered a (host.Held m) ≡ host.Held m
+        held : (a : Answer) → answered a (Slot.Held m) ≡ Slot.Held m
         held Rfnm = refl
         held Incomplete = refl
         held Dead = refl
@@ -168,6 +166,6 @@ was_there : (b : Bool) (f : PeerState → PeerState) (o : Option PeerState) (now
 was_there b f None now e = absurd (cc)
 was_there b f (Some s) now e = (s, refl, sym (some_same e))
 
-pub was : (ns : List ℕ) (note : HostNote) (h : Host) (m : ℕ) (now : PeerState) → Holds ns h → IsSaid note h → state_of (after_note note h) m ≡ Some now
+pub was : (ns : List ℕ) (note : HostNote) (h : Host) (m : ℕ) (now : PeerState) → Holds ns h → IsHostSaid note h → state_of (after_note note h) m ≡ Some now
     → (s : PeerState) × (state_of h m ≡ Some s) × (now ≡ (if names m note then note_for note s else s))
 was ns note h m now k p e = was_there (names m note) (note_for note) (state_of h m) now (sym (note-state ns note h m k p) ∙ e)

@@ -40,12 +40,10 @@ use Rattle.ncp_host.specs.PeerState.{PeerState, control_link, answer_comes}
 use Rattle.ncp_host.specs.Output.{leader_to, message_to, links, control_message, text_message, made_on, output_by, after_output}
 use Rattle.ncp_host.specs.Host.{is_one_of}
 use Rattle.ncp_transcript.specs.declared.note.HostNote.{HostNote}
-use Rattle.ncp_transcript.specs.declared.note.HostNote.TheVariants as notes
 use Rattle.ncp_proof_runs.specs.Peers.{out_for, note_for}
 use Rattle.ncp_proof_runs.proofs.Ready.{link_small}
 use Rattle.ncp_proof_runs.proofs.Said.{IsOut, IsSaidOf}
 use Rattle.ncp_umpire.specs.declared.finding.Rule.{Rule}
-use Rattle.ncp_umpire.specs.declared.finding.Rule.TheVariants as rule
 use Rattle.ncp_umpire.specs.Messages.{is_unused, most_bits, extras_of, rule_of_message}
 use Rattle.ncp_proof_umpire.proofs.Goes.{used}
 use Rattle.ncp_proof_umpire.proofs.HostSlots.{is_of_call, call_leaves, bits_leave, answer_here, answer_there}
@@ -70,7 +68,7 @@ message_length n on size text = omega arith
 pub laid : (n on size : ℕ) (text : List Bool) → n < 256 → is_one_of on links ≡ true → IsText size text → 0 < length text → length text ≤ most_bits on → (on == 0 && not (size == 8)) ≡ false → Laid on (message_to n on size text)
 laid n on size text l u t some few eight =
     ap (λ (r : Result Message MessageFault). rule_of_message r on len) (read n on size text l (link_small on u) t)
-    ∙ tested (rule.WrongLink on) (rule.WrongSize size) (extras_of m len) (is_unused on) (on == 0 && not (size == 8)) ((len - FRONT_BITS - length text) == 0) (length text == 0) (nat_lt (most_bits on) (length text))
+    ∙ tested (Rule.WrongLink on) (Rule.WrongSize size) (extras_of m len) (is_unused on) (on == 0 && not (size == 8)) ((len - FRONT_BITS - length text) == 0) (length text == 0) (nat_lt (most_bits on) (length text))
     (used on u) eight none_behind has_text fits
   where
     len : ℕ
@@ -234,7 +232,7 @@ call_whole note s c a on m e = elim (call_leaves note c s on) [
   | inr woke ↦ a on m (sym (ap kept_message woke ∙ woken_kept (slot_at s.slots on)) ∙ e)
 ]
 
-goes_whole : (n : ℕ) (m : List Bool) (s : PeerState) → IsOut n m s → n < 256 → Fine s.peer → AllWhole s → AllWhole (note_for (notes.Out m) s)
+goes_whole : (n : ℕ) (m : List Bool) (s : PeerState) → IsOut n m s → n < 256 → Fine s.peer → AllWhole s → AllWhole (note_for (HostNote.Out m) s)
 goes_whole n m s is l k a = subst (λ (r : Result Leader Short). AllWhole (out_for r m s)) (sym is.leader) after
   where
     after : AllWhole (after_output is.on m s)
@@ -250,22 +248,22 @@ goes_whole n m s is l k a = subst (λ (r : Result Leader Short). AllWhole (out_f
             subst (λ (j : ℕ). Whole j x) (sym same) (subst (λ (y : List Bool). Whole is.on y) is_x (out_whole n m s is l k a))
 
 pub note_whole : (n : ℕ) (note : HostNote) (s : PeerState) → IsSaidOf n note s → n < 256 → Fine s.peer → AllWhole s → AllWhole (note_for note s)
-note_whole n (notes.Out m) s p l k a = goes_whole n m s p l k a
-note_whole n notes.Nothing s p l k a = a
-note_whole n (notes.In m received) s p l k a = λ on x e. a on x (ap kept_message (sym (bits_leave (leader_in m) m s on)) ∙ e)
-note_whole n (notes.Answered peer link how received) s p l k a = λ on x e. elim (eqb_tells on link) [
+note_whole n (HostNote.Out m) s p l k a = goes_whole n m s p l k a
+note_whole n HostNote.Nothing s p l k a = a
+note_whole n (HostNote.In m received) s p l k a = λ on x e. a on x (ap kept_message (sym (bits_leave (leader_in m) m s on)) ∙ e)
+note_whole n (HostNote.Answered peer link how received) s p l k a = λ on x e. elim (eqb_tells on link) [
   | inl same ↦ a on x (subst (λ (j : ℕ). kept_message (slot_at s.slots j) ≡ Some x) (sym same.1)
       (answered_kept how (slot_at s.slots link) x (ap kept_message (sym (answer_here link how s)) ∙ subst (λ (j : ℕ). kept_message (slot_at (answer_comes link how s).slots j) ≡ Some x) same.1 e)))
   | inr other ↦ a on x (ap kept_message (sym (answer_there link on how s other.1)) ∙ e)
 ]
-note_whole n (notes.Refused call fault) s p l k a = call_whole (notes.Refused call fault) s refl a
-note_whole n (notes.Done call) s p l k a = call_whole (notes.Done call) s refl a
-note_whole n (notes.Took peer pair bytes text) s p l k a = call_whole (notes.Took peer pair bytes text) s refl a
-note_whole n (notes.State peer pair r) s p l k a = a
-note_whole n (notes.Phase peer flags) s p l k a = a
-note_whole n (notes.Echoed peer byte) s p l k a = a
-note_whole n (notes.Errors peer errors) s p l k a = a
-note_whole n (notes.Counts peer counts) s p l k a = a
-note_whole n (notes.Waiting peer place command) s p l k a = a
-note_whole n (notes.Kept peer link message) s p l k a = a
-note_whole n (notes.Ignored ignored) s p l k a = a
+note_whole n (HostNote.Refused call fault) s p l k a = call_whole (HostNote.Refused call fault) s refl a
+note_whole n (HostNote.Done call) s p l k a = call_whole (HostNote.Done call) s refl a
+note_whole n (HostNote.Took peer pair bytes text) s p l k a = call_whole (HostNote.Took peer pair bytes text) s refl a
+note_whole n (HostNote.State peer pair r) s p l k a = a
+note_whole n (HostNote.Phase peer flags) s p l k a = a
+note_whole n (HostNote.Echoed peer byte) s p l k a = a
+note_whole n (HostNote.Errors peer errors) s p l k a = a
+note_whole n (HostNote.Counts peer counts) s p l k a = a
+note_whole n (HostNote.Waiting peer place command) s p l k a = a
+note_whole n (HostNote.Kept peer link message) s p l k a = a
+note_whole n (HostNote.Ignored ignored) s p l k a = a

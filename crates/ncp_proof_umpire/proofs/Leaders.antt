@@ -5,23 +5,21 @@ use Rattle.ncp_host.specs.declared.limits.TheConstants.{MAX_PEERS}
 use Rattle.ncp_host.specs.Host.{Host, is_one_of, are_distinct, are_peers, new_host}
 use Rattle.ncp_host.specs.Turns.{next_output}
 use Rattle.ncp_transcript.specs.declared.input.Input.{Input}
-use Rattle.ncp_transcript.specs.declared.input.Input.TheVariants as inputs
 use Rattle.ncp_transcript.specs.declared.note.HostNote.{HostNote}
 use Rattle.ncp_transcript.specs.After.{after_note}
 use Rattle.ncp_transcript.specs.Noting.{note_of_message}
-use Rattle.ncp_transcript.specs.Runs.{AreNotes}
+use Rattle.ncp_transcript.specs.Runs.{AreHostNotes}
 use Rattle.ncp_transcript.proofs.Saying.{noted_said}
-use Rattle.ncp_proof_runs.proofs.States.{Turn, is_there}
+use Rattle.ncp_proof_runs.proofs.States.{Turn, peer_there}
 use Rattle.ncp_proof_runs.proofs.HostRuns.{Holds, out-turn, out-is}
 use Rattle.ncp_proof_runs.proofs.Said.{IsOut}
 use Rattle.ncp_proof_runs.proofs.EachPeer.{holds-after, new-holds}
 use Rattle.ncp_umpire.specs.declared.finding.Rule.{Rule}
-use Rattle.ncp_umpire.specs.declared.finding.Rule.TheVariants as rule
 use Rattle.ncp_umpire.specs.declared.umpire.Umpire.{Umpire}
 use Rattle.ncp_umpire.specs.declared.way.Way.TheVariants.{ToImp, FromImp}
 use Rattle.ncp_umpire.specs.Judged.{new_umpire, by_host, sees, record_findings, after_record}
 use Rattle.ncp_umpire.proofs.Passing.{Pass, both, is_said, goes}
-use Rattle.ncp_proof_umpire.specs.Recordings.{gone_by, recording, findings_from, spares, begun, NoFalseAlarm, is_of_leader}
+use Rattle.ncp_proof_umpire.specs.Recordings.{gone_by, recording, findings_from, spares, begun_alone, NoFalseAlarm, is_of_leader}
 use Rattle.ncp_proof_umpire.proofs.Spared.{rule_spared, spared}
 use Rattle.ncp_proof_umpire.proofs.Steps.{noted}
 use Rattle.ncp_proof_umpire.proofs.Goes.{links_unjudged, used, rules_of_used}
@@ -48,28 +46,28 @@ peers_parts me ns e = parts (nat_le 1 (length ns)) (nat_le (length ns) MAX_PEERS
 -- ---- what goes out
 
 pub peer_of_turn : (ns : List ℕ) (me : ℕ) (h : Host) (message : List Bool) → Holds ns h → is_one_of me ns ≡ false → (t : Turn h.peers message) → (t.n == me) ≡ false
-peer_of_turn ns me h message k a t = apart me t.n ns a (ap (is_one_of t.n) (sym k.numbers) ∙ is_there h.peers t.n t.s t.found)
+peer_of_turn ns me h message k a t = apart me t.n ns a (ap (is_one_of t.n) (sym k.numbers) ∙ peer_there h.peers t.n t.s t.found)
 
 unsaid : (r : Rule) → is_said r ≡ true → is_of_leader r ≡ false
-unsaid (rule.Short bits) e = absurd (cc)
-unsaid (rule.OwnHost kind link) e = absurd (cc)
-unsaid (rule.Kind kind) e = absurd (cc)
-unsaid (rule.WrongLink link) e = absurd (cc)
-unsaid (rule.Fault fault link) e = refl
-unsaid (rule.WrongSize size) e = refl
-unsaid (rule.Extras flags low text rest) e = refl
-unsaid (rule.Occupied link) e = refl
-unsaid (rule.Changed link) e = refl
-unsaid (rule.Stray kind link) e = refl
-unsaid (rule.Unsent host link why) e = refl
-unsaid (rule.FalseAnswer kind host link came) e = refl
-unsaid (rule.Bad fault) e = refl
-unsaid (rule.Early what began waits owes) e = refl
-unsaid rule.RstAgain e = refl
-unsaid rule.RrpUnasked e = refl
-unsaid (rule.Unquiet reply link) e = refl
-unsaid rule.RrpFirst e = refl
-unsaid rule.MissingRrp e = refl
+unsaid (Rule.Short bits) e = absurd (cc)
+unsaid (Rule.OwnHost kind link) e = absurd (cc)
+unsaid (Rule.Kind kind) e = absurd (cc)
+unsaid (Rule.WrongLink link) e = absurd (cc)
+unsaid (Rule.Fault fault link) e = refl
+unsaid (Rule.WrongSize size) e = refl
+unsaid (Rule.Extras flags low text rest) e = refl
+unsaid (Rule.Occupied link) e = refl
+unsaid (Rule.Changed link) e = refl
+unsaid (Rule.Stray kind link) e = refl
+unsaid (Rule.Unsent host link why) e = refl
+unsaid (Rule.FalseAnswer kind host link came) e = refl
+unsaid (Rule.Bad fault) e = refl
+unsaid (Rule.Early what began waits owes) e = refl
+unsaid Rule.RstAgain e = refl
+unsaid Rule.RrpUnasked e = refl
+unsaid (Rule.Unquiet reply link) e = refl
+unsaid Rule.RrpFirst e = refl
+unsaid Rule.MissingRrp e = refl
 
 leads : (ns : List ℕ) (me : ℕ) (h : Host) (umpire : Umpire) (message : List Bool) → Holds ns h → is_one_of me ns ≡ false → next_output h ≡ Some message
     → Pass (spares is_of_leader me) (record_findings umpire ToImp me message)
@@ -83,18 +81,18 @@ leads ns me h umpire message k a e =
 
 -- ---- the walk
 
-walk : (ns : List ℕ) (me : ℕ) (given : List Input) (noted : List HostNote) (h : Host) (umpire : Umpire) → Holds ns h → is_one_of me ns ≡ false → AreNotes given noted h
+walk : (ns : List ℕ) (me : ℕ) (given : List Input) (noted : List HostNote) (h : Host) (umpire : Umpire) → Holds ns h → is_one_of me ns ≡ false → AreHostNotes given noted h
     → Pass (spares is_of_leader me) (findings_from umpire me (recording given noted))
 walk ns me [] noted h umpire k a p = refl
 walk ns me (input ∷ given) [] h umpire k a p = refl
-walk ns me (inputs.Call call ∷ given) (note ∷ noted) h umpire k a p =
-    walk ns me given noted (after_note note h) umpire (holds-after ns note h k (noted_said (inputs.Call call) note h p.0)) a p.1
-walk ns me (inputs.In bits ∷ given) (note ∷ noted) h umpire k a p =
+walk ns me (Input.Call call ∷ given) (note ∷ noted) h umpire k a p =
+    walk ns me given noted (after_note note h) umpire (holds-after ns note h k (noted_said (Input.Call call) note h p.0)) a p.1
+walk ns me (Input.In bits ∷ given) (note ∷ noted) h umpire k a p =
     let after = after_record umpire FromImp me bits in
     both (spares is_of_leader me) (record_findings umpire FromImp me bits) (findings_from after me (recording given noted)) (spared is_of_leader me umpire bits)
-    (walk ns me given noted (after_note note h) after (holds-after ns note h k (noted_said (inputs.In bits) note h p.0)) a p.1)
-walk ns me (inputs.Out ∷ given) (note ∷ noted) h umpire k a p =
-    go (next_output h) refl p.0 (λ u. walk ns me given noted (after_note note h) u (holds-after ns note h k (noted_said inputs.Out note h p.0)) a p.1)
+    (walk ns me given noted (after_note note h) after (holds-after ns note h k (noted_said (Input.In bits) note h p.0)) a p.1)
+walk ns me (Input.Out ∷ given) (note ∷ noted) h umpire k a p =
+    go (next_output h) refl p.0 (λ u. walk ns me given noted (after_note note h) u (holds-after ns note h k (noted_said Input.Out note h p.0)) a p.1)
   where
     go : (o : Option (List Bool)) → next_output h ≡ o → note ≡ note_of_message o → ((u : Umpire) → Pass (spares is_of_leader me) (findings_from u me (recording given noted)))
         → Pass (spares is_of_leader me) (findings_from umpire me (gone_by note ++ recording given noted))
@@ -105,7 +103,7 @@ walk ns me (inputs.Out ∷ given) (note ∷ noted) h umpire k a p =
 
 pub none_blamed : NoFalseAlarm is_of_leader
 none_blamed me ns given now peers places steps =
-    let w = noted given (begun me ns) now steps in
+    let w = noted given (begun_alone me ns) now steps in
     let parts = peers_parts me ns peers in
     subst (λ (all : List HostNote). Pass (spares is_of_leader me) (findings_from (new_umpire false) me (recording given all))) (sym w.1)
     (walk ns me given w.0 (new_host me ns) (new_umpire false) (new-holds me ns parts.0 places) parts.1 w.2)

@@ -6,24 +6,21 @@ use Rattle.ncp_host.specs.PeerState.{PeerState, new_state}
 use Rattle.ncp_host.specs.Host.{Host, state_of, is_one_of, new_host}
 use Rattle.ncp_host.specs.Turns.{next_output}
 use Rattle.ncp_transcript.specs.declared.input.Input.{Input}
-use Rattle.ncp_transcript.specs.declared.input.Input.TheVariants as inputs
 use Rattle.ncp_transcript.specs.declared.note.HostNote.{HostNote}
-use Rattle.ncp_transcript.specs.declared.note.HostNote.TheVariants as notes
 use Rattle.ncp_transcript.specs.After.{after_note}
 use Rattle.ncp_transcript.specs.Noting.{note_of_message}
-use Rattle.ncp_transcript.specs.Runs.{IsSaid, AreNotes}
+use Rattle.ncp_transcript.specs.Runs.{IsHostSaid, AreHostNotes}
 use Rattle.ncp_transcript.proofs.Saying.{noted_said}
 use Rattle.ncp_proof_runs.proofs.Said.{IsOut}
 use Rattle.ncp_proof_runs.proofs.HostRuns.{Holds, out-turn, out-is}
 use Rattle.ncp_proof_runs.proofs.EachPeer.{holds-after, new-holds}
 use Rattle.ncp_umpire.specs.declared.finding.Rule.{Rule}
-use Rattle.ncp_umpire.specs.declared.finding.Rule.TheVariants as rule
 use Rattle.ncp_umpire.specs.declared.umpire.Umpire.{Umpire}
 use Rattle.ncp_umpire.specs.declared.way.Way.TheVariants.{ToImp, FromImp}
 use Rattle.ncp_umpire.specs.Tables.{view_in}
 use Rattle.ncp_umpire.specs.Slots.{is_of}
-use Rattle.ncp_umpire.specs.Judged.{new_umpire, sees, slot_of, same_of, by_host, out_rule, out_finding, record_findings, after_record}
-use Rattle.ncp_proof_umpire.specs.Recordings.{gone_by, recording, findings_from, spares, begun, NoFalseAlarm, is_of_link}
+use Rattle.ncp_umpire.specs.Judged.{new_umpire, sees, slot_of_link, same_of, by_host, out_rule, out_finding, record_findings, after_record}
+use Rattle.ncp_proof_umpire.specs.Recordings.{gone_by, recording, findings_from, spares, begun_alone, NoFalseAlarm, is_of_link}
 use Rattle.ncp_umpire.proofs.Passing.{Pass, both, is_said, goes}
 use Rattle.ncp_proof_umpire.proofs.Spared.{rule_spared, spared}
 use Rattle.ncp_proof_umpire.proofs.Steps.{noted}
@@ -34,25 +31,25 @@ use Rattle.ncp_proof_umpire.proofs.HostSlots.{call_noted}
 use Rattle.ncp_proof_umpire.proofs.Linked.{Follows, after_call, after_out_of, after_in_of}
 
 unsaid : (r : Rule) → is_said r ≡ true → is_of_link r ≡ false
-unsaid (rule.Short bits) e = refl
-unsaid (rule.OwnHost kind link) e = refl
-unsaid (rule.Kind kind) e = refl
-unsaid (rule.WrongLink link) e = refl
-unsaid (rule.Fault fault link) e = refl
-unsaid (rule.WrongSize size) e = refl
-unsaid (rule.Extras flags low text rest) e = refl
-unsaid (rule.Occupied link) e = absurd (cc)
-unsaid (rule.Changed link) e = absurd (cc)
-unsaid (rule.Stray kind link) e = refl
-unsaid (rule.Unsent host link why) e = refl
-unsaid (rule.FalseAnswer kind host link came) e = refl
-unsaid (rule.Bad fault) e = refl
-unsaid (rule.Early what began waits owes) e = refl
-unsaid rule.RstAgain e = refl
-unsaid rule.RrpUnasked e = refl
-unsaid (rule.Unquiet reply link) e = refl
-unsaid rule.RrpFirst e = refl
-unsaid rule.MissingRrp e = refl
+unsaid (Rule.Short bits) e = refl
+unsaid (Rule.OwnHost kind link) e = refl
+unsaid (Rule.Kind kind) e = refl
+unsaid (Rule.WrongLink link) e = refl
+unsaid (Rule.Fault fault link) e = refl
+unsaid (Rule.WrongSize size) e = refl
+unsaid (Rule.Extras flags low text rest) e = refl
+unsaid (Rule.Occupied link) e = absurd (cc)
+unsaid (Rule.Changed link) e = absurd (cc)
+unsaid (Rule.Stray kind link) e = refl
+unsaid (Rule.Unsent host link why) e = refl
+unsaid (Rule.FalseAnswer kind host link came) e = refl
+unsaid (Rule.Bad fault) e = refl
+unsaid (Rule.Early what began waits owes) e = refl
+unsaid Rule.RstAgain e = refl
+unsaid Rule.RrpUnasked e = refl
+unsaid (Rule.Unquiet reply link) e = refl
+unsaid Rule.RrpFirst e = refl
+unsaid Rule.MissingRrp e = refl
 
 -- what goes out on a link may
 free : (me n : ℕ) (h : Host) (umpire : Umpire) (s : PeerState) (message : List Bool) (is : IsOut n message s) → state_of h n ≡ Some s → Follows me h umpire
@@ -60,7 +57,7 @@ free : (me n : ℕ) (h : Host) (umpire : Umpire) (s : PeerState) (message : List
 free me n h umpire s message is there f = go umpire.full refl
   where
     rules : Option Rule
-    rules = out_rule (slot_of umpire me n is.on) (same_of umpire me n is.on message) is.on
+    rules = out_rule (slot_of_link umpire me n is.on) (same_of umpire me n is.on message) is.on
 
     go : (b : Bool) → umpire.full ≡ b → Pass (spares is_of_link me) (option_to_list (if b then None else option_map (by_host me) rules))
     go true full = refl
@@ -68,20 +65,20 @@ free me n h umpire s message is there f = go umpire.full refl
         let none : rules ≡ None = allowed (is_of me n is.on) (view_in umpire.views me n).known umpire.kept (slot_at s.slots is.on) n is.on s.peer message ((f full).agrees n s there is.on) is.ready in
         subst (λ (o : Option Rule). Pass (spares is_of_link me) (option_to_list (option_map (by_host me) o))) (sym none) refl
 
-walk : (ns : List ℕ) (me : ℕ) (given : List Input) (noted : List HostNote) (h : Host) (umpire : Umpire) → Holds ns h → is_one_of me ns ≡ false → AreNotes given noted h → Follows me h umpire
+walk : (ns : List ℕ) (me : ℕ) (given : List Input) (noted : List HostNote) (h : Host) (umpire : Umpire) → Holds ns h → is_one_of me ns ≡ false → AreHostNotes given noted h → Follows me h umpire
     → Pass (spares is_of_link me) (findings_from umpire me (recording given noted))
 walk ns me [] noted h umpire k a p f = refl
 walk ns me (input ∷ given) [] h umpire k a p f = refl
-walk ns me (inputs.Call call ∷ given) (note ∷ noted) h umpire k a p f =
-    let said = noted_said (inputs.Call call) note h p.0 in
+walk ns me (Input.Call call ∷ given) (note ∷ noted) h umpire k a p f =
+    let said = noted_said (Input.Call call) note h p.0 in
     walk ns me given noted (after_note note h) umpire (holds-after ns note h k said) a p.1 (after_call ns me note h umpire k said (call_noted call note h p.0) f)
-walk ns me (inputs.In bits ∷ given) (note ∷ noted) h umpire k a p f =
+walk ns me (Input.In bits ∷ given) (note ∷ noted) h umpire k a p f =
     let after = after_record umpire FromImp me bits in
-    let said = noted_said (inputs.In bits) note h p.0 in
+    let said = noted_said (Input.In bits) note h p.0 in
     both (spares is_of_link me) (record_findings umpire FromImp me bits) (findings_from after me (recording given noted)) (spared is_of_link me umpire bits)
     (walk ns me given noted (after_note note h) after (holds-after ns note h k said) a p.1 (after_in_of ns me h umpire bits note k a said p.0 f))
-walk ns me (inputs.Out ∷ given) (note ∷ noted) h umpire k a p f =
-    let said = noted_said inputs.Out note h p.0 in
+walk ns me (Input.Out ∷ given) (note ∷ noted) h umpire k a p f =
+    let said = noted_said Input.Out note h p.0 in
     go (next_output h) refl p.0 said (λ u g. walk ns me given noted (after_note note h) u (holds-after ns note h k said) a p.1 g)
   where
     Rest : HostNote → Type 0
@@ -90,7 +87,7 @@ walk ns me (inputs.Out ∷ given) (note ∷ noted) h umpire k a p f =
     Whole : HostNote → Type 0
     Whole x = Pass (spares is_of_link me) (findings_from umpire me (gone_by x ++ recording given noted))
 
-    out : (message : List Bool) → next_output h ≡ Some message → IsSaid (notes.Out message) h → Rest (notes.Out message) → Whole (notes.Out message)
+    out : (message : List Bool) → next_output h ≡ Some message → IsHostSaid (HostNote.Out message) h → Rest (HostNote.Out message) → Whole (HostNote.Out message)
     out message q said rest =
         let t = out-turn ns h message k q in
         let is : IsOut t.n message t.s = out-is ns h message k t in
@@ -103,13 +100,13 @@ walk ns me (inputs.Out ∷ given) (note ∷ noted) h umpire k a p f =
         (λ r e. rule_spared is_of_link me (by_host me r) (rules_of_used is_of_link message t.n is.on r is.leader (used is.on is.a_link) (λ fault. refl) (λ size. refl) (λ flags low text rest. refl) e)))
         (rest after (after_out_of ns me t.n is.on h umpire message t.s k said is.leader other t.found f))
 
-    go : (o : Option (List Bool)) → next_output h ≡ o → note ≡ note_of_message o → IsSaid note h → Rest note → Whole note
+    go : (o : Option (List Bool)) → next_output h ≡ o → note ≡ note_of_message o → IsHostSaid note h → Rest note → Whole note
     go None q e said rest = subst Whole (sym e) ((subst Rest e rest) umpire f)
-    go (Some message) q e said rest = subst Whole (sym e) (out message q (subst (λ (x : HostNote). IsSaid x h) e said) (subst Rest e rest))
+    go (Some message) q e said rest = subst Whole (sym e) (out message q (subst (λ (x : HostNote). IsHostSaid x h) e said) (subst Rest e rest))
 
 -- at the beginning nothing is kept
-pub begins : (me : ℕ) (ns : List ℕ) → Follows me (new_host me ns) (new_umpire false)
-begins me ns full = record { agrees = λ n s e on. subst (λ (x : PeerState). Shows [] (slot_at x.slots on)) (sym (new ns n s e)) (slot_at-no_slots on) }
+pub follows_begins : (me : ℕ) (ns : List ℕ) → Follows me (new_host me ns) (new_umpire false)
+follows_begins me ns full = record { agrees = λ n s e on. subst (λ (x : PeerState). Shows [] (slot_at x.slots on)) (sym (new ns n s e)) (slot_at-no_slots on) }
   where
     new : (ns : List ℕ) (n : ℕ) (s : PeerState) → state_of (new_host me ns) n ≡ Some s → s ≡ new_state
     new [] n s e = absurd (cc)
@@ -121,7 +118,7 @@ begins me ns full = record { agrees = λ n s e on. subst (λ (x : PeerState). Sh
 
 pub none_blamed : NoFalseAlarm is_of_link
 none_blamed me ns given now peers places steps =
-    let w = noted given (begun me ns) now steps in
+    let w = noted given (begun_alone me ns) now steps in
     let parts = peers_parts me ns peers in
     subst (λ (all : List HostNote). Pass (spares is_of_link me) (findings_from (new_umpire false) me (recording given all))) (sym w.1)
-    (walk ns me given w.0 (new_host me ns) (new_umpire false) (new-holds me ns parts.0 places) parts.1 w.2 (begins me ns))
+    (walk ns me given w.0 (new_host me ns) (new_umpire false) (new-holds me ns parts.0 places) parts.1 w.2 (follows_begins me ns))

@@ -5,7 +5,7 @@ use Rattle.std.proofs.lemmas.Bool.Decides.{eqb_tells}
 use Rattle.ncp_leader.specs.declared.leader.Leader.{Leader}
 use Rattle.ncp_leader.specs.declared.leader.Short.{Short}
 use Rattle.ncp_leader.specs.Leader.{leader_in}
-use Rattle.ncp_slot.specs.declared.slot.Slot.TheVariants as host
+use Rattle.ncp_slot.specs.declared.slot.Slot.{Slot}
 use Rattle.ncp_slot.specs.Slots.{LinkSlot, slot_at}
 use Rattle.ncp_slot.proofs.Places.{slot_at-with_slot_same, slot_at-with_slot_other}
 use Rattle.ncp_host.specs.PeerState.{PeerState, answer_comes}
@@ -14,12 +14,11 @@ use Rattle.ncp_host.specs.Output.{leader_to, after_output}
 use Rattle.ncp_host.specs.Host.{Host, state_of, is_one_of}
 use Rattle.ncp_host.specs.Arrivals.{received_in}
 use Rattle.ncp_transcript.specs.declared.note.HostNote.{HostNote}
-use Rattle.ncp_transcript.specs.declared.note.HostNote.TheVariants as notes
 use Rattle.ncp_transcript.specs.After.{after_note}
 use Rattle.ncp_transcript.specs.Noting.{if_peer, answer_with, note_as, note_of_bits}
-use Rattle.ncp_transcript.specs.Runs.{IsSaid}
-use Rattle.ncp_proof_runs.specs.Peers.{is_number, peer_of_leader, names, out_for, note_for}
-use Rattle.ncp_proof_runs.proofs.States.{is_there}
+use Rattle.ncp_transcript.specs.Runs.{IsHostSaid}
+use Rattle.ncp_proof_runs.specs.Peers.{is_this_number, peer_of_leader, names, out_for, note_for}
+use Rattle.ncp_proof_runs.proofs.States.{peer_there}
 use Rattle.ncp_proof_runs.proofs.HostRuns.{Holds}
 use Rattle.ncp_umpire.specs.declared.kept.Kept.{Kept}
 use Rattle.ncp_umpire.specs.declared.umpire.Umpire.{Umpire}
@@ -28,7 +27,7 @@ use Rattle.ncp_umpire.specs.Events.{is_answer}
 use Rattle.ncp_umpire.proofs.Following.{Keeps, out_keeps, short_is, other_is, own_is, in_keeps, answer_is}
 use Rattle.ncp_umpire.specs.Tables.{view_in, with_view}
 use Rattle.ncp_umpire.specs.Slots.{is_of, place_of, gone_out, has_room, with_out}
-use Rattle.ncp_umpire.specs.Judged.{sees, slot_of, same_of, view_after_out, after_out, with_answer, after_answer, judges_coming, with_coming, after_in, after_record}
+use Rattle.ncp_umpire.specs.Judged.{sees, slot_of_link, same_of, view_after_out, umpire_after_out, with_answer, umpire_after_answer, judges_coming, with_coming, after_in, after_record}
 use Rattle.ncp_proof_umpire.proofs.KeptOne.{Apart}
 use Rattle.ncp_proof_umpire.proofs.Shown.{Shows, After, after_going, how_of, after_answering, after_coming, after_waking}
 use Rattle.ncp_proof_umpire.proofs.HostSlots.{is_of_call, call_leaves, bits_leave, answer_here, answer_there, was}
@@ -97,7 +96,7 @@ keyed me n on h after kept now others slots k = record { agrees = agrees }
 
 -- ---- what changes no link
 
-stays : (ns : List ℕ) (me : ℕ) (note : HostNote) (h : Host) (kept : List Kept) → Holds ns h → IsSaid note h
+stays : (ns : List ℕ) (me : ℕ) (note : HostNote) (h : Host) (kept : List Kept) → Holds ns h → IsHostSaid note h
     → ((s : PeerState) (on : ℕ) (of_link : List Kept) → Shows of_link (slot_at s.slots on) → Shows of_link (slot_at (note_for note s).slots on))
     → Known me h kept → Known me (after_note note h) kept
 stays ns me note h kept k p leaves known = record { agrees = agrees }
@@ -109,7 +108,7 @@ stays ns me note h kept k p leaves known = record { agrees = agrees }
         by s true shown = leaves s on (filter (is_of me m on) kept) shown
         by s false shown = shown
 
-pub after_call : (ns : List ℕ) (me : ℕ) (note : HostNote) (h : Host) (umpire : Umpire) → Holds ns h → IsSaid note h → is_of_call note ≡ true → Follows me h umpire → Follows me (after_note note h) umpire
+pub after_call : (ns : List ℕ) (me : ℕ) (note : HostNote) (h : Host) (umpire : Umpire) → Holds ns h → IsHostSaid note h → is_of_call note ≡ true → Follows me h umpire → Follows me (after_note note h) umpire
 after_call ns me note h umpire k p c f full = stays ns me note h umpire.kept k p leaves (f full)
   where
     leaves : (s : PeerState) (on : ℕ) (of_link : List Kept) → Shows of_link (slot_at s.slots on) → Shows of_link (slot_at (note_for note s).slots on)
@@ -135,16 +134,16 @@ filled umpire me n on bits =
     let place = place_of me n on umpire.kept in
     record umpire {
       full = not (has_room umpire.kept place);
-      views = with_view umpire.views me n (view_after_out (view_in umpire.views me n) (slot_of umpire me n on) (same_of umpire me n on bits));
+      views = with_view umpire.views me n (view_after_out (view_in umpire.views me n) (slot_of_link umpire me n on) (same_of umpire me n on bits));
       kept = with_out umpire.kept place (gone_out me n on bits);
     }
 
-pub after_out_of : (ns : List ℕ) (me n on : ℕ) (h : Host) (umpire : Umpire) (bits : List Bool) (found : PeerState) → Holds ns h → IsSaid (notes.Out bits) h → leader_in bits ≡ Ok (leader_to n on) → (n == me) ≡ false
-    → state_of h n ≡ Some found → Follows me h umpire → Follows me (after_note (notes.Out bits) h) (after_record umpire ToImp me bits)
+pub after_out_of : (ns : List ℕ) (me n on : ℕ) (h : Host) (umpire : Umpire) (bits : List Bool) (found : PeerState) → Holds ns h → IsHostSaid (HostNote.Out bits) h → leader_in bits ≡ Ok (leader_to n on) → (n == me) ≡ false
+    → state_of h n ≡ Some found → Follows me h umpire → Follows me (after_note (HostNote.Out bits) h) (after_record umpire ToImp me bits)
 after_out_of ns me n on h umpire bits found k p led away there f =
     let v = sees umpire me in
-    as_kept me (after_note (notes.Out bits) h) (after_out v me n on bits) (after_record umpire ToImp me bits) (out_keeps umpire me n on bits led away)
-    (guarded me (after_note (notes.Out bits) h) v (filled v me n on bits) umpire.full refl room)
+    as_kept me (after_note (HostNote.Out bits) h) (umpire_after_out v me n on bits) (after_record umpire ToImp me bits) (out_keeps umpire me n on bits led away)
+    (guarded me (after_note (HostNote.Out bits) h) v (filled v me n on bits) umpire.full refl room)
   where
     kept : List Kept
     kept = umpire.kept
@@ -152,12 +151,12 @@ after_out_of ns me n on h umpire bits found k p led away there f =
     now : List Kept
     now = with_out kept (place_of me n on kept) (gone_out me n on bits)
 
-    slots : Known me h kept → After (is_of me n on) kept now (host.Travelling bits) → (m : ℕ) (t : PeerState) → state_of (after_note (notes.Out bits) h) m ≡ Some t
+    slots : Known me h kept → After (is_of me n on) kept now (Slot.Travelling bits) → (m : ℕ) (t : PeerState) → state_of (after_note (HostNote.Out bits) h) m ≡ Some t
         → (s : PeerState) × (state_of h m ≡ Some s) × ((at : ℕ) → ((m ≡ n) × (at ≡ on) → ⊥) → slot_at t.slots at ≡ slot_at s.slots at)
         × (m ≡ n → Shows (filter (is_of me n on) kept) (slot_at s.slots on) → Shows (filter (is_of me n on) now) (slot_at t.slots on))
-    slots known done m t e = go (was ns (notes.Out bits) h m t k p e)
+    slots known done m t e = go (was ns (HostNote.Out bits) h m t k p e)
       where
-        go : (s : PeerState) × (state_of h m ≡ Some s) × (t ≡ (if names m (notes.Out bits) then note_for (notes.Out bits) s else s))
+        go : (s : PeerState) × (state_of h m ≡ Some s) × (t ≡ (if names m (HostNote.Out bits) then note_for (HostNote.Out bits) s else s))
             → (s : PeerState) × (state_of h m ≡ Some s) × ((at : ℕ) → ((m ≡ n) × (at ≡ on) → ⊥) → slot_at t.slots at ≡ slot_at s.slots at)
             × (m ≡ n → Shows (filter (is_of me n on) kept) (slot_at s.slots on) → Shows (filter (is_of me n on) now) (slot_at t.slots on))
         go w = by (eqb_tells n m)
@@ -166,7 +165,7 @@ after_out_of ns me n on h umpire bits found k p led away there f =
             s = w.0
 
             is : t ≡ (if n == m then after_output on bits s else s)
-            is = w.2 ∙ ap (λ (r : Result Leader Short). if is_number m (peer_of_leader r) then out_for r bits s else s) led
+            is = w.2 ∙ ap (λ (r : Result Leader Short). if is_this_number m (peer_of_leader r) then out_for r bits s else s) led
 
             by : (((n == m) ≡ true) × (n ≡ m)) ⊎ (((n == m) ≡ false) × (n ≢ m))
                 → (s : PeerState) × (state_of h m ≡ Some s) × ((at : ℕ) → ((m ≡ n) × (at ≡ on) → ⊥) → slot_at t.slots at ≡ slot_at s.slots at)
@@ -175,8 +174,8 @@ after_out_of ns me n on h umpire bits found k p led away there f =
                 let here : t ≡ after_output on bits s = is ∙ ap (λ (b : Bool). if b then after_output on bits s else s) same.0 in (
                   s,
                   w.1,
-                  λ at nay. ap (λ (x : PeerState). slot_at x.slots at) here ∙ slot_at-with_slot_other s.slots on (host.Travelling bits) at (λ link. nay (sym same.1, link)),
-                  λ i shown. subst (λ (x : LinkSlot). Shows (filter (is_of me n on) now) x) (sym (ap (λ (x : PeerState). slot_at x.slots on) here ∙ slot_at-with_slot_same s.slots on (host.Travelling bits))) done.shown,
+                  λ at nay. ap (λ (x : PeerState). slot_at x.slots at) here ∙ slot_at-with_slot_other s.slots on (Slot.Travelling bits) at (λ link. nay (sym same.1, link)),
+                  λ i shown. subst (λ (x : LinkSlot). Shows (filter (is_of me n on) now) x) (sym (ap (λ (x : PeerState). slot_at x.slots on) here ∙ slot_at-with_slot_same s.slots on (Slot.Travelling bits))) done.shown,
                 )
             by (inr other) =
                 let here : t ≡ s = is ∙ ap (λ (b : Bool). if b then after_output on bits s else s) other.0 in
@@ -186,18 +185,18 @@ after_out_of ns me n on h umpire bits found k p led away there f =
     there_is true e = refl
     there_is false e = absurd (cc)
 
-    room : umpire.full ≡ false → Follows me (after_note (notes.Out bits) h) (filled (sees umpire me) me n on bits)
+    room : umpire.full ≡ false → Follows me (after_note (HostNote.Out bits) h) (filled (sees umpire me) me n on bits)
     room full e =
         let known = f full in
         let done = after_going me n on kept (slot_at found.slots on) bits (known.agrees n found there on) (there_is (has_room kept (place_of me n on kept)) e) in
-        keyed me n on h (after_note (notes.Out bits) h) kept now done.others (slots known done) known
+        keyed me n on h (after_note (HostNote.Out bits) h) kept now done.others (slots known done) known
 
 -- ---- bits come
 
 -- those that are no answer
-in_leaves : (ns : List ℕ) (me : ℕ) (h : Host) (umpire : Umpire) (bits : List Bool) → Holds ns h → IsSaid (notes.In bits (received_in bits h)) h → Follows me h umpire → Follows me (after_note (notes.In bits (received_in bits h)) h) umpire
+in_leaves : (ns : List ℕ) (me : ℕ) (h : Host) (umpire : Umpire) (bits : List Bool) → Holds ns h → IsHostSaid (HostNote.In bits (received_in bits h)) h → Follows me h umpire → Follows me (after_note (HostNote.In bits (received_in bits h)) h) umpire
 in_leaves ns me h umpire bits k p f full =
-    stays ns me (notes.In bits (received_in bits h)) h umpire.kept k p
+    stays ns me (HostNote.In bits (received_in bits h)) h umpire.kept k p
     (λ s on of_link shown. subst (λ (x : LinkSlot). Shows of_link x) (sym (bits_leave (leader_in bits) bits s on)) shown)
     (f full)
 
@@ -227,9 +226,9 @@ coming_keeps me h umpire peer link e f = by (judges_coming umpire me peer)
 abbrev with_kept : Umpire → ℕ → ℕ → ℕ → ℕ → Umpire
 with_kept umpire kind me n on = record umpire { kept = with_answer (view_in umpire.views me n).known kind umpire.kept (place_of me n on umpire.kept) }
 
-answer_of_peer : (ns : List ℕ) (me : ℕ) (h : Host) (umpire : Umpire) (bits : List Bool) (leader : Leader) → Holds ns h → (note : HostNote) → IsSaid note h
-    → note ≡ notes.Answered leader.host leader.link (answer_of leader.kind) (received_in bits h) → Follows me h umpire
-    → Follows me (after_note note h) (after_answer umpire leader.kind me leader.host leader.link)
+answer_of_peer : (ns : List ℕ) (me : ℕ) (h : Host) (umpire : Umpire) (bits : List Bool) (leader : Leader) → Holds ns h → (note : HostNote) → IsHostSaid note h
+    → note ≡ HostNote.Answered leader.host leader.link (answer_of leader.kind) (received_in bits h) → Follows me h umpire
+    → Follows me (after_note note h) (umpire_after_answer umpire leader.kind me leader.host leader.link)
 answer_of_peer ns me h umpire bits leader k note p is f =
     guarded me (after_note note h) umpire (with_kept umpire leader.kind me leader.host leader.link) umpire.full refl answered
   where
@@ -276,7 +275,7 @@ answer_of_peer ns me h umpire bits leader k note p is f =
     answered full e =
         keyed me n on h (after_note note h) umpire.kept now (after_answering me n on (view_in umpire.views me n).known leader.kind umpire.kept).0 slots (f full)
 
-answer_of_other : (me : ℕ) (h : Host) (umpire : Umpire) (kind n on : ℕ) → state_of h n ≡ None → Follows me h umpire → Follows me h (after_answer umpire kind me n on)
+answer_of_other : (me : ℕ) (h : Host) (umpire : Umpire) (kind n on : ℕ) → state_of h n ≡ None → Follows me h umpire → Follows me h (umpire_after_answer umpire kind me n on)
 answer_of_other me h umpire kind n on none f = guarded me h umpire (with_kept umpire kind me n on) umpire.full refl answered
   where
     now : List Kept
@@ -298,7 +297,7 @@ no_regular kind a = go (kind == 0) refl
     go true e = let nay : false ≡ true = sym (ap is_answer (eqb-true kind 0 e)) ∙ a in absurd (cc)
     go false e = refl
 
-pub after_in_of : (ns : List ℕ) (me : ℕ) (h : Host) (umpire : Umpire) (bits : List Bool) (note : HostNote) → Holds ns h → is_one_of me ns ≡ false → IsSaid note h → note ≡ note_of_bits bits h
+pub after_in_of : (ns : List ℕ) (me : ℕ) (h : Host) (umpire : Umpire) (bits : List Bool) (note : HostNote) → Holds ns h → is_one_of me ns ≡ false → IsHostSaid note h → note ≡ note_of_bits bits h
     → Follows me h umpire → Follows me (after_note note h) (after_record umpire FromImp me bits)
 after_in_of ns me h umpire bits note k away p is f = go (leader_in bits) refl
   where
@@ -312,8 +311,8 @@ after_in_of ns me h umpire bits note k away p is f = go (leader_in bits) refl
     turned after e g = subst (λ (u : Umpire). Follows me now u) (sym e) g
 
     -- where the note is that of no answer
-    plain : (u : Umpire) → note ≡ notes.In bits (received_in bits h) → Follows me h u → Follows me now u
-    plain u e g = subst (λ (x : HostNote). Follows me (after_note x h) u) (sym e) (in_leaves ns me h u bits k (subst (λ (x : HostNote). IsSaid x h) e p) g)
+    plain : (u : Umpire) → note ≡ HostNote.In bits (received_in bits h) → Follows me h u → Follows me now u
+    plain u e g = subst (λ (x : HostNote). Follows me (after_note x h) u) (sym e) (in_leaves ns me h u bits k (subst (λ (x : HostNote). IsHostSaid x h) e p) g)
 
     by : (leader : Leader) → leader_in bits ≡ Ok leader → (b : Bool) → (leader.host == me) ≡ b → (z : Bool) → (leader.kind == 0) ≡ z → (a : Bool) → is_answer leader.kind ≡ a → (o : Option PeerState) → state_of h leader.host ≡ o
         → note ≡ note_as (if a then if_peer o leader else None) bits (received_in bits h)
@@ -326,14 +325,14 @@ after_in_of ns me h umpire bits note k away p is f = go (leader_in bits) refl
         (coming_keeps me now v leader.host leader.link own (plain v e f))
     by leader led true own false zero true answer None there e = turned v (own_is umpire me bits leader false true led own zero answer) (plain v e f)
     by leader led false own false zero true answer None there e =
-        let after = after_answer v leader.kind me leader.host leader.link in
+        let after = umpire_after_answer v leader.kind me leader.host leader.link in
         turned after (answer_is umpire me bits leader led own zero answer) (plain after e (answer_of_other me h v leader.kind leader.host leader.link there f))
     by leader led true own false zero true answer (Some s) there e =
-        let here : is_one_of leader.host ns ≡ true = ap (is_one_of leader.host) (sym k.numbers) ∙ is_there h.peers leader.host s there in
+        let here : is_one_of leader.host ns ≡ true = ap (is_one_of leader.host) (sym k.numbers) ∙ peer_there h.peers leader.host s there in
         let nay : true ≡ false = sym own ∙ apart me leader.host ns away here in
         absurd (cc)
     by leader led false own false zero true answer (Some s) there e =
-        turned (after_answer v leader.kind me leader.host leader.link) (answer_is umpire me bits leader led own zero answer) (answer_of_peer ns me h v bits leader k note p e f)
+        turned (umpire_after_answer v leader.kind me leader.host leader.link) (answer_is umpire me bits leader led own zero answer) (answer_of_peer ns me h v bits leader k note p e f)
 
     go : (r : Result Leader Short) → leader_in bits ≡ r → Follows me now (after_record umpire FromImp me bits)
     go (Err short) e = turned v (short_is umpire me bits short e) (plain v (is ∙ ap (λ (r : Result Leader Short). note_as (answer_with r h) bits (received_in bits h)) e) f)

@@ -20,8 +20,8 @@ use Rattle.ncp_umpire.specs.Events.{is_answer, event_behind}
 use Rattle.ncp_umpire.specs.Slots.{is_of, place_of, gone_out, has_room, with_out}
 use Rattle.ncp_umpire.specs.Tables.{index_of, view_in, with_view}
 use Rattle.ncp_umpire.specs.Views.{new_view}
-use Rattle.ncp_umpire.specs.Messages.{reading_of}
-use Rattle.ncp_umpire.specs.Judged.{sees, view_of, slot_of, same_of, view_after_out, fresh_out, after_out, with_answer, after_answer, judges_coming, with_coming, after_in, turn_at, after_read, after_said, after_event, after_record}
+use Rattle.ncp_umpire.specs.Messages.{judged_reading}
+use Rattle.ncp_umpire.specs.Judged.{sees, view_of, slot_of_link, same_of, view_after_out, fresh_out, umpire_after_out, with_answer, umpire_after_answer, judges_coming, with_coming, after_in, turn_at, after_read, after_said, after_event, after_record}
 use Rattle.ncp_proof_umpire.proofs.KeptOne.{Apart, Placed, placed, put_out}
 use Rattle.ncp_proof_umpire.proofs.Shown.{Shows, of_itself, after_answering, after_coming}
 use Rattle.ncp_proof_umpire.proofs.Linked.{Known, keyed, apart_known}
@@ -87,8 +87,8 @@ row_other views at peer me n v d p s = get_or-set_other views (index_of at peer)
 said_leaves : (me at peer by : ℕ) (sent fresh : Bool) (r : Result Message MessageFault) (A : Umpire) → (at == me) ≡ false → peer < 256 → Leaves me A (after_said A at peer (turn_at A at peer by sent) fresh r)
 said_leaves me at peer by sent true (Ok m) A d p = record {
   full = λ e. e;
-  long = view_length A.views at peer (after_read (reading_of m) (turn_at A at peer by sent) m.text (view_of A at peer));
-  views = λ n s. row_other A.views at peer me n (after_read (reading_of m) (turn_at A at peer by sent) m.text (view_of A at peer)) d p s;
+  long = view_length A.views at peer (after_read (judged_reading m) (turn_at A at peer by sent) m.text (view_of A at peer));
+  views = λ n s. row_other A.views at peer me n (after_read (judged_reading m) (turn_at A at peer by sent) m.text (view_of A at peer)) d p s;
   kept = λ h e x. x;
 }
 said_leaves me at peer by sent false (Ok m) A d p = same_leaves me A A refl refl refl
@@ -103,11 +103,11 @@ has_place : (b : Bool) → not b ≡ false → b ≡ true
 has_place true e = refl
 has_place false e = absurd (cc)
 
-out_leaves : (me at peer on : ℕ) (bits : List Bool) (U : Umpire) → (at == me) ≡ false → peer < 256 → Leaves me U (after_out U at peer on bits)
+out_leaves : (me at peer on : ℕ) (bits : List Bool) (U : Umpire) → (at == me) ≡ false → peer < 256 → Leaves me U (umpire_after_out U at peer on bits)
 out_leaves me at peer on bits U d p = go U.full refl
   where
     view : View
-    view = view_after_out (view_in U.views at peer) (slot_of U at peer on) (same_of U at peer on bits)
+    view = view_after_out (view_in U.views at peer) (slot_of_link U at peer on) (same_of U at peer on bits)
 
     now : Umpire
     now = record U { full = not (has_room U.kept (place_of at peer on U.kept)); views = with_view U.views at peer view; kept = with_out U.kept (place_of at peer on U.kept) (gone_out at peer on bits) }
@@ -145,7 +145,7 @@ in_leaves me at peer on U = go (judges_coming U at peer)
     go true = record { full = λ e. e; long = refl; views = λ n s. refl; kept = λ h e x. known h x }
     go false = same_leaves me U U refl refl refl
 
-answer_leaves : (me at peer on kind : ℕ) (U : Umpire) → (at == me) ≡ false → Leaves me U (after_answer U kind at peer on)
+answer_leaves : (me at peer on kind : ℕ) (U : Umpire) → (at == me) ≡ false → Leaves me U (umpire_after_answer U kind at peer on)
 answer_leaves me at peer on kind U d = go U.full
   where
     known : Bool
@@ -176,8 +176,8 @@ other_leaves me at way bits umpire d = leaves_both me umpire U (after_record ump
     still : Leaves me U U
     still = same_leaves me U U refl refl refl
 
-    out : (n on : ℕ) → n < 256 → Leaves me U (after_said (after_out U at n on bits) at n (turn_at (after_out U at n on bits) at n at true) (fresh_out U at n on bits) (message_in bits))
-    out n on s = leaves_both me U (after_out U at n on bits) (after_said (after_out U at n on bits) at n (turn_at (after_out U at n on bits) at n at true) (fresh_out U at n on bits) (message_in bits)) (out_leaves me at n on bits U d s) (said_leaves me at n at true (fresh_out U at n on bits) (message_in bits) (after_out U at n on bits) d s)
+    out : (n on : ℕ) → n < 256 → Leaves me U (after_said (umpire_after_out U at n on bits) at n (turn_at (umpire_after_out U at n on bits) at n at true) (fresh_out U at n on bits) (message_in bits))
+    out n on s = leaves_both me U (umpire_after_out U at n on bits) (after_said (umpire_after_out U at n on bits) at n (turn_at (umpire_after_out U at n on bits) at n at true) (fresh_out U at n on bits) (message_in bits)) (out_leaves me at n on bits U d s) (said_leaves me at n at true (fresh_out U at n on bits) (message_in bits) (umpire_after_out U at n on bits) d s)
 
     come : (n on : ℕ) → n < 256 → Leaves me U (after_said (after_in U at n on) at n (turn_at (after_in U at n on) at n n false) true (message_in bits))
     come n on s = leaves_both me U (after_in U at n on) (after_said (after_in U at n on) at n (turn_at (after_in U at n on) at n n false) true (message_in bits)) (in_leaves me at n on U) (said_leaves me at n n false true (message_in bits) (after_in U at n on) d s)

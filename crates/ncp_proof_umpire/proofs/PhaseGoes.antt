@@ -4,7 +4,6 @@ use Rattle.std.proofs.lemmas.List.{length-append}
 use Rattle.ncp_numbers.specs.Bytes.{bits_of_bytes}
 use Rattle.ncp_numbers.proofs.Bytes.{length-bits_of_bytes}
 use Rattle.ncp_terms.specs.declared.command.Command.{Command}
-use Rattle.ncp_terms.specs.declared.command.Command.TheVariants as commands
 use Rattle.ncp_terms.specs.Spelling.{IsCommand, spelling, spellings}
 use Rattle.ncp_control.specs.Texts.{items_of}
 use Rattle.ncp_control.proofs.Reading.{spelling_short}
@@ -14,9 +13,8 @@ use Rattle.ncp_model.specs.Sending.{fitting, next_commands}
 use Rattle.ncp_model.proofs.ResetLists.{rsts, rrps}
 use Rattle.ncp_umpire.specs.declared.finding.Finding.{Finding}
 use Rattle.ncp_umpire.specs.declared.finding.Thing.{Thing}
-use Rattle.ncp_umpire.specs.declared.finding.Thing.TheVariants as a
 use Rattle.ncp_umpire.specs.declared.view.View.{View}
-use Rattle.ncp_umpire.specs.Phases.{is_text, early_finding, after_thing, item_findings, after_item, items_findings, after_items, after_reply, missing_finding}
+use Rattle.ncp_umpire.specs.Phases.{is_text, early_finding, after_thing, item_findings, after_item, items_findings, after_items, view_after_reply, missing_finding}
 use Rattle.ncp_umpire.specs.Judged.{is_roomy}
 use Rattle.ncp_proof_umpire.proofs.Phased.{Phased, Settled, Sees, rst_goes, rst_keeps_rest, rrp_goes, rrp_keeps_rest, other_goes}
 
@@ -42,24 +40,24 @@ other me busy zero what c u p q v o r s t k =
     record { none = ap option_to_list w.0; phased = w.1; rests = λ e x. rests_more v.rests _ x }
 
 went : (me : ℕ) (busy : Option ℕ) (zero : Bool) (c : Command) (u : List Command) (p : Phase) (q : Bool) (v : View) → Sees q busy → Settled p q → Phased (record p { waiting = c ∷ u }) q v → Went me busy zero c u p q v
-went me busy zero commands.Rst u p q v b s k =
+went me busy zero Command.Rst u p q v b s k =
     let w = rst_goes me busy zero u p q v b s k in
     record { none = w.0; phased = w.1; rests = λ e x. rst_keeps_rest me busy zero u p q v k e x }
-went me busy zero commands.Rrp u p q v b s k =
+went me busy zero Command.Rrp u p q v b s k =
     let w = rrp_goes me busy zero u p q v b s k in
     record { none = w.0; phased = w.1; rests = λ e x. rrp_keeps_rest me busy zero v k.told x }
-went me busy zero commands.Nop u p q v b s k = let w = other me busy zero a.Nop commands.Nop u p q v refl refl refl refl k in record { none = w.none; phased = w.phased; rests = w.rests }
-went me busy zero (commands.Rts x y z) u p q v b s k = let w = other me busy zero a.Rts (commands.Rts x y z) u p q v refl refl refl refl k in record { none = w.none; phased = w.phased; rests = w.rests }
-went me busy zero (commands.Str x y z) u p q v b s k = let w = other me busy zero a.Str (commands.Str x y z) u p q v refl refl refl refl k in record { none = w.none; phased = w.phased; rests = w.rests }
-went me busy zero (commands.Cls x y) u p q v b s k = let w = other me busy zero a.Cls (commands.Cls x y) u p q v refl refl refl refl k in record { none = w.none; phased = w.phased; rests = w.rests }
-went me busy zero (commands.All x y z) u p q v b s k = let w = other me busy zero a.All (commands.All x y z) u p q v refl refl refl refl k in record { none = w.none; phased = w.phased; rests = w.rests }
-went me busy zero (commands.Gvb x y z) u p q v b s k = let w = other me busy zero a.Gvb (commands.Gvb x y z) u p q v refl refl refl refl k in record { none = w.none; phased = w.phased; rests = w.rests }
-went me busy zero (commands.Ret x y z) u p q v b s k = let w = other me busy zero a.Ret (commands.Ret x y z) u p q v refl refl refl refl k in record { none = w.none; phased = w.phased; rests = w.rests }
-went me busy zero (commands.Inr x) u p q v b s k = let w = other me busy zero a.Inr (commands.Inr x) u p q v refl refl refl refl k in record { none = w.none; phased = w.phased; rests = w.rests }
-went me busy zero (commands.Ins x) u p q v b s k = let w = other me busy zero a.Ins (commands.Ins x) u p q v refl refl refl refl k in record { none = w.none; phased = w.phased; rests = w.rests }
-went me busy zero (commands.Eco x) u p q v b s k = let w = other me busy zero a.Eco (commands.Eco x) u p q v refl refl refl refl k in record { none = w.none; phased = w.phased; rests = w.rests }
-went me busy zero (commands.Erp x) u p q v b s k = let w = other me busy zero a.Erp (commands.Erp x) u p q v refl refl refl refl k in record { none = w.none; phased = w.phased; rests = w.rests }
-went me busy zero (commands.Err x y) u p q v b s k = let w = other me busy zero a.Err (commands.Err x y) u p q v refl refl refl refl k in record { none = w.none; phased = w.phased; rests = w.rests }
+went me busy zero Command.Nop u p q v b s k = let w = other me busy zero Thing.Nop Command.Nop u p q v refl refl refl refl k in record { none = w.none; phased = w.phased; rests = w.rests }
+went me busy zero (Command.Rts x y z) u p q v b s k = let w = other me busy zero Thing.Rts (Command.Rts x y z) u p q v refl refl refl refl k in record { none = w.none; phased = w.phased; rests = w.rests }
+went me busy zero (Command.Str x y z) u p q v b s k = let w = other me busy zero Thing.Str (Command.Str x y z) u p q v refl refl refl refl k in record { none = w.none; phased = w.phased; rests = w.rests }
+went me busy zero (Command.Cls x y) u p q v b s k = let w = other me busy zero Thing.Cls (Command.Cls x y) u p q v refl refl refl refl k in record { none = w.none; phased = w.phased; rests = w.rests }
+went me busy zero (Command.All x y z) u p q v b s k = let w = other me busy zero Thing.All (Command.All x y z) u p q v refl refl refl refl k in record { none = w.none; phased = w.phased; rests = w.rests }
+went me busy zero (Command.Gvb x y z) u p q v b s k = let w = other me busy zero Thing.Gvb (Command.Gvb x y z) u p q v refl refl refl refl k in record { none = w.none; phased = w.phased; rests = w.rests }
+went me busy zero (Command.Ret x y z) u p q v b s k = let w = other me busy zero Thing.Ret (Command.Ret x y z) u p q v refl refl refl refl k in record { none = w.none; phased = w.phased; rests = w.rests }
+went me busy zero (Command.Inr x) u p q v b s k = let w = other me busy zero Thing.Inr (Command.Inr x) u p q v refl refl refl refl k in record { none = w.none; phased = w.phased; rests = w.rests }
+went me busy zero (Command.Ins x) u p q v b s k = let w = other me busy zero Thing.Ins (Command.Ins x) u p q v refl refl refl refl k in record { none = w.none; phased = w.phased; rests = w.rests }
+went me busy zero (Command.Eco x) u p q v b s k = let w = other me busy zero Thing.Eco (Command.Eco x) u p q v refl refl refl refl k in record { none = w.none; phased = w.phased; rests = w.rests }
+went me busy zero (Command.Erp x) u p q v b s k = let w = other me busy zero Thing.Erp (Command.Erp x) u p q v refl refl refl refl k in record { none = w.none; phased = w.phased; rests = w.rests }
+went me busy zero (Command.Err x y) u p q v b s k = let w = other me busy zero Thing.Err (Command.Err x y) u p q v refl refl refl refl k in record { none = w.none; phased = w.phased; rests = w.rests }
 
 -- all commands of a message, before those that go on waiting
 pub record AllWent (me : ℕ) (busy : Option ℕ) (zero : Bool) (cs rest : List Command) (p : Phase) (q : Bool) (v : View) : Type 0 where

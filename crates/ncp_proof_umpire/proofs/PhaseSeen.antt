@@ -14,7 +14,7 @@ use Rattle.ncp_terms.specs.Spelling.{IsCommand, spellings}
 use Rattle.ncp_control.specs.Texts.{items_of}
 use Rattle.ncp_control.specs.Reading.{commands_in, fault_in}
 use Rattle.ncp_control.proofs.Reading.{spellings_small, spelled_alone}
-use Rattle.ncp_slot.specs.declared.slot.Slot.TheVariants as host
+use Rattle.ncp_slot.specs.declared.slot.Slot.{Slot}
 use Rattle.ncp_slot.specs.Slot.{is_empty, is_travelling, answered, woken}
 use Rattle.ncp_slot.specs.Slots.{LinkSlot, LinkSlots, slot_at, with_slot, all_woken, is_quiet, IsQuiet}
 use Rattle.ncp_slot.proofs.Places.{slot_at-with_slot_same, slot_at-with_slot_other, is_quiet-tells, same_test}
@@ -23,37 +23,33 @@ use Rattle.ncp_model.specs.declared.pair.Pair.{Pair}
 use Rattle.ncp_model.specs.Act.{answer, made_if_any}
 use Rattle.ncp_model.specs.End.{End}
 use Rattle.ncp_model.specs.Ends.{Ends, hears_link, sender_on, pair_of, cut_at, cut_in, answered_in, map_after_at, no_ends}
-use Rattle.ncp_model.specs.Texts.{Rfnm as Taken}
+use Rattle.ncp_model.specs.Texts.{Rfnm}
 use Rattle.ncp_model.specs.declared.limits.TheConstants.{MAX_CONTROL}
-use Rattle.ncp_model.specs.Phase.{Phase, up, settles}
-use Rattle.ncp_model.specs.Phase as phases
+use Rattle.ncp_model.specs.Phase.{Phase, up, phase_settles}
 use Rattle.ncp_model.specs.Sending.{next_commands}
-use Rattle.ncp_model.specs.Peers.{Peer, Ask_to_send, Ask_to_receive, Close, Give, Take, Allocate, Call_back, Interrupt}
-use Rattle.ncp_model.specs.Peers as peers
+use Rattle.ncp_model.specs.Peers.{Peer, Ask_to_send, Ask_to_receive, Close, Give, Take, Allocate, Call_back, Interrupt, cuts, frees, frees_up, peer_sends, settles}
 use Rattle.ncp_model.proofs.LinksLead.{led}
 use Rattle.ncp_model.proofs.ResetLists.{rrps, rrps-append}
 use Rattle.ncp_proof_machine.proofs.EndsGood.{Good}
 use Rattle.ncp_host.specs.Counting.{one_more}
 use Rattle.ncp_host.specs.PeerState.{PeerState, control_link, frees_on, is_answered, answer_taken, answer_comes}
-use Rattle.ncp_host.specs.Hearing.{hears, hears_text, is_wrong_link, control_after, text_after, message_after}
+use Rattle.ncp_host.specs.Hearing.{state_hears, state_hears_text, is_wrong_link, state_after_control, state_after_text, message_after}
 use Rattle.ncp_host.specs.Output.{leader_to, links, text_message}
 use Rattle.ncp_host.specs.Host.{is_one_of}
 use Rattle.ncp_host.specs.Calls.{sockets}
 use Rattle.ncp_transcript.specs.declared.call.Call.{Call}
-use Rattle.ncp_transcript.specs.declared.call.Call.TheVariants as calls
 use Rattle.ncp_transcript.specs.declared.note.HostNote.{HostNote}
-use Rattle.ncp_transcript.specs.declared.note.HostNote.TheVariants as notes
 use Rattle.ncp_proof_runs.specs.Peers.{called_for, note_for}
 use Rattle.ncp_proof_runs.proofs.MadeOfRuns.{next-first}
 use Rattle.ncp_umpire.specs.declared.finding.Finding.{Finding}
-use Rattle.ncp_umpire.specs.declared.finding.Thing.TheVariants as a
+use Rattle.ncp_umpire.specs.declared.finding.Thing.{Thing}
 use Rattle.ncp_umpire.specs.declared.umpire.Umpire.{Umpire}
 use Rattle.ncp_umpire.specs.declared.view.View.{View}
 use Rattle.ncp_umpire.specs.declared.views.TheConstants.{VIEWS}
 use Rattle.ncp_umpire.specs.Slots.{busy_link}
 use Rattle.ncp_umpire.specs.Tables.{index_of, view_in, with_view}
 use Rattle.ncp_umpire.specs.Views.{new_view}
-use Rattle.ncp_umpire.specs.Messages.{is_unused, reading_of}
+use Rattle.ncp_umpire.specs.Messages.{is_unused, judged_reading}
 use Rattle.ncp_umpire.specs.Phases.{early_finding, after_thing, items_findings, after_item, after_items, after_room, missing_finding}
 use Rattle.ncp_umpire.specs.Judged.{view_of, knows_zero, turn_at, is_roomy, items_said, read_findings, after_read, said_findings, after_said}
 use Rattle.ncp_proof_umpire.proofs.HostSlots.{is_of_call}
@@ -80,11 +76,11 @@ view_length views me n v = length-set views (index_of me n) v
 
 -- ---- quiet links
 
-to_empty : (x : LinkSlot) → is_empty x ≡ true → x ≡ host.Empty
-to_empty host.Empty e = refl
-to_empty (host.Ready m) e = absurd (cc)
-to_empty (host.Travelling m) e = absurd (cc)
-to_empty (host.Held m) e = absurd (cc)
+to_empty : (x : LinkSlot) → is_empty x ≡ true → x ≡ Slot.Empty
+to_empty Slot.Empty e = refl
+to_empty (Slot.Ready m) e = absurd (cc)
+to_empty (Slot.Travelling m) e = absurd (cc)
+to_empty (Slot.Held m) e = absurd (cc)
 
 pub quiet_same : (one other : LinkSlots) → ((l : ℕ) → (l == 0) ≡ false → is_empty (slot_at one l) ≡ is_empty (slot_at other l)) → is_quiet one ≡ is_quiet other
 quiet_same one other f =
@@ -115,65 +111,65 @@ stands_quiet p q now v e k = subst (λ (b : Bool). Stands p b v) (sym e) k
 -- ---- calls
 
 called_seen : (call : Call) (s : PeerState) (v : View) → Good s.peer.ends → Stands s.peer (is_quiet s.slots) v → Stands (called_for call s).peer (is_quiet (called_for call s).slots) v
-called_seen (calls.Reset peer) s v g k = reset_stands s.peer (is_quiet s.slots) v k
-called_seen (calls.AskSend peer local remote size room) s v g k = calls_stand (sockets local remote) (Ask_to_send size room) s.peer (is_quiet s.slots) v g k
-called_seen (calls.AskReceive peer local remote room) s v g k = calls_stand (sockets local remote) (Ask_to_receive room) s.peer (is_quiet s.slots) v g k
-called_seen (calls.Give peer pair text) s v g k = calls_stand pair (Give text) s.peer (is_quiet s.slots) v g k
-called_seen (calls.Take peer pair bytes) s v g k = calls_stand pair (Take bytes) s.peer (is_quiet s.slots) v g k
-called_seen (calls.Allocate peer pair messages bits) s v g k = calls_stand pair (Allocate messages bits) s.peer (is_quiet s.slots) v g k
-called_seen (calls.CallBack peer pair fm fb) s v g k = calls_stand pair (Call_back fm fb) s.peer (is_quiet s.slots) v g k
-called_seen (calls.Interrupt peer pair) s v g k = calls_stand pair Interrupt s.peer (is_quiet s.slots) v g k
-called_seen (calls.Echo peer byte) s v g k = echo_stands byte s.peer (is_quiet s.slots) v k
-called_seen (calls.Close peer pair) s v g k = calls_stand pair Close s.peer (is_quiet s.slots) v g k
-called_seen (calls.Wake peer) s v g k =
+called_seen (Call.Reset peer) s v g k = reset_stands s.peer (is_quiet s.slots) v k
+called_seen (Call.AskSend peer local remote size room) s v g k = calls_stand (sockets local remote) (Ask_to_send size room) s.peer (is_quiet s.slots) v g k
+called_seen (Call.AskReceive peer local remote room) s v g k = calls_stand (sockets local remote) (Ask_to_receive room) s.peer (is_quiet s.slots) v g k
+called_seen (Call.Give peer pair text) s v g k = calls_stand pair (Give text) s.peer (is_quiet s.slots) v g k
+called_seen (Call.Take peer pair bytes) s v g k = calls_stand pair (Take bytes) s.peer (is_quiet s.slots) v g k
+called_seen (Call.Allocate peer pair messages bits) s v g k = calls_stand pair (Allocate messages bits) s.peer (is_quiet s.slots) v g k
+called_seen (Call.CallBack peer pair fm fb) s v g k = calls_stand pair (Call_back fm fb) s.peer (is_quiet s.slots) v g k
+called_seen (Call.Interrupt peer pair) s v g k = calls_stand pair Interrupt s.peer (is_quiet s.slots) v g k
+called_seen (Call.Echo peer byte) s v g k = echo_stands byte s.peer (is_quiet s.slots) v k
+called_seen (Call.Close peer pair) s v g k = calls_stand pair Close s.peer (is_quiet s.slots) v g k
+called_seen (Call.Wake peer) s v g k =
     stands_quiet s.peer (is_quiet s.slots) (is_quiet (all_woken s.slots)) v (quiet_same (all_woken s.slots) s.slots (λ l z. ap is_empty (slot_at-all_woken s.slots l) ∙ kept (slot_at s.slots l))) k
   where
     kept : (x : LinkSlot) → is_empty (woken x) ≡ is_empty x
-    kept host.Empty = refl
-    kept (host.Ready m) = refl
-    kept (host.Travelling m) = refl
-    kept (host.Held m) = refl
-called_seen (calls.State peer pair) s v g k = k
-called_seen (calls.Phase peer) s v g k = k
-called_seen (calls.Echoed peer) s v g k = k
-called_seen (calls.Errors peer) s v g k = k
-called_seen (calls.Counts peer) s v g k = k
-called_seen (calls.Waiting peer place) s v g k = k
-called_seen (calls.Kept peer link) s v g k = k
-called_seen calls.Ignored s v g k = k
+    kept Slot.Empty = refl
+    kept (Slot.Ready m) = refl
+    kept (Slot.Travelling m) = refl
+    kept (Slot.Held m) = refl
+called_seen (Call.State peer pair) s v g k = k
+called_seen (Call.Phase peer) s v g k = k
+called_seen (Call.Echoed peer) s v g k = k
+called_seen (Call.Errors peer) s v g k = k
+called_seen (Call.Counts peer) s v g k = k
+called_seen (Call.Waiting peer place) s v g k = k
+called_seen (Call.Kept peer link) s v g k = k
+called_seen Call.Ignored s v g k = k
 
 pub call_seen : (note : HostNote) (s : PeerState) (v : View) → is_of_call note ≡ true → Good s.peer.ends → Stands s.peer (is_quiet s.slots) v → Stands (note_for note s).peer (is_quiet (note_for note s).slots) v
-call_seen (notes.Refused call fault) s v c g k = k
-call_seen (notes.Done call) s v c g k = called_seen call s v g k
-call_seen (notes.Took peer pair bytes text) s v c g k = calls_stand pair (Take bytes) s.peer (is_quiet s.slots) v g k
-call_seen (notes.State peer pair r) s v c g k = k
-call_seen (notes.Phase peer flags) s v c g k = k
-call_seen (notes.Echoed peer byte) s v c g k = k
-call_seen (notes.Errors peer errors) s v c g k = k
-call_seen (notes.Counts peer counts) s v c g k = k
-call_seen (notes.Waiting peer place command) s v c g k = k
-call_seen (notes.Kept peer link message) s v c g k = k
-call_seen (notes.Ignored ignored) s v c g k = k
-call_seen (notes.Out message) s v c g k = absurd (cc)
-call_seen notes.Nothing s v c g k = absurd (cc)
-call_seen (notes.In message received) s v c g k = absurd (cc)
-call_seen (notes.Answered peer link how received) s v c g k = absurd (cc)
+call_seen (HostNote.Refused call fault) s v c g k = k
+call_seen (HostNote.Done call) s v c g k = called_seen call s v g k
+call_seen (HostNote.Took peer pair bytes text) s v c g k = calls_stand pair (Take bytes) s.peer (is_quiet s.slots) v g k
+call_seen (HostNote.State peer pair r) s v c g k = k
+call_seen (HostNote.Phase peer flags) s v c g k = k
+call_seen (HostNote.Echoed peer byte) s v c g k = k
+call_seen (HostNote.Errors peer errors) s v c g k = k
+call_seen (HostNote.Counts peer counts) s v c g k = k
+call_seen (HostNote.Waiting peer place command) s v c g k = k
+call_seen (HostNote.Kept peer link message) s v c g k = k
+call_seen (HostNote.Ignored ignored) s v c g k = k
+call_seen (HostNote.Out message) s v c g k = absurd (cc)
+call_seen HostNote.Nothing s v c g k = absurd (cc)
+call_seen (HostNote.In message received) s v c g k = absurd (cc)
+call_seen (HostNote.Answered peer link how received) s v c g k = absurd (cc)
 
 -- ---- a message of the peer
 
 heard_seen : (n : ℕ) (busy : Option ℕ) (zero : Bool) (cs : List Command) (fault : Option CommandFault) (s : PeerState) (v : View) → Sees (is_quiet s.slots) busy → Stands s.peer (is_quiet s.slots) v
-    → Stands (hears_text cs fault s).peer (is_quiet (hears_text cs fault s).slots) (after_items (record { by = n; sent = false; busy = busy; zero = zero }) (items_of cs fault) v)
+    → Stands (state_hears_text cs fault s).peer (is_quiet (state_hears_text cs fault s).slots) (after_items (record { by = n; sent = false; busy = busy; zero = zero }) (items_of cs fault) v)
 heard_seen n busy zero [] None s v b k = k
 heard_seen n busy zero [] (Some fault) s v b k = fault_stands n busy zero fault s.peer (is_quiet s.slots) v k
 heard_seen n busy zero (c ∷ cs) fault s v b k =
-    heard_seen n busy zero cs fault (hears c s) (after_item (record { by = n; sent = false; busy = busy; zero = zero }) (Ok c) v) b (command_stands n busy zero c s.peer (is_quiet s.slots) v b k)
+    heard_seen n busy zero cs fault (state_hears c s) (after_item (record { by = n; sent = false; busy = busy; zero = zero }) (Ok c) v) b (command_stands n busy zero c s.peer (is_quiet s.slots) v b k)
 
 pub message_seen : (n : ℕ) (busy : Option ℕ) (zero : Bool) (bits : List Bool) (m : Message) (s : PeerState) (v : View) → Sees (is_quiet s.slots) busy → Stands s.peer (is_quiet s.slots) v
-    → Stands (message_after m.leader.link bits (Ok m) s).peer (is_quiet (message_after m.leader.link bits (Ok m) s).slots) (after_read (reading_of m) (record { by = n; sent = false; busy = busy; zero = zero }) m.text v)
+    → Stands (message_after m.leader.link bits (Ok m) s).peer (is_quiet (message_after m.leader.link bits (Ok m) s).slots) (after_read (judged_reading m) (record { by = n; sent = false; busy = busy; zero = zero }) m.text v)
 message_seen n busy zero bits m s v b k = go (is_unused m.leader.link) (m.leader.link == 0) (m.size == 8) refl refl refl
   where
     go : (x y z : Bool) → is_unused m.leader.link ≡ x → (m.leader.link == 0) ≡ y → (m.size == 8) ≡ z
-        → Stands (message_after m.leader.link bits (Ok m) s).peer (is_quiet (message_after m.leader.link bits (Ok m) s).slots) (after_read (reading_of m) (record { by = n; sent = false; busy = busy; zero = zero }) m.text v)
+        → Stands (message_after m.leader.link bits (Ok m) s).peer (is_quiet (message_after m.leader.link bits (Ok m) s).slots) (after_read (judged_reading m) (record { by = n; sent = false; busy = busy; zero = zero }) m.text v)
     go true y z e f g = rw e k
     go false false z e f g = rw (e, f) (text_stands n busy zero m.leader.link (take FRONT_BITS bits) m.size m.text s.peer (is_quiet s.slots) v k)
     go false true true e f g = rw (e, f, g) (heard_seen n busy zero (commands_in (bytes_of m.text)) (fault_in (bytes_of m.text)) s v b k)
@@ -181,13 +177,13 @@ message_seen n busy zero bits m s v b k = go (is_unused m.leader.link) (m.leader
 
 -- ---- an answer
 
-was_down : (q : Bool) (p : Phase) → up (settles q p) ≡ false → up p ≡ false
+was_down : (q : Bool) (p : Phase) → up (phase_settles q p) ≡ false → up p ≡ false
 was_down q p e = grind arith
 
-same_up : (q : Bool) (p : Phase) → up p ≡ true → settles q p ≡ p
+same_up : (q : Bool) (p : Phase) → up p ≡ true → phase_settles q p ≡ p
 same_up q p e = grind arith
 
-settle_from : (p : Peer) (q : Bool) (v : View) → Phased p.phase q v → (up p.phase ≡ false → p.ends ≡ no_ends) → (up p.phase ≡ true → v.rests ≡ false → 0 < rrps p.phase.waiting → Unheard p.ends) → Stands (peers.settles q p) q v
+settle_from : (p : Peer) (q : Bool) (v : View) → Phased p.phase q v → (up p.phase ≡ false → p.ends ≡ no_ends) → (up p.phase ≡ true → v.rests ≡ false → 0 < rrps p.phase.waiting → Unheard p.ends) → Stands (settles q p) q v
 settle_from p q v k down heard = record {
   phased = (settling p.phase q v k).0;
   settled = (settling p.phase q v k).1;
@@ -195,7 +191,7 @@ settle_from p q v k down heard = record {
   unheard = λ u r z. by (up p.phase) refl r z;
 }
   where
-    by : (b : Bool) → up p.phase ≡ b → v.rests ≡ false → 0 < rrps (settles q p.phase).waiting → Unheard p.ends
+    by : (b : Bool) → up p.phase ≡ b → v.rests ≡ false → 0 < rrps (phase_settles q p.phase).waiting → Unheard p.ends
     by true e r z = heard e r (subst (λ (x : Phase). 0 < rrps x.waiting) (same_up q p.phase e) z)
     by false e r z = subst Unheard (sym (down e)) none_heard
 
@@ -203,18 +199,18 @@ no_rrp : (p : Phase) (v : View) → Phased p false v → v.rests ≡ false → r
 no_rrp p v k r = let e = k.rrp_quiet r in grind arith
 
 -- a text that is taken was out
-freed_stands : (on : ℕ) (p : Peer) (v : View) → Stands p false v → Stands (peers.frees on p) false v
+freed_stands : (on : ℕ) (p : Peer) (v : View) → Stands p false v → Stands (frees on p) false v
 freed_stands on p v k =
-    let act = answered_in on Taken p.ends in
-    stands_if (up p.phase) (peers.frees_up on p) p false v
+    let act = answered_in on Rfnm p.ends in
+    stands_if (up p.phase) (frees_up on p) p false v
     (λ e. makes_stand (made_if_any (answer act)) (map_after_at p.ends (pair_of (sender_on on p.ends)) act) p.echoes p.phase false v k.phased k.settled (no_rrp p.phase v k.phased))
     (λ e. k)
 
 travelling : (x : LinkSlot) → is_travelling x ≡ true → is_empty x ≡ false
-travelling host.Empty e = absurd (cc)
-travelling (host.Ready m) e = absurd (cc)
-travelling (host.Travelling m) e = refl
-travelling (host.Held m) e = absurd (cc)
+travelling Slot.Empty e = absurd (cc)
+travelling (Slot.Ready m) e = absurd (cc)
+travelling (Slot.Travelling m) e = refl
+travelling (Slot.Held m) e = absurd (cc)
 
 beside : (slots : LinkSlots) (on : ℕ) (slot : LinkSlot) (l : ℕ) → l ≢ on → is_empty (slot_at (with_slot slots on slot) l) ≡ is_empty (slot_at slots l)
 beside slots on slot l d = ap is_empty (slot_at-with_slot_other slots on slot l d)
@@ -230,16 +226,16 @@ pub quiet_zero : (slots : LinkSlots) (on : ℕ) (slot : LinkSlot) → (on == 0) 
 quiet_zero slots on slot z = quiet_same (with_slot slots on slot) slots (λ l y. beside slots on slot l (λ e. let nay : true ≡ false = sym z ∙ ap (λ (j : ℕ). j == 0) (sym e) ∙ y in absurd (cc)))
 
 failed : (x : LinkSlot) → is_empty (answered Incomplete x) ≡ is_empty x
-failed host.Empty = refl
-failed (host.Ready m) = refl
-failed (host.Travelling m) = refl
-failed (host.Held m) = refl
+failed Slot.Empty = refl
+failed (Slot.Ready m) = refl
+failed (Slot.Travelling m) = refl
+failed (Slot.Held m) = refl
 
 dead : (x : LinkSlot) → is_empty (answered Dead x) ≡ is_empty x
-dead host.Empty = refl
-dead (host.Ready m) = refl
-dead (host.Travelling m) = refl
-dead (host.Held m) = refl
+dead Slot.Empty = refl
+dead (Slot.Ready m) = refl
+dead (Slot.Travelling m) = refl
+dead (Slot.Held m) = refl
 
 taken_seen : (on : ℕ) (how : Answer) (s : PeerState) (v : View) → OnLinks s → is_answered on s ≡ true → Stands s.peer (is_quiet s.slots) v → Stands (answer_taken on how s).peer (is_quiet (answer_taken on how s).slots) v
 taken_seen on Incomplete s v a e k = stands_quiet s.peer (is_quiet s.slots) (is_quiet (with_slot s.slots on (answered Incomplete (slot_at s.slots on)))) v (quiet_filled s.slots on (answered Incomplete (slot_at s.slots on)) (failed (slot_at s.slots on))) k
@@ -249,13 +245,13 @@ taken_seen on Rfnm s v a e k = by (on == control_link) refl
     now : LinkSlots
     now = with_slot s.slots on (answered Rfnm (slot_at s.slots on))
 
-    by : (b : Bool) → (on == control_link) ≡ b → Stands (peers.settles (is_quiet now) (if b then s.peer else peers.frees on s.peer)) (is_quiet now) v
+    by : (b : Bool) → (on == control_link) ≡ b → Stands (settles (is_quiet now) (if b then s.peer else frees on s.peer)) (is_quiet now) v
     by true z =
         let w = stands_quiet s.peer (is_quiet s.slots) (is_quiet now) v (quiet_zero s.slots on (answered Rfnm (slot_at s.slots on)) z) k in
         settle_from s.peer (is_quiet now) v w.phased w.down w.unheard
     by false z =
         let w = freed_stands on s.peer v (stands_quiet s.peer (is_quiet s.slots) false v (sym (not_quiet s on a z (travelling (slot_at s.slots on) e))) k) in
-        settle_from (peers.frees on s.peer) (is_quiet now) v (quieted (peers.frees on s.peer).phase (is_quiet now) v w.phased) w.down w.unheard
+        settle_from (frees on s.peer) (is_quiet now) v (quieted (frees on s.peer).phase (is_quiet now) v w.phased) w.down w.unheard
 
 pub answer_seen : (on : ℕ) (how : Answer) (s : PeerState) (v : View) → OnLinks s → Stands s.peer (is_quiet s.slots) v → Stands (answer_comes on how s).peer (is_quiet (answer_comes on how s).slots) v
 answer_seen on how s v a k = go (is_answered on s) refl
@@ -285,12 +281,12 @@ told_room me busy zero false v t = refl
 
 -- commands
 pub commands_out : (A : Umpire) (me n : ℕ) (p : Peer) (q : Bool) → length A.views ≡ VIEWS → me < 256 → n < 256 → All IsCommand p.phase.waiting → Sees q (busy_link me n A.kept) → Stands p q (view_of A me n)
-    → Out A me n true (Ok (message_with (leader_to n 0) 8 (bits_of_bytes (spellings (next_commands p.phase.waiting))))) (peers.sends p) q
+    → Out A me n true (Ok (message_with (leader_to n 0) 8 (bits_of_bytes (spellings (next_commands p.phase.waiting))))) (peer_sends p) q
 commands_out A me n p q l a b c busy k = record {
   none =
       ap found items ∙ ap (λ (xs : List Finding). xs ++ option_to_list (missing_finding (record { by = me; sent = true; busy = busy_link me n A.kept; zero = knows_zero A me n }) (is_roomy text) after)) w.none
       ∙ ap option_to_list (none_missing me (busy_link me n A.kept) (knows_zero A me n) (is_roomy text) rest p.phase q after busy k.settled w.phased (roomy_left p.phase.waiting c));
-  stands = subst (λ (x : View). Stands (peers.sends p) q x) (sym is) stands_after;
+  stands = subst (λ (x : View). Stands (peer_sends p) q x) (sym is) stands_after;
 }
   where
     cs : List Command
@@ -338,7 +334,7 @@ commands_out A me n p q l a b c busy k = record {
         let e : rrps p.phase.waiting ≡ rrps cs + rrps rest = ap rrps (sym (next-first p.phase.waiting)) ∙ rrps-append cs rest in
         omega (arith, e, z)
 
-    stands_after : Stands (peers.sends p) q after
+    stands_after : Stands (peer_sends p) q after
     stands_after = record { phased = w.phased; settled = k.settled; down = k.down; unheard = λ u r z. k.unheard u (w.rests u r) (fewer z) }
 
 -- a text goes out of an end that heard a link
@@ -353,19 +349,19 @@ heard_some m on t u e = go (sender_on on m) refl e
         let nay : true ≡ false = sym l.1 ∙ u on x.0 in
         absurd (cc)
 
-text_found : (me : ℕ) (busy : Option ℕ) (zero : Bool) (m : Message) (v : View) → is_unused m.leader.link ≡ false → (m.leader.link == 0) ≡ false → read_findings (reading_of m) (record { by = me; sent = true; busy = busy; zero = zero }) m.text v ≡ option_to_list (early_finding (record { by = me; sent = true; busy = busy; zero = zero }) a.Text v)
+text_found : (me : ℕ) (busy : Option ℕ) (zero : Bool) (m : Message) (v : View) → is_unused m.leader.link ≡ false → (m.leader.link == 0) ≡ false → read_findings (judged_reading m) (record { by = me; sent = true; busy = busy; zero = zero }) m.text v ≡ option_to_list (early_finding (record { by = me; sent = true; busy = busy; zero = zero }) Thing.Text v)
 text_found me busy zero m v x y = rw (x, y) refl
 
-text_view : (me : ℕ) (busy : Option ℕ) (zero : Bool) (m : Message) (v : View) → is_unused m.leader.link ≡ false → (m.leader.link == 0) ≡ false → after_read (reading_of m) (record { by = me; sent = true; busy = busy; zero = zero }) m.text v ≡ after_thing (record { by = me; sent = true; busy = busy; zero = zero }) a.Text v
+text_view : (me : ℕ) (busy : Option ℕ) (zero : Bool) (m : Message) (v : View) → is_unused m.leader.link ≡ false → (m.leader.link == 0) ≡ false → after_read (judged_reading m) (record { by = me; sent = true; busy = busy; zero = zero }) m.text v ≡ after_thing (record { by = me; sent = true; busy = busy; zero = zero }) Thing.Text v
 text_view me busy zero m v x y = rw (x, y) refl
 
 pub text_out : (A : Umpire) (me n on : ℕ) (t : ℕ × List Bool) (p : Peer) (q now : Bool) → length A.views ≡ VIEWS → me < 256 → n < 256 → is_one_of on links ≡ true → (on == 0) ≡ false → answer (cut_in on p.ends) ≡ Some t → Stands p q (view_of A me n)
-    → Out A me n true (Ok (message_with (leader_to n on) t.0 t.1)) (peers.cuts on p) now
+    → Out A me n true (Ok (message_with (leader_to n on) t.0 t.1)) (cuts on p) now
 text_out A me n on t p q now l me_small n_small u z cut k = record {
   none = text_found me (busy_link me n A.kept) (knows_zero A me n) m v (used on u) z ∙ ap option_to_list w.0;
   stands =
-      subst (λ (x : View). Stands (peers.cuts on p) now x)
-      (sym (view_same A.views me n (after_read (reading_of m) (record { by = me; sent = true; busy = busy_link me n A.kept; zero = knows_zero A me n }) m.text v) l me_small n_small ∙ text_view me (busy_link me n A.kept) (knows_zero A me n) m v (used on u) z))
+      subst (λ (x : View). Stands (cuts on p) now x)
+      (sym (view_same A.views me n (after_read (judged_reading m) (record { by = me; sent = true; busy = busy_link me n A.kept; zero = knows_zero A me n }) m.text v) l me_small n_small ∙ text_view me (busy_link me n A.kept) (knows_zero A me n) m v (used on u) z))
       stands_after;
 }
   where
@@ -385,16 +381,16 @@ text_out A me n on t p q now l me_small n_small u z cut k = record {
     none : v.rests ≡ false → rrps p.phase.waiting ≡ 0
     none r = none_of (rrps p.phase.waiting) (λ some. heard_some p.ends on t (k.unheard up_is r some) cut)
 
-    w : (early_finding (record { by = me; sent = true; busy = busy_link me n A.kept; zero = knows_zero A me n }) a.Text v ≡ None) × Phased p.phase q (after_thing (record { by = me; sent = true; busy = busy_link me n A.kept; zero = knows_zero A me n }) a.Text v)
+    w : (early_finding (record { by = me; sent = true; busy = busy_link me n A.kept; zero = knows_zero A me n }) Thing.Text v ≡ None) × Phased p.phase q (after_thing (record { by = me; sent = true; busy = busy_link me n A.kept; zero = knows_zero A me n }) Thing.Text v)
     w = text_goes me (busy_link me n A.kept) (knows_zero A me n) p.phase q v up_is none k.phased
 
     after : View
-    after = after_thing (record { by = me; sent = true; busy = busy_link me n A.kept; zero = knows_zero A me n }) a.Text v
+    after = after_thing (record { by = me; sent = true; busy = busy_link me n A.kept; zero = knows_zero A me n }) Thing.Text v
 
     rests : after.rests ≡ false → v.rests ≡ false
     rests r = rests_more v.rests _ r
 
-    stands_after : Stands (peers.cuts on p) now after
+    stands_after : Stands (cuts on p) now after
     stands_after = record {
       phased = unquieted p.phase q now after up_is (λ r. none (rests r)) w.1;
       settled = up_settled p.phase now up_is;

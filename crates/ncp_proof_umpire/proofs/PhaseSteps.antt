@@ -3,7 +3,6 @@ use Rattle.std.proofs.Common.{◌≡◌, ◌≢◌, ◌⊎◌, inl, inr, ℕ, �
 use Rattle.std.specs.List.{list_any}
 use Rattle.std.specs.FinMap.{get, get-empty}
 use Rattle.ncp_terms.specs.declared.command.Command.{Command}
-use Rattle.ncp_terms.specs.declared.command.Command.TheVariants as commands
 use Rattle.ncp_terms.specs.declared.fault.CommandFault.{CommandFault}
 use Rattle.ncp_control.specs.Texts.{items_of}
 use Rattle.ncp_model.specs.declared.pair.Pair.{Pair}
@@ -14,20 +13,17 @@ use Rattle.ncp_model.specs.Echo.{Echoes, echo_answer, echo_asked}
 use Rattle.ncp_model.specs.Ends.{Ends, hears_link, put, receiver_on, pair_of, leads_to, hear, text_in, map_after_at, no_ends}
 use Rattle.ncp_model.specs.Happenings.{Happening, happens}
 use Rattle.ncp_model.specs.Leading.{passes}
-use Rattle.ncp_model.specs.Phase.{Phase, Reaction, up, is_rst, is_rrp, is_reset, is_other, is_resetting, has_place, queued, goes_down, wants_reset, owes_answer, hears_rrp, answers, asks, settles}
-use Rattle.ncp_model.specs.Phase as phases
+use Rattle.ncp_model.specs.Phase.{Phase, Reaction, up, is_rst, is_rrp, is_reset, is_other, is_resetting, has_place, queued, goes_down, wants_reset, owes_answer, hears_rrp, phase_answers, phase_asks, phase_settles, makes_all, phase_hears, phase_makes, resets}
 use Rattle.ncp_model.specs.Sending.{is_full}
 use Rattle.ncp_model.specs.Texts.{made_by_text}
-use Rattle.ncp_model.specs.Peers.{Peer, Call, Ask_to_send, Ask_to_receive, Close, Give, Take, Allocate, Call_back, Interrupt, happened_at, standing}
-use Rattle.ncp_model.specs.Peers as peers
+use Rattle.ncp_model.specs.Peers.{Peer, PairCall, Ask_to_send, Ask_to_receive, Close, Give, Take, Allocate, Call_back, Interrupt, happened_at, standing, called, calls, calls_echo, calls_reset, calls_up, cleared, echo_called, echoes_after, hears, hears_fault, hears_other, hears_text, makes, reaction, takes_text}
 use Rattle.ncp_model.proofs.ResetLists.{rsts, rrps, rrps-append, rrps-purged}
 use Rattle.ncp_proof_machine.proofs.EndsGood.{Good, same_or, put-changes}
 use Rattle.ncp_proof_watch.proofs.LinksStay.{brings_link, heard-by}
 use Rattle.ncp_umpire.specs.declared.finding.Thing.{Thing}
-use Rattle.ncp_umpire.specs.declared.finding.Thing.TheVariants as a
 use Rattle.ncp_umpire.specs.declared.view.View.{View}
-use Rattle.ncp_umpire.specs.Views.{is_waiting}
-use Rattle.ncp_umpire.specs.Phases.{after_thing, after_item, after_items, after_reset, after_reply}
+use Rattle.ncp_umpire.specs.Views.{awaits_reply}
+use Rattle.ncp_umpire.specs.Phases.{after_thing, after_item, after_items, view_after_reset, view_after_reply}
 use Rattle.ncp_proof_umpire.proofs.Phased.{Phased, Settled, Sees, falling, queueing, wanting, answering, asking, rst_comes, rrp_comes, rrp_ends_rest, other_comes}
 
 -- ---- the commands that are made
@@ -42,7 +38,7 @@ not_reset c o = (grind arith, grind arith)
 
 -- one command
 
-make : (c : Command) (p : Phase) (q : Bool) (v : View) → Phased p q v → Settled p q → Made p (phases.makes c p) q v
+make : (c : Command) (p : Phase) (q : Bool) (v : View) → Phased p q v → Settled p q → Made p (phase_makes c p) q v
 make c p q v k s = go (up p) refl (is_other c) refl (has_place p)
   where
     go : (b : Bool) → up p ≡ b → (o : Bool) → is_other c ≡ o → (d : Bool) → Made p (if b && o then (if d then queued c p else goes_down p) else p) q v
@@ -54,11 +50,11 @@ make c p q v k s = go (up p) refl (is_other c) refl (has_place p)
     go true u false o d = record { phased = k; settled = s; replies = refl }
     go false u o e d = record { phased = k; settled = s; replies = refl }
 
-pub make_all : (cs : List Command) (p : Phase) (q : Bool) (v : View) → Phased p q v → Settled p q → Made p (phases.makes_all cs p) q v
+pub make_all : (cs : List Command) (p : Phase) (q : Bool) (v : View) → Phased p q v → Settled p q → Made p (makes_all cs p) q v
 make_all [] p q v k s = record { phased = k; settled = s; replies = refl }
 make_all (c ∷ cs) p q v k s =
     let one = make c p q v k s in
-    let rest = make_all cs (phases.makes c p) q v one.phased one.settled in
+    let rest = make_all cs (phase_makes c p) q v one.phased one.settled in
     record { phased = rest.phased; settled = rest.settled; replies = rest.replies ∙ one.replies }
 
 -- ---- the ends
@@ -70,7 +66,7 @@ Unheard m = (l : ℕ) (pair : Pair) → passes (hears_link l) pair (get m pair) 
 pub none_heard : Unheard no_ends
 none_heard l pair = ap (passes (hears_link l) pair) (get-empty pair_cmp pair)
 
-none_brings : (call : Call) (full : Bool) (m : Ends) (l : ℕ) → brings_link l (peers.called call full m) ≡ false
+none_brings : (call : PairCall) (full : Bool) (m : Ends) (l : ℕ) → brings_link l (called call full m) ≡ false
 none_brings (Ask_to_send of_size with_room) full m l = refl
 none_brings (Ask_to_receive with_room) full m l = refl
 none_brings Close full m l = refl
@@ -85,11 +81,11 @@ false_or_true true n = absurd (n refl)
 false_or_true false n = refl
 
 -- a call makes none hear one
-pub call_unheard : (pair : Pair) (call : Call) (full : Bool) (m : Ends) → Good m → Unheard m → Unheard (put m pair (happens pair (peers.called call full m) (get m pair)).after)
+pub call_unheard : (pair : Pair) (call : PairCall) (full : Bool) (m : Ends) → Good m → Unheard m → Unheard (put m pair (happens pair (called call full m) (get m pair)).after)
 call_unheard pair call full m g u l q = go (same_or q pair)
   where
     what : Happening
-    what = peers.called call full m
+    what = called call full m
 
     now : Ends
     now = put m pair (happens pair what (get m pair)).after
@@ -141,51 +137,51 @@ anew now s q v k e = record { phased = k; settled = e; down = λ x. refl; unhear
 
 -- ---- calls
 
-pub calls_stand : (pair : Pair) (call : Call) (p : Peer) (q : Bool) (v : View) → Good p.ends → Stands p q v → Stands (peers.calls pair call p) q v
-calls_stand pair call p q v g k = stands_if (up p.phase) (peers.calls_up pair call p) p q v made (λ e. k)
+pub calls_stand : (pair : Pair) (call : PairCall) (p : Peer) (q : Bool) (v : View) → Good p.ends → Stands p q v → Stands (calls pair call p) q v
+calls_stand pair call p q v g k = stands_if (up p.phase) (calls_up pair call p) p q v made (λ e. k)
   where
-    made : up p.phase ≡ true → Stands (peers.calls_up pair call p) q v
+    made : up p.phase ≡ true → Stands (calls_up pair call p) q v
     made e =
-        stood (phases.makes_all (happened_at pair call p).made p.phase) (put p.ends pair (happened_at pair call p).after) p.echoes p.phase q v
+        stood (makes_all (happened_at pair call p).made p.phase) (put p.ends pair (happened_at pair call p).after) p.echoes p.phase q v
         (make_all (happened_at pair call p).made p.phase q v k.phased k.settled)
         (λ r w. call_unheard pair call (is_full p.phase) p.ends g (k.unheard e r w))
 
-pub echo_stands : (byte : ℕ) (p : Peer) (q : Bool) (v : View) → Stands p q v → Stands (peers.calls_echo byte p) q v
-echo_stands byte p q v k = stands_if (up p.phase) (peers.echo_called byte p) p q v made (λ e. k)
+pub echo_stands : (byte : ℕ) (p : Peer) (q : Bool) (v : View) → Stands p q v → Stands (calls_echo byte p) q v
+echo_stands byte p q v k = stands_if (up p.phase) (echo_called byte p) p q v made (λ e. k)
   where
     cs : List Command
     cs = made_by_call (echo_answer byte (is_full p.phase) p.echoes)
 
-    made : up p.phase ≡ true → Stands (peers.echo_called byte p) q v
-    made e = stood (phases.makes_all cs p.phase) p.ends (echo_asked (is_full p.phase) p.echoes) p.phase q v (make_all cs p.phase q v k.phased k.settled) (λ r w. k.unheard e r w)
+    made : up p.phase ≡ true → Stands (echo_called byte p) q v
+    made e = stood (makes_all cs p.phase) p.ends (echo_asked (is_full p.phase) p.echoes) p.phase q v (make_all cs p.phase q v k.phased k.settled) (λ r w. k.unheard e r w)
 
 -- ---- settling
 
-answered_none : (p : Phase) → (answers p).owe ≡ false
+answered_none : (p : Phase) → (phase_answers p).owe ≡ false
 answered_none p = go p.owe refl
   where
-    go : (b : Bool) → p.owe ≡ b → (if b then record p { down = false; owe = false; waiting = if list_any is_rrp p.waiting then p.waiting else p.waiting ++ commands.Rrp ∷ [] } else p).owe ≡ false
+    go : (b : Bool) → p.owe ≡ b → (if b then record p { down = false; owe = false; waiting = if list_any is_rrp p.waiting then p.waiting else p.waiting ++ Command.Rrp ∷ [] } else p).owe ≡ false
     go true e = refl
     go false e = e
 
-asked_none : (p : Phase) → p.owe ≡ false → Settled (asks p) true
+asked_none : (p : Phase) → p.owe ≡ false → Settled (phase_asks p) true
 asked_none p e = go p.want refl
   where
-    go : (b : Bool) → p.want ≡ b → Settled (if b then record p { down = false; want = false; wait = true; waiting = if list_any is_rst p.waiting then p.waiting else p.waiting ++ commands.Rst ∷ [] } else p) true
+    go : (b : Bool) → p.want ≡ b → Settled (if b then record p { down = false; want = false; wait = true; waiting = if list_any is_rst p.waiting then p.waiting else p.waiting ++ Command.Rst ∷ [] } else p) true
     go true w = record { owes = λ x. e; wants = λ x. refl }
     go false w = record { owes = λ x. e; wants = λ x. w }
 
-pub settling : (p : Phase) (q : Bool) (v : View) → Phased p q v → Phased (settles q p) q v × Settled (settles q p) q
-settling p true v k = let o = answered_none p in (asking (answers p) v o (answering p v k), asked_none (answers p) o)
+pub settling : (p : Phase) (q : Bool) (v : View) → Phased p q v → Phased (phase_settles q p) q v × Settled (phase_settles q p) q
+settling p true v k = let o = answered_none p in (asking (phase_answers p) v o (answering p v k), asked_none (phase_answers p) o)
 settling p false v k = (k, record { owes = λ x. absurd (cc); wants = λ x. absurd (cc) })
 
-pub reset_stands : (p : Peer) (q : Bool) (v : View) → Stands p q v → Stands (peers.calls_reset q p) q v
-reset_stands p q v k = stands_if (is_resetting p.phase) p (peers.cleared (phases.resets q p.phase) p) q v (λ e. k) anew_is
+pub reset_stands : (p : Peer) (q : Bool) (v : View) → Stands p q v → Stands (calls_reset q p) q v
+reset_stands p q v k = stands_if (is_resetting p.phase) p (cleared (resets q p.phase) p) q v (λ e. k) anew_is
   where
-    anew_is : is_resetting p.phase ≡ false → Stands (peers.cleared (phases.resets q p.phase) p) q v
+    anew_is : is_resetting p.phase ≡ false → Stands (cleared (resets q p.phase) p) q v
     anew_is e =
         let w = settling (wants_reset p.phase) q v (wanting p.phase q v e k.phased) in
-        subst (λ (b : Bool). Stands (peers.cleared (if b then p.phase else settles q (wants_reset p.phase)) p) q v) (sym e) (anew (settles q (wants_reset p.phase)) (peers.cleared p.phase p).echoes q v w.0 w.1)
+        subst (λ (b : Bool). Stands (cleared (if b then p.phase else phase_settles q (wants_reset p.phase)) p) q v) (sym e) (anew (phase_settles q (wants_reset p.phase)) (cleared p.phase p).echoes q v w.0 w.1)
 
 -- ---- what comes
 
@@ -204,52 +200,52 @@ pub no_reply : (n : ℕ) → n ≡ 0 → 0 < n → ⊥
 no_reply n e l = omega (arith, e, l)
 
 -- where it makes commands
-pub makes_stand : (cs : List Command) (m : Ends) (s : Echoes) (p : Phase) (q : Bool) (w : View) → Phased p q w → Settled p q → (w.rests ≡ false → rrps p.waiting ≡ 0) → Stands (standing (phases.makes_all cs p) m s) q w
-makes_stand cs m s p q w k e none = stood (phases.makes_all cs p) m s p q w (make_all cs p q w k e) (λ r z. absurd (no_reply (rrps p.waiting) (none r) z))
+pub makes_stand : (cs : List Command) (m : Ends) (s : Echoes) (p : Phase) (q : Bool) (w : View) → Phased p q w → Settled p q → (w.rests ≡ false → rrps p.waiting ≡ 0) → Stands (standing (makes_all cs p) m s) q w
+makes_stand cs m s p q w k e none = stood (makes_all cs p) m s p q w (make_all cs p q w k e) (λ r z. absurd (no_reply (rrps p.waiting) (none r) z))
 
 pub fault_stands : (n : ℕ) (busy : Option ℕ) (zero : Bool) (fault : CommandFault) (p : Peer) (q : Bool) (v : View) → Stands p q v
-    → Stands (peers.hears_fault fault p) q (after_item (record { by = n; sent = false; busy = busy; zero = zero }) (Err fault) v)
+    → Stands (hears_fault fault p) q (after_item (record { by = n; sent = false; busy = busy; zero = zero }) (Err fault) v)
 fault_stands n busy zero fault p q v k =
-    let cs : List Command = commands.Err fault.code fault.bytes ∷ [] in
-    thing_stands n busy zero a.Bad p (peers.makes cs p) q v k (λ e w ph none. makes_stand cs p.ends p.echoes p.phase q w ph k.settled none)
+    let cs : List Command = Command.Err fault.code fault.bytes ∷ [] in
+    thing_stands n busy zero Thing.Bad p (makes cs p) q v k (λ e w ph none. makes_stand cs p.ends p.echoes p.phase q w ph k.settled none)
 
 pub text_stands : (n : ℕ) (busy : Option ℕ) (zero : Bool) (on : ℕ) (head : List Bool) (of_size : ℕ) (text : List Bool) (p : Peer) (q : Bool) (v : View) → Stands p q v
-    → Stands (peers.hears_text on head of_size text p) q (after_thing (record { by = n; sent = false; busy = busy; zero = zero }) a.Text v)
+    → Stands (hears_text on head of_size text p) q (after_thing (record { by = n; sent = false; busy = busy; zero = zero }) Thing.Text v)
 text_stands n busy zero on head of_size text p q v k =
     let took = text_in on of_size text p.ends in
-    thing_stands n busy zero a.Text p (peers.takes_text on head of_size text p) q v k
+    thing_stands n busy zero Thing.Text p (takes_text on head of_size text p) q v k
     (λ e w ph none. makes_stand (made_by_text head text (answer took)) (map_after_at p.ends (pair_of (receiver_on on p.ends)) took) p.echoes p.phase q w ph k.settled none)
 
 -- another command
 other_stands : (n : ℕ) (busy : Option ℕ) (zero : Bool) (what : Thing) (c : Command) (p : Peer) (q : Bool) (v : View)
-    → ((r : Reaction) → phases.hears c r p.phase ≡ (if up p.phase then (if r.full then goes_down p.phase else phases.makes_all r.replies p.phase) else p.phase))
+    → ((r : Reaction) → phase_hears c r p.phase ≡ (if up p.phase then (if r.full then goes_down p.phase else makes_all r.replies p.phase) else p.phase))
     → Stands p q v
-    → Stands (if up p.phase then peers.hears_other q c p else p) q (after_thing (record { by = n; sent = false; busy = busy; zero = zero }) what v)
-other_stands n busy zero what c p q v is k = thing_stands n busy zero what p (peers.hears_other q c p) q v k does
+    → Stands (if up p.phase then hears_other q c p else p) q (after_thing (record { by = n; sent = false; busy = busy; zero = zero }) what v)
+other_stands n busy zero what c p q v is k = thing_stands n busy zero what p (hears_other q c p) q v k does
   where
     r : Reaction
-    r = peers.reaction q c p
+    r = reaction q c p
 
     m : Ends
     m = map_after_at p.ends (leads_to c p.ends) (hear c p.ends)
 
-    does : up p.phase ≡ true → (w : View) → Phased p.phase q w → (w.rests ≡ false → rrps p.phase.waiting ≡ 0) → Stands (peers.hears_other q c p) q w
+    does : up p.phase ≡ true → (w : View) → Phased p.phase q w → (w.rests ≡ false → rrps p.phase.waiting ≡ 0) → Stands (hears_other q c p) q w
     does e w ph none =
-        subst (λ (now : Phase). Stands (standing now m (peers.echoes_after c p.echoes)) q w) (sym (is r ∙ ap (λ (b : Bool). if b then (if r.full then goes_down p.phase else phases.makes_all r.replies p.phase) else p.phase) e)) (by r.full)
+        subst (λ (now : Phase). Stands (standing now m (echoes_after c p.echoes)) q w) (sym (is r ∙ ap (λ (b : Bool). if b then (if r.full then goes_down p.phase else makes_all r.replies p.phase) else p.phase) e)) (by r.full)
       where
-        by : (b : Bool) → Stands (standing (if b then goes_down p.phase else phases.makes_all r.replies p.phase) m (peers.echoes_after c p.echoes)) q w
+        by : (b : Bool) → Stands (standing (if b then goes_down p.phase else makes_all r.replies p.phase) m (echoes_after c p.echoes)) q w
         by true =
-            stood (goes_down p.phase) m (peers.echoes_after c p.echoes) p.phase q w
+            stood (goes_down p.phase) m (echoes_after c p.echoes) p.phase q w
             (record { phased = falling p.phase q w ph; settled = k.settled; replies = rrps-purged p.phase.waiting })
             (λ x z. absurd (no_reply (rrps p.phase.waiting) (none x) z))
-        by false = makes_stand r.replies m (peers.echoes_after c p.echoes) p.phase q w ph k.settled none
+        by false = makes_stand r.replies m (echoes_after c p.echoes) p.phase q w ph k.settled none
 
 pub command_stands : (n : ℕ) (busy : Option ℕ) (zero : Bool) (c : Command) (p : Peer) (q : Bool) (v : View) → Sees q busy → Stands p q v
-    → Stands (peers.hears q c p) q (after_item (record { by = n; sent = false; busy = busy; zero = zero }) (Ok c) v)
-command_stands n busy zero commands.Rst p q v b k =
-    let w = settling (owes_answer p.phase) q (after_reset (record { by = n; sent = false; busy = busy; zero = zero }) v) (rst_comes n busy zero p.phase q v b k.settled k.phased) in
-    anew (settles q (owes_answer p.phase)) (peers.cleared p.phase p).echoes q (after_reset (record { by = n; sent = false; busy = busy; zero = zero }) v) w.0 w.1
-command_stands n busy zero commands.Rrp p q v b k = record {
+    → Stands (hears q c p) q (after_item (record { by = n; sent = false; busy = busy; zero = zero }) (Ok c) v)
+command_stands n busy zero Command.Rst p q v b k =
+    let w = settling (owes_answer p.phase) q (view_after_reset (record { by = n; sent = false; busy = busy; zero = zero }) v) (rst_comes n busy zero p.phase q v b k.settled k.phased) in
+    anew (phase_settles q (owes_answer p.phase)) (cleared p.phase p).echoes q (view_after_reset (record { by = n; sent = false; busy = busy; zero = zero }) v) w.0 w.1
+command_stands n busy zero Command.Rrp p q v b k = record {
   phased = rrp_comes n busy zero p.phase q v k.settled k.phased;
   settled = k.settled;
   down = λ e. k.down (still_down p.phase e);
@@ -259,18 +255,18 @@ command_stands n busy zero commands.Rrp p q v b k = record {
     still_down : (p : Phase) → up (hears_rrp p) ≡ false → up p ≡ false
     still_down p e = grind arith
 
-    by : (u : Bool) → up p.phase ≡ u → up (hears_rrp p.phase) ≡ true → (after_reply (record { by = n; sent = false; busy = busy; zero = zero }) v).rests ≡ false → Unheard p.ends
+    by : (u : Bool) → up p.phase ≡ u → up (hears_rrp p.phase) ≡ true → (view_after_reply (record { by = n; sent = false; busy = busy; zero = zero }) v).rests ≡ false → Unheard p.ends
     by false u e r = subst Unheard (sym (k.down u)) none_heard
     by true u e r = absurd (rrp_ends_rest n busy zero p.phase q v u k.phased r)
-command_stands n busy zero commands.Nop p q v b k = other_stands n busy zero a.Nop commands.Nop p q v (λ r. refl) k
-command_stands n busy zero (commands.Rts x y z) p q v b k = other_stands n busy zero a.Rts (commands.Rts x y z) p q v (λ r. refl) k
-command_stands n busy zero (commands.Str x y z) p q v b k = other_stands n busy zero a.Str (commands.Str x y z) p q v (λ r. refl) k
-command_stands n busy zero (commands.Cls x y) p q v b k = other_stands n busy zero a.Cls (commands.Cls x y) p q v (λ r. refl) k
-command_stands n busy zero (commands.All x y z) p q v b k = other_stands n busy zero a.All (commands.All x y z) p q v (λ r. refl) k
-command_stands n busy zero (commands.Gvb x y z) p q v b k = other_stands n busy zero a.Gvb (commands.Gvb x y z) p q v (λ r. refl) k
-command_stands n busy zero (commands.Ret x y z) p q v b k = other_stands n busy zero a.Ret (commands.Ret x y z) p q v (λ r. refl) k
-command_stands n busy zero (commands.Inr x) p q v b k = other_stands n busy zero a.Inr (commands.Inr x) p q v (λ r. refl) k
-command_stands n busy zero (commands.Ins x) p q v b k = other_stands n busy zero a.Ins (commands.Ins x) p q v (λ r. refl) k
-command_stands n busy zero (commands.Eco x) p q v b k = other_stands n busy zero a.Eco (commands.Eco x) p q v (λ r. refl) k
-command_stands n busy zero (commands.Erp x) p q v b k = other_stands n busy zero a.Erp (commands.Erp x) p q v (λ r. refl) k
-command_stands n busy zero (commands.Err x y) p q v b k = other_stands n busy zero a.Err (commands.Err x y) p q v (λ r. refl) k
+command_stands n busy zero Command.Nop p q v b k = other_stands n busy zero Thing.Nop Command.Nop p q v (λ r. refl) k
+command_stands n busy zero (Command.Rts x y z) p q v b k = other_stands n busy zero Thing.Rts (Command.Rts x y z) p q v (λ r. refl) k
+command_stands n busy zero (Command.Str x y z) p q v b k = other_stands n busy zero Thing.Str (Command.Str x y z) p q v (λ r. refl) k
+command_stands n busy zero (Command.Cls x y) p q v b k = other_stands n busy zero Thing.Cls (Command.Cls x y) p q v (λ r. refl) k
+command_stands n busy zero (Command.All x y z) p q v b k = other_stands n busy zero Thing.All (Command.All x y z) p q v (λ r. refl) k
+command_stands n busy zero (Command.Gvb x y z) p q v b k = other_stands n busy zero Thing.Gvb (Command.Gvb x y z) p q v (λ r. refl) k
+command_stands n busy zero (Command.Ret x y z) p q v b k = other_stands n busy zero Thing.Ret (Command.Ret x y z) p q v (λ r. refl) k
+command_stands n busy zero (Command.Inr x) p q v b k = other_stands n busy zero Thing.Inr (Command.Inr x) p q v (λ r. refl) k
+command_stands n busy zero (Command.Ins x) p q v b k = other_stands n busy zero Thing.Ins (Command.Ins x) p q v (λ r. refl) k
+command_stands n busy zero (Command.Eco x) p q v b k = other_stands n busy zero Thing.Eco (Command.Eco x) p q v (λ r. refl) k
+command_stands n busy zero (Command.Erp x) p q v b k = other_stands n busy zero Thing.Erp (Command.Erp x) p q v (λ r. refl) k
+command_stands n busy zero (Command.Err x y) p q v b k = other_stands n busy zero Thing.Err (Command.Err x y) p q v (λ r. refl) k

@@ -14,14 +14,13 @@ use Rattle.ncp_leader.specs.Leader.{leader_in}
 use Rattle.ncp_leader.specs.Message.{Message, message_in, message_with}
 use Rattle.ncp_leader.proofs.Messages.{message_leader}
 use Rattle.ncp_terms.specs.declared.command.Command.{Command}
-use Rattle.ncp_terms.specs.declared.command.Command.TheVariants as commands
 use Rattle.ncp_terms.specs.declared.fault.CommandFault.{CommandFault}
 use Rattle.ncp_terms.specs.declared.answer.Answer.{Answer}
 use Rattle.ncp_terms.specs.declared.answer.Answer.TheVariants.{Rfnm, Incomplete, Dead}
 use Rattle.ncp_terms.specs.Spelling.{spellings}
 use Rattle.ncp_control.specs.Texts.{items_of}
 use Rattle.ncp_control.specs.Reading.{commands_in, fault_in}
-use Rattle.ncp_slot.specs.declared.slot.Slot.TheVariants as host
+use Rattle.ncp_slot.specs.declared.slot.Slot.{Slot}
 use Rattle.ncp_slot.specs.Slot.{is_empty, answered, woken}
 use Rattle.ncp_slot.specs.Slots.{LinkSlot, LinkSlots, slot_at, with_slot, is_quiet}
 use Rattle.ncp_slot.proofs.Places.{slot_at-with_slot_same, slot_at-with_slot_other, slot_at-no_slots}
@@ -30,8 +29,7 @@ use Rattle.ncp_model.specs.Ends.{cut_in}
 use Rattle.ncp_model.specs.Phase.{Phase}
 use Rattle.ncp_model.specs.Sending.{next_commands}
 use Rattle.ncp_model.specs.declared.limits.TheConstants.{MAX_CONTROL}
-use Rattle.ncp_model.specs.Peers.{Peer}
-use Rattle.ncp_model.specs.Peers as peers
+use Rattle.ncp_model.specs.Peers.{Peer, cuts, peer_sends}
 use Rattle.ncp_transcript_two.specs.Tie.{IsText}
 use Rattle.ncp_transcript_two.proofs.Well.{cut-written}
 use Rattle.ncp_transcript_two.proofs.Written.{read}
@@ -43,26 +41,23 @@ use Rattle.ncp_host.specs.Host.{Host, state_of, is_one_of, new_host}
 use Rattle.ncp_host.specs.Arrivals.{received_in}
 use Rattle.ncp_host.specs.Turns.{next_output}
 use Rattle.ncp_transcript.specs.declared.input.Input.{Input}
-use Rattle.ncp_transcript.specs.declared.input.Input.TheVariants as inputs
 use Rattle.ncp_transcript.specs.declared.note.HostNote.{HostNote}
-use Rattle.ncp_transcript.specs.declared.note.HostNote.TheVariants as notes
 use Rattle.ncp_transcript.specs.After.{after_note}
 use Rattle.ncp_transcript.specs.Noting.{answer_in, answer_with, if_peer, note_as, note_of_bits, note_of_message}
-use Rattle.ncp_transcript.specs.Runs.{IsSaid, AreNotes}
+use Rattle.ncp_transcript.specs.Runs.{IsHostSaid, AreHostNotes}
 use Rattle.ncp_transcript.proofs.Saying.{noted_said}
-use Rattle.ncp_transcript_two.specs.Seen.{told_call, Fits}
+use Rattle.ncp_transcript_two.specs.Seen.{told_call, NoteFits}
 use Rattle.ncp_transcript_two.proofs.Fitting.{note-fits}
-use Rattle.ncp_proof_runs.specs.Peers.{is_number, peer_of_leader, names, bits_for, out_for, note_for}
+use Rattle.ncp_proof_runs.specs.Peers.{is_this_number, peer_of_leader, names, bits_for, out_for, note_for}
 use Rattle.ncp_proof_runs.proofs.Said.{IsOut, IsSaidOf}
 use Rattle.ncp_proof_runs.proofs.Ready.{link_small}
-use Rattle.ncp_proof_runs.proofs.States.{done, is_there}
+use Rattle.ncp_proof_runs.proofs.States.{done, peer_there}
 use Rattle.ncp_proof_runs.proofs.PeerRuns.{message-slots}
 use Rattle.ncp_proof_runs.proofs.HostRuns.{Holds, some_same, out-turn, out-is, note-state}
 use Rattle.ncp_proof_runs.proofs.EachPeer.{holds-after, new-holds}
 use Rattle.ncp_umpire.specs.declared.finding.Finding.{Finding}
 use Rattle.ncp_umpire.specs.declared.finding.Rule.{Rule}
 use Rattle.ncp_umpire.specs.declared.finding.Thing.{Thing}
-use Rattle.ncp_umpire.specs.declared.finding.Thing.TheVariants as a
 use Rattle.ncp_umpire.specs.declared.kept.Kept.{Kept}
 use Rattle.ncp_umpire.specs.declared.umpire.Umpire.{Umpire}
 use Rattle.ncp_umpire.specs.declared.view.View.{View}
@@ -72,10 +67,10 @@ use Rattle.ncp_umpire.specs.declared.way.Way.TheVariants.{ToImp, FromImp}
 use Rattle.ncp_umpire.specs.Events.{is_answer}
 use Rattle.ncp_umpire.specs.Tables.{index_of, view_in, with_view}
 use Rattle.ncp_umpire.specs.Views.{new_view}
-use Rattle.ncp_umpire.specs.Slots.{is_of, place_of, slot_at as kept_slot, same_at, gone_out, has_room, with_out, busy_link}
-use Rattle.ncp_umpire.specs.Messages.{is_unused, reading_of, rule_of_message}
+use Rattle.ncp_umpire.specs.Slots.{is_of, place_of, kept_slot, same_at, gone_out, has_room, with_out, busy_link}
+use Rattle.ncp_umpire.specs.Messages.{is_unused, judged_reading, rule_of_message}
 use Rattle.ncp_umpire.specs.Phases.{early_finding, after_thing, item_findings, after_item, items_findings, after_items, missing_finding}
-use Rattle.ncp_umpire.specs.Judged.{new_umpire, sees, by_host, view_of, knows_zero, slot_of, same_of, is_fresh, changes, out_rule, out_finding, fresh_out, view_after_out, after_out, with_answer, after_answer, judges_coming, with_coming, after_in, turn_at, is_roomy, items_said, control_findings, read_findings, after_read, said_findings, after_said, record_findings, after_record}
+use Rattle.ncp_umpire.specs.Judged.{new_umpire, sees, by_host, view_of, knows_zero, slot_of_link, same_of, is_fresh, changes_slot, out_rule, out_finding, fresh_out, view_after_out, umpire_after_out, with_answer, umpire_after_answer, judges_coming, with_coming, after_in, turn_at, is_roomy, items_said, control_findings, read_findings, after_read, said_findings, after_said, record_findings, after_record}
 use Rattle.ncp_umpire.proofs.Passing.{Pass, both, goes_said}
 use Rattle.ncp_umpire.proofs.Following.{Keeps, said_keeps, out_is, short_is, other_is, own_is, in_is, answer_is}
 use Rattle.ncp_proof_umpire.specs.Recordings.{spares, any_rule}
@@ -85,10 +80,10 @@ use Rattle.ncp_proof_umpire.proofs.Leaders.{apart, peers_parts, peer_of_turn}
 use Rattle.ncp_proof_umpire.proofs.Shown.{Shows, allowed}
 use Rattle.ncp_proof_umpire.proofs.HostSlots.{is_of_call, call_noted, call_leaves, bits_leave, answer_here, answer_there, was}
 use Rattle.ncp_proof_umpire.proofs.Linked.{Known, Follows, after_call, after_out_of, after_in_of, coming_keeps, no_regular}
-use Rattle.ncp_proof_umpire.proofs.LinkWalk.{begins as follows_begins}
+use Rattle.ncp_proof_umpire.proofs.LinkWalk.{follows_begins}
 use Rattle.ncp_proof_umpire.proofs.Fine.{Fine}
 use Rattle.ncp_proof_umpire.proofs.Laid.{Whole, out_whole, weighs}
-use Rattle.ncp_proof_umpire.proofs.ReadyPeers.{Ready, AllReady, ready_after, fits_in, fits_out, begins as ready_begins}
+use Rattle.ncp_proof_umpire.proofs.ReadyPeers.{Ready, AllReady, ready_after, fits_in, fits_out, ready_begins}
 use Rattle.ncp_proof_umpire.proofs.PhaseLists.{itself, replicated}
 use Rattle.ncp_proof_umpire.proofs.Fresh.{New, is_new, OnLinks, sees_busy}
 use Rattle.ncp_proof_umpire.proofs.Phased.{Sees}
@@ -104,21 +99,21 @@ pub record AllSeen (me : ℕ) (h : Host) (umpire : Umpire) : Type 0 where
 -- ---- the links that have a message
 
 empty_after : (how : Answer) (x : LinkSlot) → is_empty (answered how x) ≡ false → is_empty x ≡ false
-empty_after how host.Empty e = by how e
+empty_after how Slot.Empty e = by how e
   where
-    by : (how : Answer) → is_empty (answered {M = List Bool} how host.Empty) ≡ false → is_empty {M = List Bool} host.Empty ≡ false
+    by : (how : Answer) → is_empty (answered {M = List Bool} how Slot.Empty) ≡ false → is_empty {M = List Bool} Slot.Empty ≡ false
     by Rfnm e = e
     by Incomplete e = e
     by Dead e = e
-empty_after how (host.Ready m) e = refl
-empty_after how (host.Travelling m) e = refl
-empty_after how (host.Held m) e = refl
+empty_after how (Slot.Ready m) e = refl
+empty_after how (Slot.Travelling m) e = refl
+empty_after how (Slot.Held m) e = refl
 
 empty_woken : (x : LinkSlot) → is_empty (woken x) ≡ is_empty x
-empty_woken host.Empty = refl
-empty_woken (host.Ready m) = refl
-empty_woken (host.Travelling m) = refl
-empty_woken (host.Held m) = refl
+empty_woken Slot.Empty = refl
+empty_woken (Slot.Ready m) = refl
+empty_woken (Slot.Travelling m) = refl
+empty_woken (Slot.Held m) = refl
 
 call_used : (note : HostNote) (s : PeerState) → is_of_call note ≡ true → OnLinks s → OnLinks (note_for note s)
 call_used note s c a on e = elim (call_leaves note c s on) [
@@ -136,12 +131,12 @@ answer_used link how s a on e = elim (eqb_tells on link) [
 out_used : (on : ℕ) (m : List Bool) (s : PeerState) → is_one_of on links ≡ true → OnLinks s → OnLinks (after_output on m s)
 out_used on m s u a l e = elim (eqb_tells l on) [
   | inl same ↦ ap (λ (j : ℕ). is_one_of j links) same.1 ∙ u
-  | inr other ↦ a l (ap is_empty (sym (slot_at-with_slot_other s.slots on (host.Travelling m) l other.1)) ∙ e)
+  | inr other ↦ a l (ap is_empty (sym (slot_at-with_slot_other s.slots on (Slot.Travelling m) l other.1)) ∙ e)
 ]
 
 -- ---- calls
 
-pub call_all : (ns : List ℕ) (me : ℕ) (note : HostNote) (h : Host) (umpire : Umpire) → Holds ns h → IsSaid note h → is_of_call note ≡ true → AllReady h → AllSeen me h umpire → AllSeen me (after_note note h) umpire
+pub call_all : (ns : List ℕ) (me : ℕ) (note : HostNote) (h : Host) (umpire : Umpire) → Holds ns h → IsHostSaid note h → is_of_call note ≡ true → AllReady h → AllSeen me h umpire → AllSeen me (after_note note h) umpire
 call_all ns me note h umpire k p c ready seen = record { long = seen.long; each = each }
   where
     each : umpire.full ≡ false → (n : ℕ) (t : PeerState) → state_of (after_note note h) n ≡ Some t → Seen t (view_in umpire.views me n)
@@ -157,7 +152,7 @@ call_all ns me note h umpire k p c ready seen = record { long = seen.long; each 
 -- ---- what comes
 
 -- the views and the room are the same, and so is what is kept for each peer
-still : (ns : List ℕ) (me : ℕ) (note : HostNote) (h : Host) (umpire u : Umpire) → Holds ns h → IsSaid note h → u.views ≡ umpire.views → u.full ≡ umpire.full
+still : (ns : List ℕ) (me : ℕ) (note : HostNote) (h : Host) (umpire u : Umpire) → Holds ns h → IsHostSaid note h → u.views ≡ umpire.views → u.full ≡ umpire.full
     → ((m : ℕ) (s : PeerState) → state_of h m ≡ Some s → (if names m note then note_for note s else s) ≡ s)
     → AllSeen me h umpire → AllSeen me (after_note note h) u
 still ns me note h umpire u k p v f same seen = record { long = ap length v ∙ seen.long; each = each }
@@ -169,11 +164,11 @@ still ns me note h umpire u k p v f same seen = record { long = ap length v ∙ 
 
 -- bits that are no regular message of a peer
 unread : (ns : List ℕ) (me : ℕ) (h : Host) (bits : List Bool) → Holds ns h → (r : Result Leader Short) → leader_in bits ≡ r → ((leader : Leader) → r ≡ Ok leader → (leader.kind == 0) ≡ true → state_of h leader.host ≡ None)
-    → (m : ℕ) (s : PeerState) → state_of h m ≡ Some s → (if names m (notes.In bits (received_in bits h)) then note_for (notes.In bits (received_in bits h)) s else s) ≡ s
-unread ns me h bits k (Err short) e f m s there = ap (λ (r : Result Leader Short). if is_number m (peer_of_leader r) then bits_for r bits s else s) e
-unread ns me h bits k (Ok leader) e f m s there = ap (λ (r : Result Leader Short). if is_number m (peer_of_leader r) then bits_for r bits s else s) e ∙ by (leader.kind == 0) refl (leader.host == m) refl
+    → (m : ℕ) (s : PeerState) → state_of h m ≡ Some s → (if names m (HostNote.In bits (received_in bits h)) then note_for (HostNote.In bits (received_in bits h)) s else s) ≡ s
+unread ns me h bits k (Err short) e f m s there = ap (λ (r : Result Leader Short). if is_this_number m (peer_of_leader r) then bits_for r bits s else s) e
+unread ns me h bits k (Ok leader) e f m s there = ap (λ (r : Result Leader Short). if is_this_number m (peer_of_leader r) then bits_for r bits s else s) e ∙ by (leader.kind == 0) refl (leader.host == m) refl
   where
-    by : (z : Bool) → (leader.kind == 0) ≡ z → (b : Bool) → (leader.host == m) ≡ b → (if is_number m (if z then Some leader.host else None) then message_after leader.link bits (message_in bits) s else s) ≡ s
+    by : (z : Bool) → (leader.kind == 0) ≡ z → (b : Bool) → (leader.host == m) ≡ b → (if is_this_number m (if z then Some leader.host else None) then message_after leader.link bits (message_in bits) s else s) ≡ s
     by false z b e = refl
     by true z true e =
         let nay : None ≡ Some s = sym (f leader refl z) ∙ ap (state_of h) (eqb-true leader.host m e) ∙ there in
@@ -181,12 +176,12 @@ unread ns me h bits k (Ok leader) e f m s there = ap (λ (r : Result Leader Shor
     by true z false e = ap (λ (b : Bool). if b then message_after leader.link bits (message_in bits) s else s) e
 
 said_long : (A : Umpire) (me n by : ℕ) (sent fresh : Bool) (r : Result Message MessageFault) → length (after_said A me n (turn_at A me n by sent) fresh r).views ≡ length A.views
-said_long A me n by sent true (Ok m) = view_length A.views me n (after_read (reading_of m) (turn_at A me n by sent) m.text (view_of A me n))
+said_long A me n by sent true (Ok m) = view_length A.views me n (after_read (judged_reading m) (turn_at A me n by sent) m.text (view_of A me n))
 said_long A me n by sent false (Ok m) = refl
 said_long A me n by sent fresh (Err fault) = refl
 
 said_other : (A : Umpire) (me n m by : ℕ) (sent fresh : Bool) (r : Result Message MessageFault) → m ≢ n → view_in (after_said A me n (turn_at A me n by sent) fresh r).views me m ≡ view_in A.views me m
-said_other A me n m by sent true (Ok x) d = view_other A.views me n m (after_read (reading_of x) (turn_at A me n by sent) x.text (view_of A me n)) d
+said_other A me n m by sent true (Ok x) d = view_other A.views me n m (after_read (judged_reading x) (turn_at A me n by sent) x.text (view_of A me n)) d
 said_other A me n m by sent false (Ok x) d = refl
 said_other A me n m by sent fresh (Err fault) d = refl
 
@@ -196,9 +191,9 @@ not_full true true t f = absurd (cc)
 not_full false f t g = absurd (cc)
 
 -- a regular message of another host
-coming_all : (ns : List ℕ) (me : ℕ) (h : Host) (umpire : Umpire) (bits : List Bool) (leader : Leader) → Holds ns h → me < 256 → IsSaid (notes.In bits (received_in bits h)) h → leader_in bits ≡ Ok leader → (leader.host == me) ≡ false → (leader.kind == 0) ≡ true
+coming_all : (ns : List ℕ) (me : ℕ) (h : Host) (umpire : Umpire) (bits : List Bool) (leader : Leader) → Holds ns h → me < 256 → IsHostSaid (HostNote.In bits (received_in bits h)) h → leader_in bits ≡ Ok leader → (leader.host == me) ≡ false → (leader.kind == 0) ≡ true
     → Follows me h umpire → AllSeen me h umpire
-    → AllSeen me (after_note (notes.In bits (received_in bits h)) h) (after_said (after_in (sees umpire me) me leader.host leader.link) me leader.host (turn_at (after_in (sees umpire me) me leader.host leader.link) me leader.host leader.host false) true (message_in bits))
+    → AllSeen me (after_note (HostNote.In bits (received_in bits h)) h) (after_said (after_in (sees umpire me) me leader.host leader.link) me leader.host (turn_at (after_in (sees umpire me) me leader.host leader.link) me leader.host leader.host false) true (message_in bits))
 coming_all ns me h umpire bits leader k l p led away zero follows seen = record { long = said_long A me n n false true (message_in bits) ∙ ap length views ∙ seen.long; each = each }
   where
     n : ℕ
@@ -211,7 +206,7 @@ coming_all ns me h umpire bits leader k l p led away zero follows seen = record 
     now = after_said A me n (turn_at A me n n false) true (message_in bits)
 
     note : HostNote
-    note = notes.In bits (received_in bits h)
+    note = HostNote.In bits (received_in bits h)
 
     views : A.views ≡ umpire.views
     views = go (judges_coming (sees umpire me) me n)
@@ -244,8 +239,8 @@ coming_all ns me h umpire bits leader k l p led away zero follows seen = record 
 
             become : t ≡ (if n == m then message_after leader.link bits (message_in bits) s else s)
             become =
-                w.2 ∙ ap (λ (r : Result Leader Short). if is_number m (peer_of_leader r) then bits_for r bits s else s) led
-                ∙ ap (λ (z : Bool). if is_number m (if z then Some n else None) then message_after leader.link bits (message_in bits) s else s) zero
+                w.2 ∙ ap (λ (r : Result Leader Short). if is_this_number m (peer_of_leader r) then bits_for r bits s else s) led
+                ∙ ap (λ (z : Bool). if is_this_number m (if z then Some n else None) then message_after leader.link bits (message_in bits) s else s) zero
 
             here : n ≡ m → (n == m) ≡ true → Seen t (view_in now.views me m)
             here same eq =
@@ -288,7 +283,7 @@ coming_all ns me h umpire bits leader k l p led away zero follows seen = record 
                         ap (λ (l : Leader). l.link) is
 
                     after : View
-                    after = after_read (reading_of x) (record { by = n; sent = false; busy = busy_link me n A.kept; zero = knows_zero A me n }) x.text (view_of A me n)
+                    after = after_read (judged_reading x) (record { by = n; sent = false; busy = busy_link me n A.kept; zero = knows_zero A me n }) x.text (view_of A me n)
 
                     read_on : Stands (message_after leader.link bits (Ok x) s).peer (is_quiet (message_after leader.link bits (Ok x) s).slots) (view_in (after_said A me n (turn_at A me n n false) true (Ok x)).views me n)
                     read_on =
@@ -305,7 +300,7 @@ coming_all ns me h umpire bits leader k l p led away zero follows seen = record 
             by (inr other) = elsewhere other.1 other.0
 
 -- an answer of a peer
-answer_all : (ns : List ℕ) (me : ℕ) (h : Host) (umpire u : Umpire) (bits : List Bool) (leader : Leader) (note : HostNote) → Holds ns h → IsSaid note h → note ≡ notes.Answered leader.host leader.link (answer_of leader.kind) (received_in bits h)
+answer_all : (ns : List ℕ) (me : ℕ) (h : Host) (umpire u : Umpire) (bits : List Bool) (leader : Leader) (note : HostNote) → Holds ns h → IsHostSaid note h → note ≡ HostNote.Answered leader.host leader.link (answer_of leader.kind) (received_in bits h)
     → u.views ≡ umpire.views → u.full ≡ umpire.full → AllSeen me h umpire → AllSeen me (after_note note h) u
 answer_all ns me h umpire u bits leader note k p is v f seen = record { long = ap length v ∙ seen.long; each = each }
   where
@@ -319,7 +314,7 @@ answer_all ns me h umpire u bits leader note k p is v f seen = record { long = a
         by s true o = record { stands = answer_seen leader.link (answer_of leader.kind) s (view_in umpire.views me n) o.used o.stands; used = answer_used leader.link (answer_of leader.kind) s o.used }
         by s false o = o
 
-pub in_all : (ns : List ℕ) (me : ℕ) (h : Host) (umpire : Umpire) (bits : List Bool) (note : HostNote) → Holds ns h → is_one_of me ns ≡ false → me < 256 → IsSaid note h → note ≡ note_of_bits bits h
+pub in_all : (ns : List ℕ) (me : ℕ) (h : Host) (umpire : Umpire) (bits : List Bool) (note : HostNote) → Holds ns h → is_one_of me ns ≡ false → me < 256 → IsHostSaid note h → note ≡ note_of_bits bits h
     → Follows me h umpire → AllSeen me h umpire → AllSeen me (after_note note h) (after_record umpire FromImp me bits)
 in_all ns me h umpire bits note k away small p is follows seen = go (leader_in bits) refl
   where
@@ -332,10 +327,10 @@ in_all ns me h umpire bits note k away small p is follows seen = go (leader_in b
     turned : (after : Umpire) → after_record umpire FromImp me bits ≡ after → AllSeen me now after → AllSeen me now (after_record umpire FromImp me bits)
     turned after e g = subst (λ (u : Umpire). AllSeen me now u) (sym e) g
 
-    plain : (u : Umpire) → u.views ≡ umpire.views → u.full ≡ umpire.full → note ≡ notes.In bits (received_in bits h) → (r : Result Leader Short) → leader_in bits ≡ r → ((leader : Leader) → r ≡ Ok leader → (leader.kind == 0) ≡ true → state_of h leader.host ≡ None) → AllSeen me now u
+    plain : (u : Umpire) → u.views ≡ umpire.views → u.full ≡ umpire.full → note ≡ HostNote.In bits (received_in bits h) → (r : Result Leader Short) → leader_in bits ≡ r → ((leader : Leader) → r ≡ Ok leader → (leader.kind == 0) ≡ true → state_of h leader.host ≡ None) → AllSeen me now u
     plain u a b e r led none =
         subst (λ (x : HostNote). AllSeen me (after_note x h) u) (sym e)
-        (still ns me (notes.In bits (received_in bits h)) h umpire u k (subst (λ (x : HostNote). IsSaid x h) e p) a b (unread ns me h bits k r led none) seen)
+        (still ns me (HostNote.In bits (received_in bits h)) h umpire u k (subst (λ (x : HostNote). IsHostSaid x h) e p) a b (unread ns me h bits k r led none) seen)
 
     not_regular : (leader : Leader) → (leader.kind == 0) ≡ false → (other : Leader) → ◌≡◌ {A = Result Leader Short} (Ok leader) (Ok other) → (other.kind == 0) ≡ true → state_of h other.host ≡ None
     not_regular leader z other e y =
@@ -343,14 +338,14 @@ in_all ns me h umpire bits note k away small p is follows seen = go (leader_in b
         let nay : false ≡ true = sym z ∙ ap (λ (x : Leader). x.kind == 0) same ∙ y in
         absurd (cc)
 
-    answer_views : (kind n on : ℕ) → (after_answer v kind me n on).views ≡ umpire.views
+    answer_views : (kind n on : ℕ) → (umpire_after_answer v kind me n on).views ≡ umpire.views
     answer_views kind n on = by umpire.full
       where
         by : (b : Bool) → (if b then v else record v { kept = with_answer (view_in umpire.views me n).known kind umpire.kept (place_of me n on umpire.kept) }).views ≡ umpire.views
         by true = refl
         by false = refl
 
-    answer_room : (kind n on : ℕ) → (after_answer v kind me n on).full ≡ umpire.full
+    answer_room : (kind n on : ℕ) → (umpire_after_answer v kind me n on).full ≡ umpire.full
     answer_room kind n on = by umpire.full
       where
         by : (b : Bool) → (if b then v else record v { kept = with_answer (view_in umpire.views me n).known kind umpire.kept (place_of me n on umpire.kept) }).full ≡ umpire.full
@@ -364,7 +359,7 @@ in_all ns me h umpire bits note k away small p is follows seen = go (leader_in b
         by : (o : Option PeerState) → state_of h leader.host ≡ o → state_of h leader.host ≡ None
         by None e = e
         by (Some s) e =
-            let here : is_one_of leader.host ns ≡ true = ap (is_one_of leader.host) (sym k.numbers) ∙ is_there h.peers leader.host s e in
+            let here : is_one_of leader.host ns ≡ true = ap (is_one_of leader.host) (sym k.numbers) ∙ peer_there h.peers leader.host s e in
             let nay : true ≡ false = sym own ∙ apart me leader.host ns away here in
             absurd (cc)
 
@@ -379,15 +374,15 @@ in_all ns me h umpire bits note k away small p is follows seen = go (leader_in b
     by leader led false own true zero false answer o there e =
         subst (λ (u : Umpire). AllSeen me now u) (sym (in_is umpire me bits leader false led own zero answer))
         (subst (λ (x : HostNote). AllSeen me (after_note x h) (after_said (after_in v me leader.host leader.link) me leader.host (turn_at (after_in v me leader.host leader.link) me leader.host leader.host false) true (message_in bits))) (sym e)
-        (coming_all ns me h umpire bits leader k small (subst (λ (x : HostNote). IsSaid x h) e p) led own zero follows seen))
+        (coming_all ns me h umpire bits leader k small (subst (λ (x : HostNote). IsHostSaid x h) e p) led own zero follows seen))
     by leader led true own false zero true answer None there e = turned v (own_is umpire me bits leader false true led own zero answer) (plain v refl refl e (Ok leader) led (not_regular leader zero))
     by leader led false own false zero true answer None there e =
-        let after = after_answer v leader.kind me leader.host leader.link in
+        let after = umpire_after_answer v leader.kind me leader.host leader.link in
         turned after (answer_is umpire me bits leader led own zero answer)
         (plain after (answer_views leader.kind leader.host leader.link) (answer_room leader.kind leader.host leader.link) e (Ok leader) led (not_regular leader zero))
     by leader led true own false zero true answer (Some s) there e = let nay : None ≡ Some s = sym (no_peer leader own) ∙ there in absurd (cc)
     by leader led false own false zero true answer (Some s) there e =
-        let after = after_answer v leader.kind me leader.host leader.link in
+        let after = umpire_after_answer v leader.kind me leader.host leader.link in
         turned after (answer_is umpire me bits leader led own zero answer)
         (answer_all ns me h umpire after bits leader note k p e (answer_views leader.kind leader.host leader.link) (answer_room leader.kind leader.host leader.link) seen)
 
@@ -423,57 +418,57 @@ text_read n on message t l u fits e = let is : message_to n on t.0 t.1 ≡ messa
 
 -- the message that is ready on a link, where what it leaves is seen
 link_out : (A : Umpire) (me n on : ℕ) (message : List Bool) (s : PeerState) → length A.views ≡ VIEWS → me < 256 → n < 256 → is_one_of on links ≡ true → Fine s.peer → output_by (slot_at s.slots on) n on s.peer ≡ Some message
-    → Sees (is_quiet (with_slot s.slots on (host.Travelling message))) (busy_link me n A.kept) → Stands s.peer (is_quiet s.slots) (view_in A.views me n) → Stands s.peer (is_quiet s.slots) (view_of A me n)
-    → Out A me n (is_empty (slot_at s.slots on)) (message_in message) (after_by (slot_at s.slots on) on s.peer) (is_quiet (with_slot s.slots on (host.Travelling message)))
+    → Sees (is_quiet (with_slot s.slots on (Slot.Travelling message))) (busy_link me n A.kept) → Stands s.peer (is_quiet s.slots) (view_in A.views me n) → Stands s.peer (is_quiet s.slots) (view_of A me n)
+    → Out A me n (is_empty (slot_at s.slots on)) (message_in message) (after_by (slot_at s.slots on) on s.peer) (is_quiet (with_slot s.slots on (Slot.Travelling message)))
 link_out A me n on message s long a b u fine ready busy k1 k2 = by (slot_at s.slots on) refl ready
   where
     now : Bool
-    now = is_quiet (with_slot s.slots on (host.Travelling message))
+    now = is_quiet (with_slot s.slots on (Slot.Travelling message))
 
     made : (z : Bool) → (on == control_link) ≡ z → (if z then control_message n (next_commands s.peer.phase.waiting) else text_message n on (answer (cut_in on s.peer.ends))) ≡ Some message
-        → Out A me n true (message_in message) (if z then peers.sends s.peer else peers.cuts on s.peer) now
+        → Out A me n true (message_in message) (if z then peer_sends s.peer else cuts on s.peer) now
     made true z e =
-        subst (λ (r : Result Message MessageFault). Out A me n true r (peers.sends s.peer) now) (sym (control_read n message (next_commands s.peer.phase.waiting) b (weighs MAX_CONTROL s.peer.phase.waiting) e))
-        (commands_out A me n s.peer now long a b fine.well.waiting busy (stands_quiet s.peer (is_quiet s.slots) now (view_of A me n) (quiet_zero s.slots on (host.Travelling message) z) k2))
+        subst (λ (r : Result Message MessageFault). Out A me n true r (peer_sends s.peer) now) (sym (control_read n message (next_commands s.peer.phase.waiting) b (weighs MAX_CONTROL s.peer.phase.waiting) e))
+        (commands_out A me n s.peer now long a b fine.well.waiting busy (stands_quiet s.peer (is_quiet s.slots) now (view_of A me n) (quiet_zero s.slots on (Slot.Travelling message) z) k2))
     made false z e = of_text (answer (cut_in on s.peer.ends)) refl e
       where
-        of_text : (o : Option (ℕ × List Bool)) → answer (cut_in on s.peer.ends) ≡ o → text_message n on o ≡ Some message → Out A me n true (message_in message) (peers.cuts on s.peer) now
+        of_text : (o : Option (ℕ × List Bool)) → answer (cut_in on s.peer.ends) ≡ o → text_message n on o ≡ Some message → Out A me n true (message_in message) (cuts on s.peer) now
         of_text None f e = absurd (cc)
         of_text (Some t) f e =
-            subst (λ (r : Result Message MessageFault). Out A me n true r (peers.cuts on s.peer) now) (sym (text_read n on message t b u (cut-written on s.peer.ends t fine.good fine.well.ends f) e))
+            subst (λ (r : Result Message MessageFault). Out A me n true r (cuts on s.peer) now) (sym (text_read n on message t b u (cut-written on s.peer.ends t fine.good fine.well.ends f) e))
             (text_out A me n on t s.peer (is_quiet s.slots) now long a b u z f k2)
 
     by : (slot : LinkSlot) → slot_at s.slots on ≡ slot → output_by slot n on s.peer ≡ Some message → Out A me n (is_empty slot) (message_in message) (after_by slot on s.peer) now
-    by host.Empty q e = made (on == control_link) refl e
-    by (host.Ready m) q e = again_out A me n (message_in message) s.peer now (stands_quiet s.peer (is_quiet s.slots) now (view_in A.views me n) (quiet_filled s.slots on (host.Travelling message) (ap is_empty (sym q))) k1)
-    by (host.Travelling m) q e = absurd (cc)
-    by (host.Held m) q e = absurd (cc)
+    by Slot.Empty q e = made (on == control_link) refl e
+    by (Slot.Ready m) q e = again_out A me n (message_in message) s.peer now (stands_quiet s.peer (is_quiet s.slots) now (view_in A.views me n) (quiet_filled s.slots on (Slot.Travelling message) (ap is_empty (sym q))) k1)
+    by (Slot.Travelling m) q e = absurd (cc)
+    by (Slot.Held m) q e = absurd (cc)
 
 -- the umpire after a message that finds room
-out_views : (me n on : ℕ) (umpire : Umpire) (message : List Bool) → umpire.full ≡ false → (after_out (sees umpire me) me n on message).views ≡ with_view umpire.views me n (view_after_out (view_in umpire.views me n) (slot_of (sees umpire me) me n on) (same_of (sees umpire me) me n on message))
+out_views : (me n on : ℕ) (umpire : Umpire) (message : List Bool) → umpire.full ≡ false → (umpire_after_out (sees umpire me) me n on message).views ≡ with_view umpire.views me n (view_after_out (view_in umpire.views me n) (slot_of_link (sees umpire me) me n on) (same_of (sees umpire me) me n on message))
 out_views me n on umpire message roomy =
     ap (λ (b : Bool). (if b then sees umpire me else record (sees umpire me) {
       full = not (has_room umpire.kept (place_of me n on umpire.kept));
-      views = with_view umpire.views me n (view_after_out (view_in umpire.views me n) (slot_of (sees umpire me) me n on) (same_of (sees umpire me) me n on message));
+      views = with_view umpire.views me n (view_after_out (view_in umpire.views me n) (slot_of_link (sees umpire me) me n on) (same_of (sees umpire me) me n on message));
       kept = with_out umpire.kept (place_of me n on umpire.kept) (gone_out me n on message);
     }).views) roomy
 
-was_open : (me n on : ℕ) (umpire : Umpire) (message : List Bool) → (after_out (sees umpire me) me n on message).full ≡ false → umpire.full ≡ false
+was_open : (me n on : ℕ) (umpire : Umpire) (message : List Bool) → (umpire_after_out (sees umpire me) me n on message).full ≡ false → umpire.full ≡ false
 was_open me n on umpire message e = by umpire.full refl e
   where
     by : (b : Bool) → umpire.full ≡ b → (if b then sees umpire me else record (sees umpire me) {
       full = not (has_room umpire.kept (place_of me n on umpire.kept));
-      views = with_view umpire.views me n (view_after_out (view_in umpire.views me n) (slot_of (sees umpire me) me n on) (same_of (sees umpire me) me n on message));
+      views = with_view umpire.views me n (view_after_out (view_in umpire.views me n) (slot_of_link (sees umpire me) me n on) (same_of (sees umpire me) me n on message));
       kept = with_out umpire.kept (place_of me n on umpire.kept) (gone_out me n on message);
     }).full ≡ false → b ≡ false
     by true f e = sym f ∙ e
     by false f e = refl
 
-out_long : (me n on : ℕ) (umpire : Umpire) (message : List Bool) → length (after_out (sees umpire me) me n on message).views ≡ length umpire.views
+out_long : (me n on : ℕ) (umpire : Umpire) (message : List Bool) → length (umpire_after_out (sees umpire me) me n on message).views ≡ length umpire.views
 out_long me n on umpire message = by umpire.full
   where
     view : View
-    view = view_after_out (view_in umpire.views me n) (slot_of (sees umpire me) me n on) (same_of (sees umpire me) me n on message)
+    view = view_after_out (view_in umpire.views me n) (slot_of_link (sees umpire me) me n on) (same_of (sees umpire me) me n on message)
 
     by : (b : Bool) → length (if b then sees umpire me else record (sees umpire me) {
       full = not (has_room umpire.kept (place_of me n on umpire.kept));
@@ -485,11 +480,11 @@ out_long me n on umpire message = by umpire.full
 
 -- what goes out to a peer, while all that is out is kept
 record Goes (me n on : ℕ) (message : List Bool) (s : PeerState) (umpire : Umpire) : Type 0 where
-  pub none : said_findings (after_out (sees umpire me) me n on message) me n (turn_at (after_out (sees umpire me) me n on message) me n me true) (fresh_out (sees umpire me) me n on message) (message_in message) ≡ []
-  pub seen : Seen (after_output on message s) (view_in (after_said (after_out (sees umpire me) me n on message) me n (turn_at (after_out (sees umpire me) me n on message) me n me true) (fresh_out (sees umpire me) me n on message) (message_in message)).views me n)
+  pub none : said_findings (umpire_after_out (sees umpire me) me n on message) me n (turn_at (umpire_after_out (sees umpire me) me n on message) me n me true) (fresh_out (sees umpire me) me n on message) (message_in message) ≡ []
+  pub seen : Seen (after_output on message s) (view_in (after_said (umpire_after_out (sees umpire me) me n on message) me n (turn_at (umpire_after_out (sees umpire me) me n on message) me n me true) (fresh_out (sees umpire me) me n on message) (message_in message)).views me n)
 
-goes_on : (ns : List ℕ) (me n : ℕ) (h : Host) (umpire : Umpire) (message : List Bool) (s : PeerState) (is : IsOut n message s) → Holds ns h → me < 256 → is_one_of me ns ≡ false → IsSaid (notes.Out message) h → state_of h n ≡ Some s
-    → Follows me h umpire → AllReady h → AllSeen me h umpire → (n == me) ≡ false → (after_out (sees umpire me) me n is.on message).full ≡ false → Goes me n is.on message s umpire
+goes_on : (ns : List ℕ) (me n : ℕ) (h : Host) (umpire : Umpire) (message : List Bool) (s : PeerState) (is : IsOut n message s) → Holds ns h → me < 256 → is_one_of me ns ≡ false → IsHostSaid (HostNote.Out message) h → state_of h n ≡ Some s
+    → Follows me h umpire → AllReady h → AllSeen me h umpire → (n == me) ≡ false → (umpire_after_out (sees umpire me) me n is.on message).full ≡ false → Goes me n is.on message s umpire
 goes_on ns me n h umpire message s is k small away p there follows ready seen other full = record {
   none = ap (λ (b : Bool). said_findings A me n (turn_at A me n me true) b (message_in message)) fresh ∙ went.none;
   seen = record {
@@ -502,7 +497,7 @@ goes_on ns me n h umpire message s is k small away p there follows ready seen ot
     on = is.on
 
     A : Umpire
-    A = after_out (sees umpire me) me n on message
+    A = umpire_after_out (sees umpire me) me n on message
 
     roomy : umpire.full ≡ false
     roomy = was_open me n on umpire message full
@@ -514,7 +509,7 @@ goes_on ns me n h umpire message s is k small away p there follows ready seen ot
     v = view_in umpire.views me n
 
     now : Bool
-    now = is_quiet (with_slot s.slots on (host.Travelling message))
+    now = is_quiet (with_slot s.slots on (Slot.Travelling message))
 
     used_now : OnLinks (after_output on message s)
     used_now = out_used on message s is.a_link o.used
@@ -522,13 +517,13 @@ goes_on ns me n h umpire message s is k small away p there follows ready seen ot
     known : Known me h umpire.kept
     known = follows roomy
 
-    new : New (slot_of (sees umpire me) me n on) (same_of (sees umpire me) me n on message) (slot_at s.slots on)
+    new : New (slot_of_link (sees umpire me) me n on) (same_of (sees umpire me) me n on message) (slot_at s.slots on)
     new =
         subst (λ (b : Bool). New (kept_slot b umpire.kept (place_of me n on umpire.kept)) (same_at umpire.kept (place_of me n on umpire.kept) message) (slot_at s.slots on)) (sym o.stands.phased.known)
         (is_new (is_of me n on) umpire.kept (slot_at s.slots on) n on s.peer message (known.agrees n s there on) is.ready)
 
     fresh : fresh_out (sees umpire me) me n on message ≡ is_empty (slot_at s.slots on)
-    fresh = ap (λ (b : Bool). b || is_fresh (slot_of (sees umpire me) me n on) (same_of (sees umpire me) me n on message)) roomy ∙ new.fresh
+    fresh = ap (λ (b : Bool). b || is_fresh (slot_of_link (sees umpire me) me n on) (same_of (sees umpire me) me n on message)) roomy ∙ new.fresh
 
     long : length A.views ≡ VIEWS
     long = out_long me n on umpire message ∙ seen.long
@@ -536,14 +531,14 @@ goes_on ns me n h umpire message s is k small away p there follows ready seen ot
     num : n < 256
     num = (k.good n s there).0
 
-    noted_view : view_in A.views me n ≡ view_after_out v (slot_of (sees umpire me) me n on) (same_of (sees umpire me) me n on message)
+    noted_view : view_in A.views me n ≡ view_after_out v (slot_of_link (sees umpire me) me n on) (same_of (sees umpire me) me n on message)
     noted_view =
         ap (λ (x : List View). view_in x me n) (out_views me n on umpire message roomy)
-        ∙ view_same umpire.views me n (view_after_out v (slot_of (sees umpire me) me n on) (same_of (sees umpire me) me n on message)) seen.long small num
+        ∙ view_same umpire.views me n (view_after_out v (slot_of_link (sees umpire me) me n on) (same_of (sees umpire me) me n on message)) seen.long small num
 
     k1 : Stands s.peer (is_quiet s.slots) (view_in A.views me n)
     k1 =
-        let w : View = view_after_out v (slot_of (sees umpire me) me n on) (same_of (sees umpire me) me n on message) in
+        let w : View = view_after_out v (slot_of_link (sees umpire me) me n on) (same_of (sees umpire me) me n on message) in
         subst (λ (x : View). Stands s.peer (is_quiet s.slots) x) (sym noted_view)
         (stands_as s.peer (is_quiet s.slots) v w.rests w.crowded v.told (ap (λ (b : Bool). v.rests || b) new.kept ∙ or_false v.rests) o.stands.phased.told o.stands)
 
@@ -552,17 +547,17 @@ goes_on ns me n h umpire message s is k small away p there follows ready seen ot
         let w : View = view_in A.views me n in
         stands_as s.peer (is_quiet s.slots) w w.rests w.crowded (w.told && not A.full) refl (not_full w.told A.full k1.phased.told full) k1
 
-    follows_now : Follows me (after_note (notes.Out message) h) (after_record umpire ToImp me message)
+    follows_now : Follows me (after_note (HostNote.Out message) h) (after_record umpire ToImp me message)
     follows_now = after_out_of ns me n on h umpire message s k p is.leader other there follows
 
     keeps : Keeps A (after_record umpire ToImp me message)
     keeps = subst (λ (u : Umpire). Keeps A u) (sym (out_is umpire me n on message is.leader other)) (said_keeps A me n (turn_at A me n me true) (fresh_out (sees umpire me) me n on message) (message_in message))
 
-    there_now : state_of (after_note (notes.Out message) h) n ≡ Some (after_output on message s)
+    there_now : state_of (after_note (HostNote.Out message) h) n ≡ Some (after_output on message s)
     there_now =
-        note-state ns (notes.Out message) h n k p
-        ∙ ap (done (names n (notes.Out message)) (note_for (notes.Out message))) there
-        ∙ ap (λ (r : Result Leader Short). Some (if is_number n (peer_of_leader r) then out_for r message s else s)) is.leader
+        note-state ns (HostNote.Out message) h n k p
+        ∙ ap (done (names n (HostNote.Out message)) (note_for (HostNote.Out message))) there
+        ∙ ap (λ (r : Result Leader Short). Some (if is_this_number n (peer_of_leader r) then out_for r message s else s)) is.leader
         ∙ ap (λ (b : Bool). Some (if b then after_output on message s else s)) (itself n)
 
     busy : Sees now (busy_link me n A.kept)
@@ -574,17 +569,17 @@ goes_on ns me n h umpire message s is k small away p there follows ready seen ot
     went : Out A me n (is_empty (slot_at s.slots on)) (message_in message) (after_by (slot_at s.slots on) on s.peer) now
     went = link_out A me n on message s long small num is.a_link (ready n s there).fine is.ready busy k1 k2
 
-pub out_all : (ns : List ℕ) (me n : ℕ) (h : Host) (umpire : Umpire) (message : List Bool) (s : PeerState) (is : IsOut n message s) → Holds ns h → me < 256 → is_one_of me ns ≡ false → IsSaid (notes.Out message) h → state_of h n ≡ Some s
-    → Follows me h umpire → AllReady h → AllSeen me h umpire → (n == me) ≡ false → AllSeen me (after_note (notes.Out message) h) (after_record umpire ToImp me message)
+pub out_all : (ns : List ℕ) (me n : ℕ) (h : Host) (umpire : Umpire) (message : List Bool) (s : PeerState) (is : IsOut n message s) → Holds ns h → me < 256 → is_one_of me ns ≡ false → IsHostSaid (HostNote.Out message) h → state_of h n ≡ Some s
+    → Follows me h umpire → AllReady h → AllSeen me h umpire → (n == me) ≡ false → AllSeen me (after_note (HostNote.Out message) h) (after_record umpire ToImp me message)
 out_all ns me n h umpire message s is k small away p there follows ready seen other =
-    subst (λ (u : Umpire). AllSeen me (after_note (notes.Out message) h) u) (sym (out_is umpire me n on message is.leader other))
+    subst (λ (u : Umpire). AllSeen me (after_note (HostNote.Out message) h) u) (sym (out_is umpire me n on message is.leader other))
     (record { long = said_long A me n me true fresh (message_in message) ∙ out_long me n on umpire message ∙ seen.long; each = each })
   where
     on : ℕ
     on = is.on
 
     A : Umpire
-    A = after_out (sees umpire me) me n on message
+    A = umpire_after_out (sees umpire me) me n on message
 
     fresh : Bool
     fresh = fresh_out (sees umpire me) me n on message
@@ -592,8 +587,8 @@ out_all ns me n h umpire message s is k small away p there follows ready seen ot
     now : Umpire
     now = after_said A me n (turn_at A me n me true) fresh (message_in message)
 
-    each : now.full ≡ false → (m : ℕ) (t : PeerState) → state_of (after_note (notes.Out message) h) m ≡ Some t → Seen t (view_in now.views me m)
-    each full m t e = go (was ns (notes.Out message) h m t k p e)
+    each : now.full ≡ false → (m : ℕ) (t : PeerState) → state_of (after_note (HostNote.Out message) h) m ≡ Some t → Seen t (view_in now.views me m)
+    each full m t e = go (was ns (HostNote.Out message) h m t k p e)
       where
         full_out : A.full ≡ false
         full_out = sym (said_keeps A me n (turn_at A me n me true) fresh (message_in message)).1 ∙ full
@@ -601,11 +596,11 @@ out_all ns me n h umpire message s is k small away p there follows ready seen ot
         roomy : umpire.full ≡ false
         roomy = was_open me n on umpire message full_out
 
-        go : (x : PeerState) × (state_of h m ≡ Some x) × (t ≡ (if names m (notes.Out message) then note_for (notes.Out message) x else x)) → Seen t (view_in now.views me m)
+        go : (x : PeerState) × (state_of h m ≡ Some x) × (t ≡ (if names m (HostNote.Out message) then note_for (HostNote.Out message) x else x)) → Seen t (view_in now.views me m)
         go w = by (eqb_tells n m)
           where
             become : t ≡ (if n == m then after_output on message w.0 else w.0)
-            become = w.2 ∙ ap (λ (r : Result Leader Short). if is_number m (peer_of_leader r) then out_for r message w.0 else w.0) is.leader
+            become = w.2 ∙ ap (λ (r : Result Leader Short). if is_this_number m (peer_of_leader r) then out_for r message w.0 else w.0) is.leader
 
             by : (((n == m) ≡ true) × (n ≡ m)) ⊎ (((n == m) ≡ false) × (n ≢ m)) → Seen t (view_in now.views me m)
             by (inl same) =
@@ -617,7 +612,7 @@ out_all ns me n h umpire message s is k small away p there follows ready seen ot
                 (subst (λ (u : View). Seen w.0 u)
                 (sym (said_other A me n m me true fresh (message_in message) (λ e. apart_is.1 (sym e))
                 ∙ ap (λ (x : List View). view_in x me m) (out_views me n on umpire message roomy)
-                ∙ view_other umpire.views me n m (view_after_out (view_in umpire.views me n) (slot_of (sees umpire me) me n on) (same_of (sees umpire me) me n on message)) (λ e. apart_is.1 (sym e))))
+                ∙ view_other umpire.views me n m (view_after_out (view_in umpire.views me n) (slot_of_link (sees umpire me) me n on) (same_of (sees umpire me) me n on message)) (λ e. apart_is.1 (sym e))))
                 (seen.each roomy m w.0 w.1))
 
 -- ---- once too much is out, nothing is told of the phase
@@ -627,20 +622,20 @@ record Untold (me : ℕ) (busy : Option ℕ) (c : Command) (v : View) : Type 0 w
   told : (after_item (record { by = me; sent = true; busy = busy; zero = false }) (Ok c) v).told ≡ false
 
 untold : (me : ℕ) (busy : Option ℕ) (c : Command) (v : View) → v.told ≡ false → Untold me busy c v
-untold me busy commands.Rst v t = record { none = grind arith; told = grind arith }
-untold me busy commands.Rrp v t = record { none = grind arith; told = grind arith }
-untold me busy commands.Nop v t = record { none = grind arith; told = t }
-untold me busy (commands.Rts x y z) v t = record { none = grind arith; told = t }
-untold me busy (commands.Str x y z) v t = record { none = grind arith; told = t }
-untold me busy (commands.Cls x y) v t = record { none = grind arith; told = t }
-untold me busy (commands.All x y z) v t = record { none = grind arith; told = t }
-untold me busy (commands.Gvb x y z) v t = record { none = grind arith; told = t }
-untold me busy (commands.Ret x y z) v t = record { none = grind arith; told = t }
-untold me busy (commands.Inr x) v t = record { none = grind arith; told = t }
-untold me busy (commands.Ins x) v t = record { none = grind arith; told = t }
-untold me busy (commands.Eco x) v t = record { none = grind arith; told = t }
-untold me busy (commands.Erp x) v t = record { none = grind arith; told = t }
-untold me busy (commands.Err x y) v t = record { none = grind arith; told = t }
+untold me busy Command.Rst v t = record { none = grind arith; told = grind arith }
+untold me busy Command.Rrp v t = record { none = grind arith; told = grind arith }
+untold me busy Command.Nop v t = record { none = grind arith; told = t }
+untold me busy (Command.Rts x y z) v t = record { none = grind arith; told = t }
+untold me busy (Command.Str x y z) v t = record { none = grind arith; told = t }
+untold me busy (Command.Cls x y) v t = record { none = grind arith; told = t }
+untold me busy (Command.All x y z) v t = record { none = grind arith; told = t }
+untold me busy (Command.Gvb x y z) v t = record { none = grind arith; told = t }
+untold me busy (Command.Ret x y z) v t = record { none = grind arith; told = t }
+untold me busy (Command.Inr x) v t = record { none = grind arith; told = t }
+untold me busy (Command.Ins x) v t = record { none = grind arith; told = t }
+untold me busy (Command.Eco x) v t = record { none = grind arith; told = t }
+untold me busy (Command.Erp x) v t = record { none = grind arith; told = t }
+untold me busy (Command.Err x y) v t = record { none = grind arith; told = t }
 
 record AllUntold (me : ℕ) (busy : Option ℕ) (cs : List Command) (v : View) : Type 0 where
   none : items_findings (record { by = me; sent = true; busy = busy; zero = false }) (items_of cs None) v ≡ []
@@ -667,13 +662,13 @@ untold_control me busy text v t whole =
     ∙ ap (λ (xs : List Finding). xs ++ option_to_list (missing_finding (record { by = me; sent = true; busy = busy; zero = false }) (is_roomy text) (after_items (record { by = me; sent = true; busy = busy; zero = false }) (items_of cs None) v))) w.none
     ∙ ap option_to_list (untold_missing me busy (is_roomy text) (after_items (record { by = me; sent = true; busy = busy; zero = false }) (items_of cs None) v) w.told)
 
-untold_text : (me : ℕ) (busy : Option ℕ) (v : View) → v.told ≡ false → early_finding (record { by = me; sent = true; busy = busy; zero = false }) a.Text v ≡ None
+untold_text : (me : ℕ) (busy : Option ℕ) (v : View) → v.told ≡ false → early_finding (record { by = me; sent = true; busy = busy; zero = false }) Thing.Text v ≡ None
 untold_text me busy v t = grind arith
 
-untold_read : (me : ℕ) (busy : Option ℕ) (m : Message) (v : View) → v.told ≡ false → ((m.leader.link == 0) ≡ true → fault_in (bytes_of m.text) ≡ None) → read_findings (reading_of m) (record { by = me; sent = true; busy = busy; zero = false }) m.text v ≡ []
+untold_read : (me : ℕ) (busy : Option ℕ) (m : Message) (v : View) → v.told ≡ false → ((m.leader.link == 0) ≡ true → fault_in (bytes_of m.text) ≡ None) → read_findings (judged_reading m) (record { by = me; sent = true; busy = busy; zero = false }) m.text v ≡ []
 untold_read me busy m v t whole = go (is_unused m.leader.link) (m.leader.link == 0) (m.size == 8) refl refl refl
   where
-    go : (x y z : Bool) → is_unused m.leader.link ≡ x → (m.leader.link == 0) ≡ y → (m.size == 8) ≡ z → read_findings (reading_of m) (record { by = me; sent = true; busy = busy; zero = false }) m.text v ≡ []
+    go : (x y z : Bool) → is_unused m.leader.link ≡ x → (m.leader.link == 0) ≡ y → (m.size == 8) ≡ z → read_findings (judged_reading m) (record { by = me; sent = true; busy = busy; zero = false }) m.text v ≡ []
     go true y z e f g = rw e refl
     go false false z e f g = rw (e, f) (ap option_to_list (untold_text me busy v t))
     go false true true e f g = rw (e, f, g) (untold_control me busy m.text v t (whole f))
@@ -689,7 +684,7 @@ full_said : (A : Umpire) (me n : ℕ) (fresh : Bool) (r : Result Message Message
 full_said A me n fresh (Err fault) full whole = refl
 full_said A me n false (Ok m) full whole = refl
 full_said A me n true (Ok m) full whole =
-    ap (λ (z : Bool). read_findings (reading_of m) (record { by = me; sent = true; busy = busy_link me n A.kept; zero = z }) m.text (view_of A me n)) (zero_none A full)
+    ap (λ (z : Bool). read_findings (judged_reading m) (record { by = me; sent = true; busy = busy_link me n A.kept; zero = z }) m.text (view_of A me n)) (zero_none A full)
     ∙ untold_read me (busy_link me n A.kept) m (view_of A me n) (and_not (view_in A.views me n).told A.full full) (whole m refl)
   where
     zero_none : (A : Umpire) → A.full ≡ true → knows_zero A me n ≡ false
@@ -705,7 +700,7 @@ free : (me n : ℕ) (h : Host) (umpire : Umpire) (s : PeerState) (message : List
 free me n h umpire s message is there f = go umpire.full refl
   where
     rules : Option Rule
-    rules = out_rule (slot_of umpire me n is.on) (same_of umpire me n is.on message) is.on
+    rules = out_rule (slot_of_link umpire me n is.on) (same_of umpire me n is.on message) is.on
 
     go : (b : Bool) → umpire.full ≡ b → Pass (spares any_rule me) (option_to_list (if b then None else option_map (by_host me) rules))
     go true full = refl
@@ -713,7 +708,7 @@ free me n h umpire s message is there f = go umpire.full refl
         let none : rules ≡ None = allowed (is_of me n is.on) (view_in umpire.views me n).known umpire.kept (slot_at s.slots is.on) n is.on s.peer message ((f full).agrees n s there is.on) is.ready in
         subst (λ (o : Option Rule). Pass (spares any_rule me) (option_to_list (option_map (by_host me) o))) (sym none) refl
 
-pub out_spared : (ns : List ℕ) (me n : ℕ) (h : Host) (umpire : Umpire) (message : List Bool) (s : PeerState) (is : IsOut n message s) → Holds ns h → me < 256 → is_one_of me ns ≡ false → IsSaid (notes.Out message) h → state_of h n ≡ Some s
+pub out_spared : (ns : List ℕ) (me n : ℕ) (h : Host) (umpire : Umpire) (message : List Bool) (s : PeerState) (is : IsOut n message s) → Holds ns h → me < 256 → is_one_of me ns ≡ false → IsHostSaid (HostNote.Out message) h → state_of h n ≡ Some s
     → Follows me h umpire → AllReady h → AllSeen me h umpire → (n == me) ≡ false → Pass (spares any_rule me) (record_findings umpire ToImp me message)
 out_spared ns me n h umpire message s is k small away p there follows ready seen other =
     goes_said (spares any_rule me) umpire me n on message is.leader other
@@ -725,7 +720,7 @@ out_spared ns me n h umpire message s is k small away p there follows ready seen
     on = is.on
 
     A : Umpire
-    A = after_out (sees umpire me) me n on message
+    A = umpire_after_out (sees umpire me) me n on message
 
     whole : Whole on message
     whole = let r = ready n s there in out_whole n message s is (k.good n s there).0 r.fine r.kept

@@ -3,18 +3,17 @@
 use Rattle.std.proofs.Common.{◌≡◌, ℕ, ◌+◌, ◌-◌, ◌≤◌, ◌<◌, ◌==◌, ◌^◌, min, Bool, true, false, not, ◌&&◌, ◌||◌, if◌then◌else◌, List, [], ◌∷◌, ◌++◌, length, Option, None, Some, is_some, option_map, option_to_list, refl, sym, ap, ◌∙◌, subst, arith}
 use Rattle.ncp_terms.specs.declared.command.Command.{Command}
 use Rattle.ncp_terms.specs.declared.command.Command.TheVariants.{Rst, Rrp}
-use Rattle.ncp_model.specs.Phase.{Phase, up, is_rst, is_rrp, is_reset, is_other, is_resetting, answers, asks, wants_reset, owes_answer, hears_rrp, goes_down, queued}
+use Rattle.ncp_model.specs.Phase.{Phase, up, is_rst, is_rrp, is_reset, is_other, is_resetting, phase_answers, phase_asks, wants_reset, owes_answer, hears_rrp, goes_down, queued}
 use Rattle.ncp_model.proofs.ResetLists.{bit, rsts, rrps, others, purged, rsts-append, rrps-append, others-append, rsts-purged, rrps-purged, others-purged, purged_calm, any-rsts, any-rrps}
 use Rattle.ncp_umpire.specs.declared.finding.Finding.{Finding}
 use Rattle.ncp_umpire.specs.declared.finding.Thing.{Thing}
-use Rattle.ncp_umpire.specs.declared.finding.Thing.TheVariants as a
 use Rattle.ncp_umpire.specs.declared.view.View.{View}
 use Rattle.ncp_umpire.specs.declared.view.Wait.{Wait}
 use Rattle.ncp_umpire.specs.declared.view.Wait.TheVariants.{Answered, Even, Waiting}
-use Rattle.ncp_umpire.specs.Views.{is_waiting, is_answered, new_view}
+use Rattle.ncp_umpire.specs.Views.{awaits_reply, is_answered_too_often, new_view}
 use Rattle.ncp_umpire.specs.Judged.{by_host}
-use Rattle.ncp_umpire.specs.Views.{more_waiting, one_more}
-use Rattle.ncp_umpire.specs.Phases.{is_text, is_early, early_rule, early_finding, after_thing, reset_findings, after_reset, after_reset_of_peer, reply_findings, after_reply, after_reply_of_peer}
+use Rattle.ncp_umpire.specs.Views.{more_waiting, one_reset_more}
+use Rattle.ncp_umpire.specs.Phases.{is_text, is_early, early_rule, early_finding, after_thing, reset_findings, view_after_reset, after_reset_of_peer, reply_findings, view_after_reply, after_reply_of_peer}
 use Rattle.ncp_proof_umpire.proofs.PhaseLists.{behind, leads, behind-none, behind-calm, behind-more, behind-reset, behind-purged, leads-some, leads-more, leads-rst, leads-purged}
 
 abbrev pub Phased : Phase → Bool → View → Type 0
@@ -30,21 +29,21 @@ Phased p quiet v = record {
   one_rrp : rrps p.waiting ≤ 1;
   wants : p.want ≡ true → p.wait ≡ false;
   -- what is seen of it
-  even : is_waiting v.host.wait ≡ false → is_answered v.host.wait ≡ false → rsts p.waiting ≤ bit p.wait;
-  none_waits : is_waiting v.host.wait ≡ true → rsts p.waiting ≡ 0;
-  waits : is_waiting v.host.wait ≡ true → p.wait ≡ true;
+  even : awaits_reply v.host.wait ≡ false → is_answered_too_often v.host.wait ≡ false → rsts p.waiting ≤ bit p.wait;
+  none_waits : awaits_reply v.host.wait ≡ true → rsts p.waiting ≡ 0;
+  waits : awaits_reply v.host.wait ≡ true → p.wait ≡ true;
   asked : rrps p.waiting + bit p.owe ≤ v.host.asked;
   owes : v.owes ≡ true → 0 < rrps p.waiting + bit p.owe;
   began : v.host.began ≡ false → p.down ≡ false → 0 < rsts p.waiting + rrps p.waiting;
   -- while the data links are quiet, or the session rests
-  sure : v.rests ≡ false → is_answered v.host.wait ≡ false;
-  wait_quiet : is_waiting v.host.wait ≡ true → quiet ≡ true;
-  rst_quiet : is_answered v.host.wait ≡ false → 0 < rsts p.waiting → quiet ≡ true;
+  sure : v.rests ≡ false → is_answered_too_often v.host.wait ≡ false;
+  wait_quiet : awaits_reply v.host.wait ≡ true → quiet ≡ true;
+  rst_quiet : is_answered_too_often v.host.wait ≡ false → 0 < rsts p.waiting → quiet ≡ true;
   rrp_quiet : v.rests ≡ false → 0 < rrps p.waiting → quiet ≡ true;
-  rrp_waited : v.rests ≡ false → 0 < rrps p.waiting + bit p.owe → is_waiting v.host.wait ≡ false → is_waiting v.peer.wait ≡ true;
-  rrp_known : is_waiting v.host.wait ≡ true → 0 < rrps p.waiting + bit p.owe → v.owes ≡ true;
-  led_known : is_answered v.host.wait ≡ false → leads p.waiting ≡ true → 0 < rrps p.waiting + bit p.owe → v.owes ≡ true;
-  led_first : is_answered v.host.wait ≡ false → leads p.waiting ≡ true → 0 < rrps p.waiting + bit p.owe → v.first ≡ false;
+  rrp_waited : v.rests ≡ false → 0 < rrps p.waiting + bit p.owe → awaits_reply v.host.wait ≡ false → awaits_reply v.peer.wait ≡ true;
+  rrp_known : awaits_reply v.host.wait ≡ true → 0 < rrps p.waiting + bit p.owe → v.owes ≡ true;
+  led_known : is_answered_too_often v.host.wait ≡ false → leads p.waiting ≡ true → 0 < rrps p.waiting + bit p.owe → v.owes ≡ true;
+  led_first : is_answered_too_often v.host.wait ≡ false → leads p.waiting ≡ true → 0 < rrps p.waiting + bit p.owe → v.first ≡ false;
 }
 
 -- nothing is to be made while the data links are quiet
@@ -64,18 +63,18 @@ queueing p q v c u o r s k = let b = behind-more p.waiting c o k.order in let l 
 pub wanting : (p : Phase) (q : Bool) (v : View) → is_resetting p ≡ false → Phased p q v → Phased (wants_reset p) q v
 wanting p q v w k = let b = behind-purged p.waiting in let l = leads-purged p.waiting k.order in grind (arith, on_lists)
 
-pub answering : (p : Phase) (v : View) → Phased p true v → Phased (answers p) true v
+pub answering : (p : Phase) (v : View) → Phased p true v → Phased (phase_answers p) true v
 answering p v k = go p.owe refl (rrps p.waiting == 0) refl
   where
-    go : (b : Bool) → p.owe ≡ b → (c : Bool) → (rrps p.waiting == 0) ≡ c → Phased (answers p) true v
+    go : (b : Bool) → p.owe ≡ b → (c : Bool) → (rrps p.waiting == 0) ≡ c → Phased (phase_answers p) true v
     go false o c d = grind (arith, on_lists)
     go true o true d = let b = behind-reset p.waiting Rrp refl (k.calm (grind arith)) in let l = leads-more p.waiting Rrp refl in grind (arith, on_lists)
     go true o false d = grind (arith, on_lists)
 
-pub asking : (p : Phase) (v : View) → p.owe ≡ false → Phased p true v → Phased (asks p) true v
+pub asking : (p : Phase) (v : View) → p.owe ≡ false → Phased p true v → Phased (phase_asks p) true v
 asking p v o k = go p.want refl (rsts p.waiting == 0) refl
   where
-    go : (b : Bool) → p.want ≡ b → (c : Bool) → (rsts p.waiting == 0) ≡ c → Phased (asks p) true v
+    go : (b : Bool) → p.want ≡ b → (c : Bool) → (rsts p.waiting == 0) ≡ c → Phased (phase_asks p) true v
     go false w c d = grind (arith, on_lists)
     go true w true d = let b = behind-reset p.waiting Rst refl (k.calm (grind arith)) in let l = leads-rst p.waiting Rst in grind (arith, on_lists)
     go true w false d = grind (arith, on_lists)
@@ -87,19 +86,19 @@ abbrev pub Sees : Bool → Option ℕ → Type 0
 Sees quiet busy = record { none : quiet ≡ true → busy ≡ None; some : quiet ≡ false → is_some busy ≡ true }
 
 pub rst_goes : (me : ℕ) (busy : Option ℕ) (zero : Bool) (u : List Command) (p : Phase) (q : Bool) (v : View) → Sees q busy → Settled p q → Phased (record p { waiting = Rst ∷ u }) q v
-    → (reset_findings (record { by = me; sent = true; busy = busy; zero = zero }) v ≡ []) × Phased (record p { waiting = u }) q (after_reset (record { by = me; sent = true; busy = busy; zero = zero }) v)
+    → (reset_findings (record { by = me; sent = true; busy = busy; zero = zero }) v ≡ []) × Phased (record p { waiting = u }) q (view_after_reset (record { by = me; sent = true; busy = busy; zero = zero }) v)
 rst_goes me busy zero u p true v b s k = let n : busy ≡ None = b.none refl in let l = leads-some u in (grind arith, grind arith)
 rst_goes me busy zero u p false v b s k = let l = leads-some u in (grind arith, grind arith)
 
 -- it ends no rest while the host is up
-pub rst_keeps_rest : (me : ℕ) (busy : Option ℕ) (zero : Bool) (u : List Command) (p : Phase) (q : Bool) (v : View) → Phased (record p { waiting = Rst ∷ u }) q v → up p ≡ true → (after_reset (record { by = me; sent = true; busy = busy; zero = zero }) v).rests ≡ false → v.rests ≡ false
+pub rst_keeps_rest : (me : ℕ) (busy : Option ℕ) (zero : Bool) (u : List Command) (p : Phase) (q : Bool) (v : View) → Phased (record p { waiting = Rst ∷ u }) q v → up p ≡ true → (view_after_reset (record { by = me; sent = true; busy = busy; zero = zero }) v).rests ≡ false → v.rests ≡ false
 rst_keeps_rest me busy zero u p q v k up_is r = let t = k.told in let e = k.even in let w = k.none_waits in let s = k.sure in grind arith
 
-pub rrp_keeps_rest : (me : ℕ) (busy : Option ℕ) (zero : Bool) (v : View) → v.told ≡ true → (after_reply (record { by = me; sent = true; busy = busy; zero = zero }) v).rests ≡ false → v.rests ≡ false
+pub rrp_keeps_rest : (me : ℕ) (busy : Option ℕ) (zero : Bool) (v : View) → v.told ≡ true → (view_after_reply (record { by = me; sent = true; busy = busy; zero = zero }) v).rests ≡ false → v.rests ≡ false
 rrp_keeps_rest me busy zero v t r = grind arith
 
 pub rrp_goes : (me : ℕ) (busy : Option ℕ) (zero : Bool) (u : List Command) (p : Phase) (q : Bool) (v : View) → Sees q busy → Settled p q → Phased (record p { waiting = Rrp ∷ u }) q v
-    → (reply_findings (record { by = me; sent = true; busy = busy; zero = zero }) v ≡ []) × Phased (record p { waiting = u }) q (after_reply (record { by = me; sent = true; busy = busy; zero = zero }) v)
+    → (reply_findings (record { by = me; sent = true; busy = busy; zero = zero }) v ≡ []) × Phased (record p { waiting = u }) q (view_after_reply (record { by = me; sent = true; busy = busy; zero = zero }) v)
 rrp_goes me busy zero u p true v b s k = let n : busy ≡ None = b.none refl in let l = leads-some u in (grind arith, grind arith)
 rrp_goes me busy zero u p false v b s k = let l = leads-some u in (grind arith, grind arith)
 
@@ -118,16 +117,16 @@ none_behind c u p q v o k = let e = k.order in grind arith
 up_began : (c : Command) (u : List Command) (p : Phase) (q : Bool) (v : View) → up p ≡ true → (rsts u ≡ 0) × (rrps u ≡ 0) → is_rst c ≡ false → is_rrp c ≡ false → Phased (record p { waiting = c ∷ u }) q v → v.host.began ≡ true
 up_began c u p q v up_is none r s k = let e = k.began in grind arith
 
-up_waits : (c : Command) (u : List Command) (p : Phase) (q : Bool) (v : View) → up p ≡ true → Phased (record p { waiting = c ∷ u }) q v → is_waiting v.host.wait ≡ false
+up_waits : (c : Command) (u : List Command) (p : Phase) (q : Bool) (v : View) → up p ≡ true → Phased (record p { waiting = c ∷ u }) q v → awaits_reply v.host.wait ≡ false
 up_waits c u p q v up_is k = let e = k.waits in grind arith
 
 up_owes : (c : Command) (u : List Command) (p : Phase) (q : Bool) (v : View) → up p ≡ true → (rsts u ≡ 0) × (rrps u ≡ 0) → is_rst c ≡ false → is_rrp c ≡ false → Phased (record p { waiting = c ∷ u }) q v → v.owes ≡ false
 up_owes c u p q v up_is none r s k = let e = k.owes in grind arith
 
-not_early : (me : ℕ) (busy : Option ℕ) (zero : Bool) (what : Thing) (v : View) → is_text what ≡ false → v.host.began ≡ true → is_waiting v.host.wait ≡ false → v.owes ≡ false → is_early (record { by = me; sent = true; busy = busy; zero = zero }) what v ≡ false
+not_early : (me : ℕ) (busy : Option ℕ) (zero : Bool) (what : Thing) (v : View) → is_text what ≡ false → v.host.began ≡ true → awaits_reply v.host.wait ≡ false → v.owes ≡ false → is_early (record { by = me; sent = true; busy = busy; zero = zero }) what v ≡ false
 not_early me busy zero what v t b w o = go v.rests
   where
-    go : (r : Bool) → (if true && r && is_text what then is_waiting v.host.wait else not v.host.began || is_waiting v.host.wait || (true && v.owes)) ≡ false
+    go : (r : Bool) → (if true && r && is_text what then awaits_reply v.host.wait else not v.host.began || awaits_reply v.host.wait || (true && v.owes)) ≡ false
     go true = rw (t, b, w, o) refl
     go false = rw (b, w, o) refl
 
@@ -147,7 +146,7 @@ less_other c u p q v up_is none r s k = let order = behind-none u none.0 none.1 
 same_after : (me : ℕ) (busy : Option ℕ) (zero sent : Bool) (what : Thing) (v : View) → is_early (record { by = me; sent = sent; busy = busy; zero = zero }) what v ≡ false → after_thing (record { by = me; sent = sent; busy = busy; zero = zero }) what v ≡ v
 same_after me busy zero sent what v e = go v.told v.rests v.spoilt (is_early (record { by = me; sent = sent; busy = busy; zero = zero }) what v) e
   where
-    go : (t r s b : Bool) → b ≡ false → record v { rests = r || ((t && b) && not (is_waiting v.host.wait)); spoilt = s || ((t && b) && sent) } ≡ record v { rests = r; spoilt = s }
+    go : (t r s b : Bool) → b ≡ false → record v { rests = r || ((t && b) && not (awaits_reply v.host.wait)); spoilt = s || ((t && b) && sent) } ≡ record v { rests = r; spoilt = s }
     go t r s true e = absurd (cc)
     go true true true false e = refl
     go true true false false e = refl
@@ -172,7 +171,7 @@ other_goes me busy zero what c u p q v o r s t k = in_time (is_up c u p q v o k)
         (early_none me busy zero what v late, subst (λ (w : View). Phased (record p { waiting = u }) q w) (sym (same_after me busy zero true what v late)) (less_other c u p q v up_is none r s k))
 
 pub text_goes : (me : ℕ) (busy : Option ℕ) (zero : Bool) (p : Phase) (q : Bool) (v : View) → up p ≡ true → (v.rests ≡ false → rrps p.waiting ≡ 0) → Phased p q v
-    → (early_finding (record { by = me; sent = true; busy = busy; zero = zero }) a.Text v ≡ None) × Phased p q (after_thing (record { by = me; sent = true; busy = busy; zero = zero }) a.Text v)
+    → (early_finding (record { by = me; sent = true; busy = busy; zero = zero }) Thing.Text v ≡ None) × Phased p q (after_thing (record { by = me; sent = true; busy = busy; zero = zero }) Thing.Text v)
 text_goes me busy zero p q v u r k = (grind arith, grind arith)
 
 -- while a text is out the data links are not quiet
@@ -189,21 +188,21 @@ quieted p now v k = grind arith
 -- ---- what the peer says
 
 pub rst_comes : (n : ℕ) (busy : Option ℕ) (zero : Bool) (p : Phase) (q : Bool) (v : View) → Sees q busy → Settled p q → Phased p q v
-    → Phased (owes_answer p) q (after_reset (record { by = n; sent = false; busy = busy; zero = zero }) v)
+    → Phased (owes_answer p) q (view_after_reset (record { by = n; sent = false; busy = busy; zero = zero }) v)
 rst_comes n busy zero p true v b s k = let m : busy ≡ None = b.none refl in let c = behind-purged p.waiting in let l = leads-purged p.waiting k.order in let t = leads-some p.waiting in grind (arith, on_lists)
 rst_comes n busy zero p false v b s k = let m = b.some refl in let c = behind-purged p.waiting in let l = leads-purged p.waiting k.order in let t = leads-some p.waiting in grind (arith, on_lists)
 
 pub rrp_comes : (n : ℕ) (busy : Option ℕ) (zero : Bool) (p : Phase) (q : Bool) (v : View) → Settled p q → Phased p q v
-    → Phased (hears_rrp p) q (after_reply (record { by = n; sent = false; busy = busy; zero = zero }) v)
+    → Phased (hears_rrp p) q (view_after_reply (record { by = n; sent = false; busy = busy; zero = zero }) v)
 rrp_comes n busy zero p q v s k = go v.host.wait refl v.rests refl
   where
-    go : (w : Wait) → v.host.wait ≡ w → (r : Bool) → v.rests ≡ r → Phased (hears_rrp p) q (after_reply (record { by = n; sent = false; busy = busy; zero = zero }) v)
+    go : (w : Wait) → v.host.wait ≡ w → (r : Bool) → v.rests ≡ r → Phased (hears_rrp p) q (view_after_reply (record { by = n; sent = false; busy = busy; zero = zero }) v)
     go Answered e r f = let t = leads-some p.waiting in grind arith
     go Even e r f = let t = leads-some p.waiting in grind arith
     go Waiting e r f = let t = leads-some p.waiting in grind arith
 
 -- it ends no rest while the host is up
-pub rrp_ends_rest : (n : ℕ) (busy : Option ℕ) (zero : Bool) (p : Phase) (q : Bool) (v : View) → up p ≡ true → Phased p q v → (after_reply (record { by = n; sent = false; busy = busy; zero = zero }) v).rests ≡ false → ⊥
+pub rrp_ends_rest : (n : ℕ) (busy : Option ℕ) (zero : Bool) (p : Phase) (q : Bool) (v : View) → up p ≡ true → Phased p q v → (view_after_reply (record { by = n; sent = false; busy = busy; zero = zero }) v).rests ≡ false → ⊥
 rrp_ends_rest n busy zero p q v u k r = let t = k.told in let w = k.waits in grind arith
 
 -- what else comes leaves the phase, and where the host acts on it while an RRP waits the session rests

@@ -12,8 +12,8 @@ use Rattle.ncp_proof_machine.proofs.EndsGood.{none-good}
 use Rattle.ncp_transcript.specs.declared.note.HostNote.{HostNote}
 use Rattle.ncp_transcript.specs.After.{after_note}
 use Rattle.ncp_transcript.specs.Noting.{answer_in, note_as, note_of_message}
-use Rattle.ncp_transcript.specs.Runs.{IsSaid, AreNotes}
-use Rattle.ncp_transcript_two.specs.Seen.{told_call, Fits}
+use Rattle.ncp_transcript.specs.Runs.{IsHostSaid, AreHostNotes}
+use Rattle.ncp_transcript_two.specs.Seen.{told_call, NoteFits}
 use Rattle.ncp_transcript_two.proofs.Well.{none-well}
 use Rattle.ncp_proof_runs.specs.Peers.{names, note_for}
 use Rattle.ncp_proof_runs.proofs.Said.{IsOut}
@@ -32,7 +32,7 @@ pub record Ready (s : PeerState) : Type 0 where
 abbrev pub AllReady : Host → Type 0
 AllReady h = (n : ℕ) (s : PeerState) → state_of h n ≡ Some s → Ready s
 
-pub ready_after : (ns : List ℕ) (note : HostNote) (h : Host) → Holds ns h → IsSaid note h → Fits (told_call note) → AllReady h → AllReady (after_note note h)
+pub ready_after : (ns : List ℕ) (note : HostNote) (h : Host) → Holds ns h → IsHostSaid note h → NoteFits (told_call note) → AllReady h → AllReady (after_note note h)
 ready_after ns note h k p fits all n now e =
     let w = was ns note h n now k p e in
     subst Ready (sym w.2) (by w.0 w.1 (names n note) refl)
@@ -43,13 +43,13 @@ ready_after ns note h k p fits all n now e =
         record { fine = note_fine note s fits r.fine; kept = note_whole n note s (note-said ns note h n s k p there g) (k.good n s there).0 r.fine r.kept }
     by s there false g = all n s there
 
-pub fits_in : (o : Option Leader) (bits : List Bool) (h : Host) (note : HostNote) → note ≡ note_as o bits (received_in bits h) → Fits (told_call note)
-fits_in None bits h note e = subst (λ (x : HostNote). Fits (told_call x)) (sym e) tt
-fits_in (Some leader) bits h note e = subst (λ (x : HostNote). Fits (told_call x)) (sym e) tt
+pub fits_in : (o : Option Leader) (bits : List Bool) (h : Host) (note : HostNote) → note ≡ note_as o bits (received_in bits h) → NoteFits (told_call note)
+fits_in None bits h note e = subst (λ (x : HostNote). NoteFits (told_call x)) (sym e) tt
+fits_in (Some leader) bits h note e = subst (λ (x : HostNote). NoteFits (told_call x)) (sym e) tt
 
-pub fits_out : (o : Option (List Bool)) (note : HostNote) → note ≡ note_of_message o → Fits (told_call note)
-fits_out None note e = subst (λ (x : HostNote). Fits (told_call x)) (sym e) tt
-fits_out (Some message) note e = subst (λ (x : HostNote). Fits (told_call x)) (sym e) tt
+pub fits_out : (o : Option (List Bool)) (note : HostNote) → note ≡ note_of_message o → NoteFits (told_call note)
+fits_out None note e = subst (λ (x : HostNote). NoteFits (told_call x)) (sym e) tt
+fits_out (Some message) note e = subst (λ (x : HostNote). NoteFits (told_call x)) (sym e) tt
 
 -- ---- the beginning
 
@@ -59,9 +59,9 @@ new_ready = record {
   kept = λ on m e. let nothing : None ≡ Some m = sym (ap kept_message (slot_at-no_slots on)) ∙ e in absurd (cc);
 }
 
-pub begins : (me : ℕ) (ns : List ℕ) → AllReady (new_host me ns)
-begins me [] n s e = absurd (cc)
-begins me (m ∷ ns) n s e = by (m == n) (begins me ns n s) e
+pub ready_begins : (me : ℕ) (ns : List ℕ) → AllReady (new_host me ns)
+ready_begins me [] n s e = absurd (cc)
+ready_begins me (m ∷ ns) n s e = by (m == n) (ready_begins me ns n s) e
   where
     by : (b : Bool) → (state_of (new_host me ns) n ≡ Some s → Ready s) → (if b then Some new_state else state_of (new_host me ns) n) ≡ Some s → Ready s
     by true rest e = let is : new_state ≡ s = cc in subst Ready is new_ready

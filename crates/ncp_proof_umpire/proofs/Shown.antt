@@ -3,27 +3,26 @@ use Rattle.std.proofs.Common.{◌≡◌, ◌⊎◌, inl, inr, ℕ, ◌==◌, Boo
 use Rattle.std.proofs.lemmas.Bool.Decides.{eqb_tells}
 use Rattle.ncp_terms.specs.declared.answer.Answer.{Answer}
 use Rattle.ncp_terms.specs.declared.answer.Answer.TheVariants.{Rfnm, Incomplete, Dead}
-use Rattle.ncp_slot.specs.declared.slot.Slot.TheVariants as host
+use Rattle.ncp_slot.specs.declared.slot.Slot.TheVariants.{Empty, Held, Ready, Travelling}
 use Rattle.ncp_slot.specs.Slot.{answered, woken}
 use Rattle.ncp_slot.specs.Slots.{LinkSlot}
 use Rattle.ncp_model.specs.Peers.{Peer}
 use Rattle.ncp_host.specs.Output.{output_by}
 use Rattle.ncp_umpire.specs.declared.kept.Kept.{Kept}
 use Rattle.ncp_umpire.specs.declared.kept.Slot.{Slot}
-use Rattle.ncp_umpire.specs.declared.kept.Slot.TheVariants as slot
-use Rattle.ncp_umpire.specs.Slots.{is_of, same_bits, place_of, kept_at, slot_at, same_at, gone_out, has_room, with_out, with_slot, with_answered}
-use Rattle.ncp_umpire.specs.Judged.{out_rule, is_out, with_answer, with_coming}
+use Rattle.ncp_umpire.specs.Slots.{is_of, same_bits, place_of, kept_at, kept_slot, same_at, gone_out, has_room, with_out, with_kept_slot, with_answered}
+use Rattle.ncp_umpire.specs.Judged.{out_rule, is_slot_out, with_answer, with_coming}
 use Rattle.ncp_proof_umpire.proofs.KeptOne.{middle_set, middle_get, middle_remove, Placed, placed, taken, Apart, Became, replaced, forgotten, as_list, behind, put_out}
 
 abbrev pub ShowsOne : Slot → List Bool → LinkSlot → Type 0
-ShowsOne slot.Unknown message s = ⊥
-ShowsOne slot.Empty message s = s ≡ host.Empty
-ShowsOne slot.Out message s = s ≡ host.Travelling message
-ShowsOne slot.Came message s = s ≡ host.Travelling message
-ShowsOne slot.Again message s = (s ≡ host.Ready message) ⊎ (s ≡ host.Held message)
+ShowsOne Slot.Unknown message s = ⊥
+ShowsOne Slot.Empty message s = s ≡ Empty
+ShowsOne Slot.Out message s = s ≡ Travelling message
+ShowsOne Slot.Came message s = s ≡ Travelling message
+ShowsOne Slot.Again message s = (s ≡ Ready message) ⊎ (s ≡ Held message)
 
 abbrev pub Shows : List Kept → LinkSlot → Type 0
-Shows [] s = s ≡ host.Empty
+Shows [] s = s ≡ Empty
 Shows (k ∷ []) s = ShowsOne k.slot k.message s
 Shows (k ∷ other ∷ more) s = ⊥
 
@@ -50,10 +49,10 @@ all_same (false ∷ bits) = all_same bits
 -- ---- a message goes out
 
 pub allowed : (p : Kept → Bool) (known : Bool) (kept : List Kept) (s : LinkSlot) (n on : ℕ) (peer : Peer) (bits : List Bool) → Shows (filter p kept) s → output_by s n on peer ≡ Some bits
-    → out_rule (slot_at known kept (position p kept)) (same_at kept (position p kept) bits) on ≡ None
+    → out_rule (kept_slot known kept (position p kept)) (same_at kept (position p kept) bits) on ≡ None
 allowed p known kept s n on peer bits h ready = go (placed p kept)
   where
-    free : (k : Bool) (same : Bool) → out_rule (if k then slot.Empty else slot.Unknown) same on ≡ None
+    free : (k : Bool) (same : Bool) → out_rule (if k then Slot.Empty else Slot.Unknown) same on ≡ None
     free true same = refl
     free false same = refl
 
@@ -61,19 +60,19 @@ allowed p known kept s n on peer bits h ready = go (placed p kept)
     alike m e = let is : m ≡ bits = cc in ap (λ (xs : List Bool). same_bits xs bits) is ∙ all_same bits
 
     one : (k : Slot) (m : List Bool) → ShowsOne k m s → out_rule k (same_bits m bits) on ≡ None
-    one slot.Unknown m e = absurd e
-    one slot.Empty m e = refl
-    one slot.Out m e = let nay : None ≡ Some bits = ap (λ (x : LinkSlot). output_by x n on peer) (sym e) ∙ ready in absurd (cc)
-    one slot.Came m e = let nay : None ≡ Some bits = ap (λ (x : LinkSlot). output_by x n on peer) (sym e) ∙ ready in absurd (cc)
-    one slot.Again m (inl e) = ap (λ (b : Bool). out_rule slot.Again b on) (alike m (ap (λ (x : LinkSlot). output_by x n on peer) (sym e) ∙ ready))
-    one slot.Again m (inr e) = let nay : None ≡ Some bits = ap (λ (x : LinkSlot). output_by x n on peer) (sym e) ∙ ready in absurd (cc)
+    one Slot.Unknown m e = absurd e
+    one Slot.Empty m e = refl
+    one Slot.Out m e = let nay : None ≡ Some bits = ap (λ (x : LinkSlot). output_by x n on peer) (sym e) ∙ ready in absurd (cc)
+    one Slot.Came m e = let nay : None ≡ Some bits = ap (λ (x : LinkSlot). output_by x n on peer) (sym e) ∙ ready in absurd (cc)
+    one Slot.Again m (inl e) = ap (λ (b : Bool). out_rule Slot.Again b on) (alike m (ap (λ (x : LinkSlot). output_by x n on peer) (sym e) ∙ ready))
+    one Slot.Again m (inr e) = let nay : None ≡ Some bits = ap (λ (x : LinkSlot). output_by x n on peer) (sym e) ∙ ready in absurd (cc)
 
-    go : ((position p kept ≡ None) × (filter p kept ≡ [])) ⊎ Placed p kept → out_rule (slot_at known kept (position p kept)) (same_at kept (position p kept) bits) on ≡ None
-    go (inl none) = ap (λ (o : Option ℕ). out_rule (slot_at known kept o) (same_at kept o bits) on) none.0 ∙ free known false
+    go : ((position p kept ≡ None) × (filter p kept ≡ [])) ⊎ Placed p kept → out_rule (kept_slot known kept (position p kept)) (same_at kept (position p kept) bits) on ≡ None
+    go (inl none) = ap (λ (o : Option ℕ). out_rule (kept_slot known kept o) (same_at kept o bits) on) none.0 ∙ free known false
     go (inr r) =
         let is : kept_at kept (length r.before) ≡ r.k = ap (λ (xs : List Kept). kept_at xs (length r.before)) r.form ∙ middle_get r.before r.k r.after in
         let all : filter p kept ≡ r.k ∷ filter p r.after = ap (filter p) r.form ∙ taken p r.before r.k r.after r.none r.hit in
-        ap (λ (o : Option ℕ). out_rule (slot_at known kept o) (same_at kept o bits) on) r.at
+        ap (λ (o : Option ℕ). out_rule (kept_slot known kept o) (same_at kept o bits) on) r.at
         ∙ ap (λ (k : Kept). out_rule k.slot (same_bits k.message bits) on) is
         ∙ one r.k.slot r.k.message (only r.k (filter p r.after) s (subst (λ (xs : List Kept). Shows xs s) all h)).1
 
@@ -82,7 +81,7 @@ pub record After (p : Kept → Bool) (kept now : List Kept) (s : LinkSlot) : Typ
   pub shown : Shows (filter p now) s
 
 pub after_going : (me n on : ℕ) (kept : List Kept) (s : LinkSlot) (bits : List Bool) → Shows (filter (is_of me n on) kept) s → has_room kept (place_of me n on kept) ≡ true
-    → After (is_of me n on) kept (with_out kept (place_of me n on kept) (gone_out me n on bits)) (host.Travelling bits)
+    → After (is_of me n on) kept (with_out kept (place_of me n on kept) (gone_out me n on bits)) (Travelling bits)
 after_going me n on kept s bits h room = go (placed p kept)
   where
     p : Kept → Bool
@@ -97,12 +96,12 @@ after_going me n on kept s bits h room = go (placed p kept)
         let all : filter p kept ≡ r.k ∷ filter p r.after = ap (filter p) r.form ∙ taken p r.before r.k r.after r.none r.hit in
         (only r.k (filter p r.after) s (subst (λ (xs : List Kept). Shows xs s) all h)).0
 
-    go : ((position p kept ≡ None) × (filter p kept ≡ [])) ⊎ Placed p kept → After p kept (with_out kept (position p kept) x) (host.Travelling bits)
+    go : ((position p kept ≡ None) × (filter p kept ≡ [])) ⊎ Placed p kept → After p kept (with_out kept (position p kept) x) (Travelling bits)
     go w =
         let b = put_out p kept x w (of_itself me n on bits) room in
         record {
           others = b.others;
-          shown = subst (λ (xs : List Kept). Shows xs (host.Travelling bits)) (sym (b.own ∙ ap (λ (xs : List Kept). x ∷ xs) (none_behind w))) refl;
+          shown = subst (λ (xs : List Kept). Shows xs (Travelling bits)) (sym (b.own ∙ ap (λ (xs : List Kept). x ∷ xs) (none_behind w))) refl;
         }
 
 -- ---- an answer comes
@@ -122,54 +121,54 @@ after_answering me n on known kind kept = go (placed p kept)
     Done : List Kept → Type 0
     Done now = ((q : Kept → Bool) → Apart p q → filter q now ≡ filter q kept) × ((s : LinkSlot) → Shows (filter p kept) s → Shows (filter p now) (answered (how_of kind) s))
 
-    empty_stays : (how : Answer) → answered {M = List Bool} how host.Empty ≡ host.Empty
+    empty_stays : (how : Answer) → answered {M = List Bool} how Empty ≡ Empty
     empty_stays Rfnm = refl
     empty_stays Incomplete = refl
     empty_stays Dead = refl
 
-    ready_stays : (how : Answer) (m : List Bool) → answered how (host.Ready m) ≡ host.Ready m
+    ready_stays : (how : Answer) (m : List Bool) → answered how (Ready m) ≡ Ready m
     ready_stays Rfnm m = refl
     ready_stays Incomplete m = refl
     ready_stays Dead m = refl
 
-    held_stays : (how : Answer) (m : List Bool) → answered how (host.Held m) ≡ host.Held m
+    held_stays : (how : Answer) (m : List Bool) → answered how (Held m) ≡ Held m
     held_stays Rfnm m = refl
     held_stays Incomplete m = refl
     held_stays Dead m = refl
 
     -- what is not out
-    rests : (k : Slot) (m : List Bool) (s : LinkSlot) → is_out k ≡ false → ShowsOne k m s → ShowsOne k m (answered (how_of kind) s)
-    rests slot.Unknown m s o e = absurd e
-    rests slot.Empty m s o e = ap (answered (how_of kind)) e ∙ empty_stays (how_of kind)
-    rests slot.Out m s o e = absurd (cc)
-    rests slot.Came m s o e = absurd (cc)
-    rests slot.Again m s o (inl e) = inl (ap (answered (how_of kind)) e ∙ ready_stays (how_of kind) m)
-    rests slot.Again m s o (inr e) = inr (ap (answered (how_of kind)) e ∙ held_stays (how_of kind) m)
+    rests : (k : Slot) (m : List Bool) (s : LinkSlot) → is_slot_out k ≡ false → ShowsOne k m s → ShowsOne k m (answered (how_of kind) s)
+    rests Slot.Unknown m s o e = absurd e
+    rests Slot.Empty m s o e = ap (answered (how_of kind)) e ∙ empty_stays (how_of kind)
+    rests Slot.Out m s o e = absurd (cc)
+    rests Slot.Came m s o e = absurd (cc)
+    rests Slot.Again m s o (inl e) = inl (ap (answered (how_of kind)) e ∙ ready_stays (how_of kind) m)
+    rests Slot.Again m s o (inr e) = inr (ap (answered (how_of kind)) e ∙ held_stays (how_of kind) m)
 
     -- what is out
-    out_is : (k : Slot) (m : List Bool) (s : LinkSlot) → is_out k ≡ true → ShowsOne k m s → s ≡ host.Travelling m
-    out_is slot.Unknown m s o e = absurd e
-    out_is slot.Empty m s o e = absurd (cc)
-    out_is slot.Out m s o e = e
-    out_is slot.Came m s o e = e
-    out_is slot.Again m s o e = absurd (cc)
+    out_is : (k : Slot) (m : List Bool) (s : LinkSlot) → is_slot_out k ≡ true → ShowsOne k m s → s ≡ Travelling m
+    out_is Slot.Unknown m s o e = absurd e
+    out_is Slot.Empty m s o e = absurd (cc)
+    out_is Slot.Out m s o e = e
+    out_is Slot.Came m s o e = e
+    out_is Slot.Again m s o e = absurd (cc)
 
-    freed : (m : List Bool) (s : LinkSlot) → (kind == 5) ≡ true → s ≡ host.Travelling m → answered (how_of kind) s ≡ host.Empty
-    freed m s g e = ap (answered (how_of kind)) e ∙ ap (λ (b : Bool). answered (if b then Rfnm else if kind == 7 then Dead else Incomplete) (host.Travelling m)) g
+    freed : (m : List Bool) (s : LinkSlot) → (kind == 5) ≡ true → s ≡ Travelling m → answered (how_of kind) s ≡ Empty
+    freed m s g e = ap (answered (how_of kind)) e ∙ ap (λ (b : Bool). answered (if b then Rfnm else if kind == 7 then Dead else Incomplete) (Travelling m)) g
 
-    failed : (m : List Bool) (s : LinkSlot) → (kind == 5) ≡ false → s ≡ host.Travelling m → (answered (how_of kind) s ≡ host.Ready m) ⊎ (answered (how_of kind) s ≡ host.Held m)
+    failed : (m : List Bool) (s : LinkSlot) → (kind == 5) ≡ false → s ≡ Travelling m → (answered (how_of kind) s ≡ Ready m) ⊎ (answered (how_of kind) s ≡ Held m)
     failed m s g e = by (kind == 7) refl
       where
-        is : (b : Bool) → (kind == 7) ≡ b → answered (how_of kind) s ≡ answered (if b then Dead else Incomplete) (host.Travelling m)
-        is b d = ap (answered (how_of kind)) e ∙ ap (λ (c : Bool). answered (if c then Rfnm else if kind == 7 then Dead else Incomplete) (host.Travelling m)) g
-            ∙ ap (λ (c : Bool). answered (if c then Dead else Incomplete) (host.Travelling m)) d
+        is : (b : Bool) → (kind == 7) ≡ b → answered (how_of kind) s ≡ answered (if b then Dead else Incomplete) (Travelling m)
+        is b d = ap (answered (how_of kind)) e ∙ ap (λ (c : Bool). answered (if c then Rfnm else if kind == 7 then Dead else Incomplete) (Travelling m)) g
+            ∙ ap (λ (c : Bool). answered (if c then Dead else Incomplete) (Travelling m)) d
 
-        by : (b : Bool) → (kind == 7) ≡ b → (answered (how_of kind) s ≡ host.Ready m) ⊎ (answered (how_of kind) s ≡ host.Held m)
+        by : (b : Bool) → (kind == 7) ≡ b → (answered (how_of kind) s ≡ Ready m) ⊎ (answered (how_of kind) s ≡ Held m)
         by true d = inr (is true d)
         by false d = inl (is false d)
 
-    place_done : (r : Placed p kept) (out rfnm know : Bool) → is_out r.k.slot ≡ out → (kind == 5) ≡ rfnm
-        → Done (if not out then kept else if rfnm then (if know then remove kept (length r.before) else with_slot kept (length r.before) slot.Empty) else with_slot kept (length r.before) slot.Again)
+    place_done : (r : Placed p kept) (out rfnm know : Bool) → is_slot_out r.k.slot ≡ out → (kind == 5) ≡ rfnm
+        → Done (if not out then kept else if rfnm then (if know then remove kept (length r.before) else with_kept_slot kept (length r.before) Slot.Empty) else with_kept_slot kept (length r.before) Slot.Again)
     place_done r out rfnm know o g = by out rfnm know o g
       where
         all : filter p kept ≡ r.k ∷ filter p r.after
@@ -178,17 +177,17 @@ after_answering me n on known kind kept = go (placed p kept)
         shows : (s : LinkSlot) → Shows (filter p kept) s → (filter p r.after ≡ []) × ShowsOne r.k.slot r.k.message s
         shows s h = only r.k (filter p r.after) s (subst (λ (xs : List Kept). Shows xs s) all h)
 
-        marked : (to : Slot) → with_slot kept (length r.before) to ≡ r.before ++ record r.k { slot = to } ∷ r.after
+        marked : (to : Slot) → with_kept_slot kept (length r.before) to ≡ r.before ++ record r.k { slot = to } ∷ r.after
         marked to =
             ap (λ (xs : List Kept). slice_set xs (length r.before) (record (kept_at xs (length r.before)) { slot = to })) r.form
             ∙ ap (λ (k : Kept). slice_set (r.before ++ r.k ∷ r.after) (length r.before) (record k { slot = to })) (middle_get r.before r.k r.after)
             ∙ middle_set r.before r.k (record r.k { slot = to }) r.after
 
-        became : (to : Slot) → Became p kept (with_slot kept (length r.before) to) (record r.k { slot = to } ∷ filter p r.after)
-        became to = as_list p kept (with_slot kept (length r.before) to) (r.before ++ record r.k { slot = to } ∷ r.after) (record r.k { slot = to } ∷ filter p r.after) (marked to) (replaced p kept r (record r.k { slot = to }) r.hit)
+        became : (to : Slot) → Became p kept (with_kept_slot kept (length r.before) to) (record r.k { slot = to } ∷ filter p r.after)
+        became to = as_list p kept (with_kept_slot kept (length r.before) to) (r.before ++ record r.k { slot = to } ∷ r.after) (record r.k { slot = to } ∷ filter p r.after) (marked to) (replaced p kept r (record r.k { slot = to }) r.hit)
 
-        by : (out rfnm know : Bool) → is_out r.k.slot ≡ out → (kind == 5) ≡ rfnm
-            → Done (if not out then kept else if rfnm then (if know then remove kept (length r.before) else with_slot kept (length r.before) slot.Empty) else with_slot kept (length r.before) slot.Again)
+        by : (out rfnm know : Bool) → is_slot_out r.k.slot ≡ out → (kind == 5) ≡ rfnm
+            → Done (if not out then kept else if rfnm then (if know then remove kept (length r.before) else with_kept_slot kept (length r.before) Slot.Empty) else with_kept_slot kept (length r.before) Slot.Again)
         by false rfnm know o g = (
           λ q a. refl,
           λ s h. let w = shows s h in
@@ -201,30 +200,30 @@ after_answering me n on known kind kept = go (placed p kept)
                   subst (λ (xs : List Kept). Shows xs (answered (how_of kind) s)) (sym (b.own ∙ w.0)) (freed r.k.message s g (out_is r.k.slot r.k.message s o w.1)),
             )
         by true true false o g =
-            let b = became slot.Empty in (
+            let b = became Slot.Empty in (
               b.others,
               λ s h. let w = shows s h in
-                  subst (λ (xs : List Kept). Shows xs (answered (how_of kind) s)) (sym (b.own ∙ ap (λ (xs : List Kept). record r.k { slot = slot.Empty } ∷ xs) w.0)) (freed r.k.message s g (out_is r.k.slot r.k.message s o w.1)),
+                  subst (λ (xs : List Kept). Shows xs (answered (how_of kind) s)) (sym (b.own ∙ ap (λ (xs : List Kept). record r.k { slot = Slot.Empty } ∷ xs) w.0)) (freed r.k.message s g (out_is r.k.slot r.k.message s o w.1)),
             )
         by true false know o g =
-            let b = became slot.Again in (
+            let b = became Slot.Again in (
               b.others,
               λ s h. let w = shows s h in
-                  subst (λ (xs : List Kept). Shows xs (answered (how_of kind) s)) (sym (b.own ∙ ap (λ (xs : List Kept). record r.k { slot = slot.Again } ∷ xs) w.0)) (failed r.k.message s g (out_is r.k.slot r.k.message s o w.1)),
+                  subst (λ (xs : List Kept). Shows xs (answered (how_of kind) s)) (sym (b.own ∙ ap (λ (xs : List Kept). record r.k { slot = Slot.Again } ∷ xs) w.0)) (failed r.k.message s g (out_is r.k.slot r.k.message s o w.1)),
             )
 
     go : ((position p kept ≡ None) × (filter p kept ≡ [])) ⊎ Placed p kept → Done (with_answer known kind kept (position p kept))
     go (inl none) =
         subst (λ (o : Option ℕ). Done (with_answer known kind kept o)) (sym none.0) (
           λ q a. refl,
-          λ s h. let e : s ≡ host.Empty = subst (λ (xs : List Kept). Shows xs s) none.1 h in
+          λ s h. let e : s ≡ Empty = subst (λ (xs : List Kept). Shows xs s) none.1 h in
               subst (λ (xs : List Kept). Shows xs (answered (how_of kind) s)) (sym none.1) (ap (answered (how_of kind)) e ∙ empty_stays (how_of kind)),
         )
     go (inr r) =
         let is : r.k ≡ kept_at kept (length r.before) = sym (ap (λ (xs : List Kept). kept_at xs (length r.before)) r.form ∙ middle_get r.before r.k r.after) in
         subst (λ (o : Option ℕ). Done (with_answer known kind kept o)) (sym r.at)
-        (subst (λ (k : Kept). Done (if not (is_out k.slot) then kept else if kind == 5 then with_answered known kept (length r.before) else with_slot kept (length r.before) slot.Again)) is
-        (place_done r (is_out r.k.slot) (kind == 5) known refl refl))
+        (subst (λ (k : Kept). Done (if not (is_slot_out k.slot) then kept else if kind == 5 then with_answered known kept (length r.before) else with_kept_slot kept (length r.before) Slot.Again)) is
+        (place_done r (is_slot_out r.k.slot) (kind == 5) known refl refl))
 
 -- ---- what is out comes to the other host
 
@@ -239,22 +238,22 @@ after_coming from to on kept = go (placed p kept)
     Done : List Kept → Type 0
     Done now = ((q : Kept → Bool) → Apart p q → filter q now ≡ filter q kept) × ((s : LinkSlot) → Shows (filter p kept) s → Shows (filter p now) s)
 
-    came : (k : Slot) (m : List Bool) (s : LinkSlot) → is_out k ≡ true → ShowsOne k m s → ShowsOne slot.Came m s
-    came slot.Unknown m s o e = absurd e
-    came slot.Empty m s o e = absurd (cc)
-    came slot.Out m s o e = e
-    came slot.Came m s o e = e
-    came slot.Again m s o e = absurd (cc)
+    came : (k : Slot) (m : List Bool) (s : LinkSlot) → is_slot_out k ≡ true → ShowsOne k m s → ShowsOne Slot.Came m s
+    came Slot.Unknown m s o e = absurd e
+    came Slot.Empty m s o e = absurd (cc)
+    came Slot.Out m s o e = e
+    came Slot.Came m s o e = e
+    came Slot.Again m s o e = absurd (cc)
 
-    place_done : (r : Placed p kept) (out : Bool) → is_out r.k.slot ≡ out → Done (if out then with_slot kept (length r.before) slot.Came else kept)
+    place_done : (r : Placed p kept) (out : Bool) → is_slot_out r.k.slot ≡ out → Done (if out then with_kept_slot kept (length r.before) Slot.Came else kept)
     place_done r false o = (λ q a. refl, λ s h. h)
     place_done r true o =
-        let new : Kept = record r.k { slot = slot.Came } in
-        let marked : with_slot kept (length r.before) slot.Came ≡ r.before ++ new ∷ r.after =
-        ap (λ (xs : List Kept). slice_set xs (length r.before) (record (kept_at xs (length r.before)) { slot = slot.Came })) r.form
-        ∙ ap (λ (k : Kept). slice_set (r.before ++ r.k ∷ r.after) (length r.before) (record k { slot = slot.Came })) (middle_get r.before r.k r.after)
+        let new : Kept = record r.k { slot = Slot.Came } in
+        let marked : with_kept_slot kept (length r.before) Slot.Came ≡ r.before ++ new ∷ r.after =
+        ap (λ (xs : List Kept). slice_set xs (length r.before) (record (kept_at xs (length r.before)) { slot = Slot.Came })) r.form
+        ∙ ap (λ (k : Kept). slice_set (r.before ++ r.k ∷ r.after) (length r.before) (record k { slot = Slot.Came })) (middle_get r.before r.k r.after)
         ∙ middle_set r.before r.k new r.after in
-        let b = as_list p kept (with_slot kept (length r.before) slot.Came) (r.before ++ new ∷ r.after) (new ∷ filter p r.after) marked (replaced p kept r new r.hit) in
+        let b = as_list p kept (with_kept_slot kept (length r.before) Slot.Came) (r.before ++ new ∷ r.after) (new ∷ filter p r.after) marked (replaced p kept r new r.hit) in
         let all : filter p kept ≡ r.k ∷ filter p r.after = ap (filter p) r.form ∙ taken p r.before r.k r.after r.none r.hit in (
           b.others,
           λ s h. let w = only r.k (filter p r.after) s (subst (λ (xs : List Kept). Shows xs s) all h) in
@@ -266,7 +265,7 @@ after_coming from to on kept = go (placed p kept)
     go (inr r) =
         let is : r.k ≡ kept_at kept (length r.before) = sym (ap (λ (xs : List Kept). kept_at xs (length r.before)) r.form ∙ middle_get r.before r.k r.after) in
         subst (λ (o : Option ℕ). Done (with_coming kept o)) (sym r.at)
-        (subst (λ (k : Kept). Done (if is_out k.slot then with_slot kept (length r.before) slot.Came else kept)) is (place_done r (is_out r.k.slot) refl))
+        (subst (λ (k : Kept). Done (if is_slot_out k.slot then with_kept_slot kept (length r.before) Slot.Came else kept)) is (place_done r (is_slot_out r.k.slot) refl))
 
 -- ---- a wake
 
@@ -275,10 +274,10 @@ after_waking [] s e = ap woken e
 after_waking (k ∷ []) s e = one k.slot e
   where
     one : (x : Slot) → ShowsOne x k.message s → ShowsOne x k.message (woken s)
-    one slot.Unknown e = absurd e
-    one slot.Empty e = ap woken e
-    one slot.Out e = ap woken e
-    one slot.Came e = ap woken e
-    one slot.Again (inl e) = inl (ap woken e)
-    one slot.Again (inr e) = inl (ap woken e)
+    one Slot.Unknown e = absurd e
+    one Slot.Empty e = ap woken e
+    one Slot.Out e = ap woken e
+    one Slot.Came e = ap woken e
+    one Slot.Again (inl e) = inl (ap woken e)
+    one Slot.Again (inr e) = inl (ap woken e)
 after_waking (k ∷ other ∷ more) s e = absurd e

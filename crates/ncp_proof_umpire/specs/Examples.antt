@@ -1,16 +1,12 @@
 -- Recordings at the interface of host 1 by which the laws show that they speak of something.
 use Rattle.std.specs.Prelude.{ℕ, Bool, true, false, List, [], ◌∷◌, ◌++◌, replicate}
 use Rattle.ncp_terms.specs.declared.answer.Answer.TheVariants.{Incomplete}
-use Rattle.ncp_host.specs.declared.received.Received.TheVariants as received
+use Rattle.ncp_host.specs.declared.received.Received.{Received}
 use Rattle.ncp_transcript.specs.declared.input.Input.{Input}
-use Rattle.ncp_transcript.specs.declared.input.Input.TheVariants as inputs
 use Rattle.ncp_transcript.specs.declared.note.HostNote.{HostNote}
-use Rattle.ncp_transcript.specs.declared.note.HostNote.TheVariants as notes
 use Rattle.ncp_transcript_two.specs.declared.side.Side.TheVariants.{A}
 use Rattle.ncp_transcript_two.specs.declared.event.Event.{Event}
-use Rattle.ncp_transcript_two.specs.declared.event.Event.TheVariants as events
 use Rattle.ncp_transcript_two.specs.declared.note.Note.{Note}
-use Rattle.ncp_transcript_two.specs.declared.note.Note.TheVariants as two
 use Rattle.ncp_proof_runs.specs.Examples.{byte_of_two, message_on_0}
 use Rattle.ncp_umpire.specs.declared.way.Way.{Way}
 use Rattle.ncp_umpire.specs.declared.way.Way.TheVariants.{ToImp, FromImp}
@@ -41,18 +37,18 @@ abbrev pub two_at_once : List (Way × List Bool)
 two_at_once = (ToImp, message_on_0) ∷ (ToImp, message_on_0) ∷ []
 
 -- Incomplete Transmission of host 2 on link 0
-abbrev pub incomplete : List Bool
-incomplete = replicate 4 false ++ (true ∷ false ∷ false ∷ true ∷ []) ++ byte_of_two ++ replicate 16 false
+abbrev pub incomplete_from_2 : List Bool
+incomplete_from_2 = replicate 4 false ++ (true ∷ false ∷ false ∷ true ∷ []) ++ byte_of_two ++ replicate 16 false
 
 -- a message goes out and is lost: what the host is given, how it is noted, and what passes its interface
 abbrev pub lost_given : List Input
-lost_given = inputs.Out ∷ inputs.In incomplete ∷ []
+lost_given = Input.Out ∷ Input.In incomplete_from_2 ∷ []
 
 abbrev pub lost_noted : List HostNote
-lost_noted = notes.Out message_on_0 ∷ notes.Answered 2 0 Incomplete received.Answered ∷ []
+lost_noted = HostNote.Out message_on_0 ∷ HostNote.Answered 2 0 Incomplete Received.Answered ∷ []
 
 abbrev pub lost_seen : List (Way × List Bool)
-lost_seen = (ToImp, message_on_0) ∷ (FromImp, incomplete) ∷ []
+lost_seen = (ToImp, message_on_0) ∷ (FromImp, incomplete_from_2) ∷ []
 
 -- and it goes out once more
 abbrev pub once_more : List (Way × List Bool)
@@ -60,10 +56,10 @@ once_more = lost_seen ++ (ToImp, message_on_0) ∷ []
 
 -- of hosts 1 and 2, that message goes out of host 1
 abbrev pub goes_of_two : List Event
-goes_of_two = events.Out A ∷ []
+goes_of_two = Event.Out A ∷ []
 
 abbrev pub noted_of_two : List Note
-noted_of_two = two.Out A (notes.Out message_on_0) ∷ []
+noted_of_two = Note.Out A (HostNote.Out message_on_0) ∷ []
 
 abbrev pub file_of_two : List (ℕ × Way × List Bool)
 file_of_two = (1, ToImp, message_on_0) ∷ []

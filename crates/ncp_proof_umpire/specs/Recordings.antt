@@ -3,14 +3,11 @@ use Rattle.std.specs.Prelude.{◌≡◌, ◌<◌, ℕ, ◌==◌, not, ◌&&◌, 
 use Rattle.std.specs.List.{list_all}
 use Rattle.ncp_host.specs.Host.{is_one_of, are_peers, new_host}
 use Rattle.ncp_transcript.specs.declared.input.Input.{Input}
-use Rattle.ncp_transcript.specs.declared.input.Input.TheVariants as inputs
 use Rattle.ncp_transcript.specs.declared.note.HostNote.{HostNote}
-use Rattle.ncp_transcript.specs.declared.note.HostNote.TheVariants as notes
-use Rattle.ncp_transcript.specs.Alone.{Alone, AreSteps}
+use Rattle.ncp_transcript.specs.Alone.{Alone, AreHostSteps}
 use Rattle.ncp_transcript_two.specs.Seen.{CallFits}
 use Rattle.ncp_umpire.specs.declared.finding.Finding.{Finding}
 use Rattle.ncp_umpire.specs.declared.finding.Rule.{Rule}
-use Rattle.ncp_umpire.specs.declared.finding.Rule.TheVariants as rule
 use Rattle.ncp_umpire.specs.declared.finding.Who.{Who}
 use Rattle.ncp_umpire.specs.declared.finding.Who.TheVariants.{Host, Imp}
 use Rattle.ncp_umpire.specs.declared.umpire.Umpire.{Umpire}
@@ -22,20 +19,20 @@ use Rattle.ncp_umpire.specs.Judged.{new_umpire, record_findings, after_record}
 
 -- a message that goes out is in its note
 abbrev pub gone_by : HostNote → List (Way × List Bool)
-gone_by (notes.Out message) = (ToImp, message) ∷ []
+gone_by (HostNote.Out message) = (ToImp, message) ∷ []
 gone_by note = []
 
 -- what passes with an input: the bits that come from the IMP, or the message that goes out to it
-abbrev pub passes : Input → HostNote → List (Way × List Bool)
-passes (inputs.Call call) note = []
-passes (inputs.In bits) note = (FromImp, bits) ∷ []
-passes inputs.Out note = gone_by note
+abbrev pub passes_with : Input → HostNote → List (Way × List Bool)
+passes_with (Input.Call call) note = []
+passes_with (Input.In bits) note = (FromImp, bits) ∷ []
+passes_with Input.Out note = gone_by note
 
 -- with all inputs and their notes, the first one first
 abbrev pub recording : List Input → List HostNote → List (Way × List Bool)
 recording [] noted = []
 recording (input ∷ more) [] = []
-recording (input ∷ more) (note ∷ noted) = passes input note ++ recording more noted
+recording (input ∷ more) (note ∷ noted) = passes_with input note ++ recording more noted
 
 -- ---- what is found in it
 
@@ -57,39 +54,39 @@ abbrev pub NothingComingBlames : Type 0
 NothingComingBlames = (judged : Rule → Bool) (me : ℕ) (umpire : Umpire) (bits : List Bool) → list_all (spares judged me) (record_findings umpire FromImp me bits) ≡ true
 
 -- a host of this number, with these peers, to which nothing was given
-abbrev pub begun : ℕ → List ℕ → Alone
-begun me ns = record { host = new_host me ns; notes = [] }
+abbrev pub begun_alone : ℕ → List ℕ → Alone
+begun_alone me ns = record { host = new_host me ns; notes = [] }
 
 -- In the whole recording of a host, whatever it is asked for and whatever bits come, it is found to break none of these
 -- rules.
 abbrev pub NoFalseAlarm : (Rule → Bool) → Type 0
 NoFalseAlarm judged =
     (me : ℕ) (ns : List ℕ) (given : List Input) (now : Alone)
-    → are_peers me ns ≡ true → ((n : ℕ) → is_one_of n ns ≡ true → n < 256) → AreSteps given (begun me ns) now
+    → are_peers me ns ≡ true → ((n : ℕ) → is_one_of n ns ≡ true → n < 256) → AreHostSteps given (begun_alone me ns) now
     → list_all (spares judged me) (findings_from (new_umpire false) me (recording given now.notes)) ≡ true
 
 -- the numbers of all calls have their places in commands: those of sockets are below 2 ^ 32, a byte size below 2 ^ 8, and
 -- so on
 abbrev pub AreFit : List Input → Type 0
 AreFit [] = Unit {0}
-AreFit (inputs.Call call ∷ given) = CallFits call × AreFit given
-AreFit (inputs.In bits ∷ given) = AreFit given
-AreFit (inputs.Out ∷ given) = AreFit given
+AreFit (Input.Call call ∷ given) = CallFits call × AreFit given
+AreFit (Input.In bits ∷ given) = AreFit given
+AreFit (Input.Out ∷ given) = AreFit given
 
 -- ---- the rules
 
 -- of a leader: it is whole, of a regular message, for another host, and names a link that is used
 abbrev pub is_of_leader : Rule → Bool
-is_of_leader (rule.Short bits) = true
-is_of_leader (rule.OwnHost kind link) = true
-is_of_leader (rule.Kind kind) = true
-is_of_leader (rule.WrongLink link) = true
+is_of_leader (Rule.Short bits) = true
+is_of_leader (Rule.OwnHost kind link) = true
+is_of_leader (Rule.Kind kind) = true
+is_of_leader (Rule.WrongLink link) = true
 is_of_leader other = false
 
 -- of a link: one message is out at a time, and what was not delivered goes out again as it was
 abbrev pub is_of_link : Rule → Bool
-is_of_link (rule.Occupied link) = true
-is_of_link (rule.Changed link) = true
+is_of_link (Rule.Occupied link) = true
+is_of_link (Rule.Changed link) = true
 is_of_link other = false
 
 -- ---- all rules
@@ -115,6 +112,6 @@ found_at umpire me (one ∷ more) = (if one.0 == me then record_findings umpire 
 abbrev pub NobodyBlamed : Type 0
 NobodyBlamed =
     (me : ℕ) (ns : List ℕ) (given : List Input) (now : Alone) (file : List (ℕ × Way × List Bool))
-    → are_peers me ns ≡ true → ((n : ℕ) → is_one_of n ns ≡ true → n < 256) → me < 256 → AreFit given → AreSteps given (begun me ns) now
+    → are_peers me ns ≡ true → ((n : ℕ) → is_one_of n ns ≡ true → n < 256) → me < 256 → AreFit given → AreHostSteps given (begun_alone me ns) now
     → at_interface me file ≡ recording given now.notes
     → list_all (spares any_rule me) (found_at (new_umpire false) me file) ≡ true

@@ -4,13 +4,10 @@ use Rattle.std.specs.Prelude.{◌≡◌, ◌≢◌, ◌<◌, ℕ, Bool, true, fa
 use Rattle.std.specs.List.{list_all}
 use Rattle.ncp_subnet.specs.Messages.{arriving, answer_about}
 use Rattle.ncp_transcript.specs.declared.note.HostNote.{HostNote}
-use Rattle.ncp_transcript.specs.declared.note.HostNote.TheVariants as host_notes
 use Rattle.ncp_transcript_two.specs.declared.side.Side.{Side}
 use Rattle.ncp_transcript_two.specs.declared.event.Event.{Event}
-use Rattle.ncp_transcript_two.specs.declared.event.Event.TheVariants as events
 use Rattle.ncp_transcript_two.specs.declared.note.Note.{Note}
-use Rattle.ncp_transcript_two.specs.declared.note.Note.TheVariants as notes
-use Rattle.ncp_transcript_two.specs.Between.{Hosts, new_hosts, other, number_of, transit_of, after_note}
+use Rattle.ncp_transcript_two.specs.Between.{Hosts, new_hosts, other, side_number, transit_of, hosts_after_note}
 use Rattle.ncp_transcript_two.specs.Transcript.{Noted_world, new_world, AreSteps}
 use Rattle.ncp_umpire.specs.declared.way.Way.{Way}
 use Rattle.ncp_umpire.specs.declared.way.Way.TheVariants.{ToImp, FromImp}
@@ -24,27 +21,27 @@ comes_to host (Some bits) = (host, FromImp, bits) ∷ []
 
 -- a message that goes out from a host is in its note
 abbrev pub goes_from : ℕ → HostNote → List (ℕ × Way × List Bool)
-goes_from host (host_notes.Out message) = (host, ToImp, message) ∷ []
+goes_from host (HostNote.Out message) = (host, ToImp, message) ∷ []
 goes_from host note = []
 
-abbrev pub goes_out : Note → Hosts → List (ℕ × Way × List Bool)
-goes_out (notes.Out side note) w = goes_from (number_of side w) note
-goes_out note w = []
+abbrev pub records_going_out : Note → Hosts → List (ℕ × Way × List Bool)
+records_going_out (Note.Out side note) w = goes_from (side_number side w) note
+records_going_out note w = []
 
 -- what passes with an event: a message that goes out, one that the subnet delivers, or an answer of the subnet
 abbrev pub passes_between : Event → Note → Hosts → List (ℕ × Way × List Bool)
-passes_between (events.Call side call) note w = []
-passes_between (events.Out side) note w = goes_out note w
-passes_between (events.Deliver side link) note w = comes_to (number_of (other side) w) (arriving (number_of side w) (transit_of side link w))
-passes_between (events.Lose side link) note w = []
-passes_between (events.Dead side link) note w = []
-passes_between (events.Answer side link) note w = comes_to (number_of side w) (answer_about (number_of (other side) w) link (transit_of side link w))
+passes_between (Event.Call side call) note w = []
+passes_between (Event.Out side) note w = records_going_out note w
+passes_between (Event.Deliver side link) note w = comes_to (side_number (other side) w) (arriving (side_number side w) (transit_of side link w))
+passes_between (Event.Lose side link) note w = []
+passes_between (Event.Dead side link) note w = []
+passes_between (Event.Answer side link) note w = comes_to (side_number side w) (answer_about (side_number (other side) w) link (transit_of side link w))
 
 -- with all events and their notes, the first one first
 abbrev pub world_file : List Event → List Note → Hosts → List (ℕ × Way × List Bool)
 world_file [] noted w = []
 world_file (event ∷ more) [] w = []
-world_file (event ∷ more) (note ∷ noted) w = passes_between event note w ++ world_file more noted (after_note note w)
+world_file (event ∷ more) (note ∷ noted) w = passes_between event note w ++ world_file more noted (hosts_after_note note w)
 
 -- Of two hosts with the subnet between them, whatever calls and whatever the subnet does in whatever order, nothing is found
 -- against a host at its own interface.
@@ -52,4 +49,4 @@ abbrev pub NeitherBlamed : Type 0
 NeitherBlamed =
     (a b : ℕ) (given : List Event) (now : Noted_world) (side : Side)
     → a ≢ b → a < 256 → b < 256 → AreSteps given (new_world a b) now
-    → list_all (spares any_rule (number_of side (new_hosts a b))) (found_at (new_umpire false) (number_of side (new_hosts a b)) (world_file given now.notes (new_hosts a b))) ≡ true
+    → list_all (spares any_rule (side_number side (new_hosts a b))) (found_at (new_umpire false) (side_number side (new_hosts a b)) (world_file given now.notes (new_hosts a b))) ≡ true

@@ -4,8 +4,8 @@ ghost use Rattle.std.specs.List.{list_all};
 ghost use Rattle.ncp_transcript_two.specs.Between.{new_hosts};
 ghost use Rattle.ncp_proof_runs.specs.Examples.{message_on_0};
 ghost use Rattle.ncp_umpire.specs.declared.way.Way.TheVariants.{FromImp};
-ghost use Rattle.ncp_umpire.specs.declared.finding.Rule.TheVariants as rule;
-ghost use Rattle.ncp_umpire.specs.declared.finding.Thing.TheVariants as thing;
+ghost use Rattle.ncp_umpire.specs.declared.finding.Rule.{Rule};
+ghost use Rattle.ncp_umpire.specs.declared.finding.Thing.{Thing};
 ghost use Rattle.ncp_umpire.specs.Judged.{new_umpire, by_host};
 ghost use Rattle.ncp_proof_umpire.specs.Recordings.{recording, findings_from, spares, at_interface, found_at, NothingComingBlames, NoFalseAlarm, NobodyBlamed, any_rule, is_of_leader, is_of_link};
 ghost use Rattle.ncp_proof_umpire.specs.Worlds.{comes_to, world_file, NeitherBlamed};
@@ -48,9 +48,9 @@ pub fn wrong_hosts_are_blamed()
     ensures recorded { recording lost_given lost_noted ≡ lost_seen }
     ensures short { list_all (spares is_of_leader 1) (findings_from (new_umpire false) 1 too_short) ≡ false }
     ensures here { at_interface 1 both_short ≡ too_short }
-    ensures there { found_at (new_umpire false) 1 both_short ≡ by_host 1 (rule.Short 2) ∷ [] }
+    ensures there { found_at (new_umpire false) 1 both_short ≡ by_host 1 (Rule.Short 2) ∷ [] }
     ensures bad { list_all (spares any_rule 1) (findings_from (new_umpire false) 1 no_command) ≡ false }
-    ensures resets { findings_from (new_umpire false) 1 wrong_resets ≡ by_host 1 rule.RstAgain ∷ by_host 1 rule.RrpUnasked ∷ by_host 1 (rule.Early thing.Nop true true false) ∷ [] }
+    ensures resets { findings_from (new_umpire false) 1 wrong_resets ≡ by_host 1 Rule.RstAgain ∷ by_host 1 Rule.RrpUnasked ∷ by_host 1 (Rule.Early Thing.Nop true true false) ∷ [] }
     ensures blamed { list_all (spares any_rule 1) (findings_from (new_umpire false) 1 wrong_resets) ≡ false }
     ensures twice { list_all (spares is_of_link 1) (findings_from (new_umpire false) 1 two_at_once) ≡ false }
     ensures passing { world_file goes_of_two noted_of_two (new_hosts 1 2) ≡ file_of_two }

@@ -3,7 +3,7 @@ use Rattle.std.proofs.Common.{◌≡◌, ◌≢◌, ◌⊎◌, inl, inr, ℕ, �
 use Rattle.std.proofs.lemmas.Bool.{and_parts}
 use Rattle.ncp_host.specs.Host.{is_one_of, are_distinct}
 use Rattle.ncp_transcript_two.specs.declared.note.Note.{Note}
-use Rattle.ncp_transcript_two.specs.Between.{Hosts, new_hosts, after_note, after_notes}
+use Rattle.ncp_transcript_two.specs.Between.{Hosts, new_hosts, hosts_after_note, hosts_after_notes}
 use Rattle.ncp_transcript_two.specs.Transcript.{IsRun, IsSaid}
 use Rattle.ncp_umpire.specs.declared.finding.Finding.{Finding}
 use Rattle.ncp_umpire.specs.declared.umpire.Umpire.{Umpire}
@@ -22,7 +22,7 @@ use Rattle.ncp_transcript_many.proofs.EachPair.{a-stays, b-stays}
 use Rattle.ncp_transcript_many.proofs.Starting.{new-fine, new-agrees}
 use Rattle.ncp_transcript_many.proofs.Stepping.{fine-after, paired}
 use Rattle.ncp_proof_umpire.specs.Worlds.{passes_between}
-use Rattle.ncp_proof_umpire_many.specs.Files.{found_in}
+use Rattle.ncp_proof_umpire_many.specs.Files.{findings_in}
 use Rattle.ncp_proof_umpire_many.proofs.Walk.{after_file, found_both}
 use Rattle.ncp_proof_umpire_many.proofs.Both.{Both, nothing, each_step, begins, no_pass}
 use Rattle.ncp_proof_umpire_many.specs.ManyFiles.{passing, many_file, AllFit, RecordsFit, NothingFoundAmongMany}
@@ -35,15 +35,15 @@ use Rattle.ncp_proof_umpire_many.proofs.Crowded.{Whole, whole_after, new_whole, 
 
 record Went (m : Crowd) (umpire : Umpire) (w : Hosts) (n : ManyNote) : Type 0 where
   two : Note
-  none : found_in umpire (passing n) ≡ []
+  none : findings_in umpire (passing n) ≡ []
   names : AllName w.number_a w.number_b (passing n)
-  agrees : Agrees (after_many n m) (after_note two w)
-  both : Both (after_note two w) (after_file umpire (passing n))
+  agrees : Agrees (after_many n m) (hosts_after_note two w)
+  both : Both (hosts_after_note two w) (after_file umpire (passing n))
 
 went : (m : Crowd) (umpire : Umpire) (w : Hosts) (event : ManyEvent) (n : ManyNote) → Fine m → ManyNoted event n m → Agrees m w → Both w umpire → IsOf w.number_a w.number_b n → Went m umpire w n
 went m umpire w event n f noted g k of =
     let two : Note = of.0 in
-    let p = subst (λ (ns : List Note). IsRun ns w × Agrees (after_many n m) (after_notes ns w)) of.1 (paired m f w g event n noted) in
+    let p = subst (λ (ns : List Note). IsRun ns w × Agrees (after_many n m) (hosts_after_notes ns w)) of.1 (paired m f w g event n noted) in
     let said : IsSaid two w = p.0.0 in
     let file : List (ℕ × Way × List Bool) = passes_between said.0 two w in
     let fits = passes_fit said.0 two w said.1 k.joined in
@@ -51,10 +51,10 @@ went m umpire w event n f noted g k of =
     let did = each_step said.0 two w umpire said.1 k in
     record {
       two = two;
-      none = no_pass (found_in umpire (passing n)) (subst (λ (xs : List (ℕ × Way × List Bool)). Pass nothing (found_in umpire xs)) is did.0);
+      none = no_pass (findings_in umpire (passing n)) (subst (λ (xs : List (ℕ × Way × List Bool)). Pass nothing (findings_in umpire xs)) is did.0);
       names = subst (AllName w.number_a w.number_b) is fits.1;
       agrees = p.1;
-      both = subst (λ (xs : List (ℕ × Way × List Bool)). Both (after_note two w) (after_file umpire xs)) is did.1;
+      both = subst (λ (xs : List (ℕ × Way × List Bool)). Both (hosts_after_note two w) (after_file umpire xs)) is did.1;
     }
 
 -- ---- a note of others
@@ -98,7 +98,7 @@ record Among (m : Crowd) (umpire : Umpire) : Type 0 where
 
 -- what a note shows of the findings, and of others: its records leave each two that it does not name
 record Shown (m : Crowd) (umpire : Umpire) (n : ManyNote) : Type 0 where
-  none : found_in umpire (passing n) ≡ []
+  none : findings_in umpire (passing n) ≡ []
   fit : AllFit (passing n)
   leaves : (w : Hosts) → IsOff w.number_a w.number_b n → Both w umpire → Both w (after_file umpire (passing n))
 
@@ -121,7 +121,7 @@ module _ (m : Crowd) (umpire : Umpire) (event : ManyEvent) (n : ManyNote) (noted
     where
       go : About m n → Shown m umpire n
       go (inl none) = record {
-        none = ap (found_in umpire) none;
+        none = ap (findings_in umpire) none;
         fit = subst AllFit (sym none) tt;
         leaves = λ w off x. subst (λ (xs : List (ℕ × Way × List Bool)). Both w (after_file umpire xs)) (sym none) x;
       }
@@ -146,13 +146,13 @@ module _ (m : Crowd) (umpire : Umpire) (event : ManyEvent) (n : ManyNote) (noted
         w = p.w;
         is_a = p.is_a;
         is_b = p.is_b;
-        agrees = subst (λ (ns : List Note). Agrees (after_many n m) (after_notes ns p.w)) off.none (paired m k.fine p.w p.agrees event n noted).1;
+        agrees = subst (λ (ns : List Note). Agrees (after_many n m) (hosts_after_notes ns p.w)) off.none (paired m k.fine p.w p.agrees event n noted).1;
         both = shown.leaves p.w off p.both;
       }
       go (inr of) =
           let did = went m umpire p.w event n k.fine noted p.agrees p.both of in
           record {
-            w = after_note did.two p.w;
+            w = hosts_after_note did.two p.w;
             is_a = a-stays (did.two ∷ []) p.w ∙ p.is_a;
             is_b = b-stays (did.two ∷ []) p.w ∙ p.is_b;
             agrees = did.agrees;
@@ -170,11 +170,11 @@ module _ (m : Crowd) (umpire : Umpire) (event : ManyEvent) (n : ManyNote) (noted
 
 -- ---- the walk
 
-walk : (notes : List ManyNote) (m : Crowd) (umpire : Umpire) → IsManyRun notes m → Among m umpire → found_in umpire (many_file notes) ≡ []
+walk : (notes : List ManyNote) (m : Crowd) (umpire : Umpire) → IsManyRun notes m → Among m umpire → findings_in umpire (many_file notes) ≡ []
 walk [] m umpire r k = refl
 walk (n ∷ notes) m umpire r k =
     found_both umpire (passing n) (many_file notes)
-    ∙ ap (λ (xs : List Finding). xs ++ found_in (after_file umpire (passing n)) (many_file notes)) (shown m umpire r.0.0 n r.0.1 k).none
+    ∙ ap (λ (xs : List Finding). xs ++ findings_in (after_file umpire (passing n)) (many_file notes)) (shown m umpire r.0.0 n r.0.1 k).none
     ∙ walk notes (after_many n m) (after_file umpire (passing n)) r.1 (among_after m umpire r.0.0 n r.0.1 k)
 
 walk_fits : (notes : List ManyNote) (m : Crowd) (umpire : Umpire) → IsManyRun notes m → Among m umpire → AllFit (many_file notes)

@@ -3,7 +3,7 @@ use Rattle.std.proofs.Common.{◌≡◌, ℕ, ◌==◌, Bool, true, false, if◌
 use Rattle.std.proofs.lemmas.Bool.{eqb-true, eq-eqb}
 use Rattle.ncp_terms.specs.declared.answer.Answer.{Answer}
 use Rattle.ncp_terms.specs.declared.command.Command.{Command}
-use Rattle.ncp_slot.specs.declared.slot.Slot.TheVariants as host
+use Rattle.ncp_slot.specs.declared.slot.Slot.{Slot}
 use Rattle.ncp_slot.specs.Slot.{is_empty, answered}
 use Rattle.ncp_slot.specs.Slots.{LinkSlot, LinkSlots, slot_at, is_quiet}
 use Rattle.ncp_model.proofs.ResetLists.{others, after_rst}
@@ -14,7 +14,7 @@ use Rattle.ncp_transcript_two.specs.Underway.{not_come, commands_out, underway}
 use Rattle.ncp_umpire.specs.declared.finding.Finding.{Finding}
 use Rattle.ncp_umpire.specs.declared.view.Side.{Side}
 use Rattle.ncp_umpire.specs.declared.view.View.{View}
-use Rattle.ncp_umpire.specs.Views.{is_waiting}
+use Rattle.ncp_umpire.specs.Views.{awaits_reply}
 use Rattle.ncp_proof_umpire.proofs.HostSlots.{answer_here, answer_there}
 use Rattle.ncp_proof_umpire.proofs.Phased.{Phased}
 use Rattle.ncp_proof_umpire.proofs.PhaseSteps.{Unheard}
@@ -35,19 +35,19 @@ both_ways_off false e f = absurd (cc e)
 abbrev pub goes_lost : ℕ → Holds → World → World
 goes_lost on how v = record v { going = set_at on how v.going }
 
-line_lost : (on : ℕ) (m : List Bool) (as_what : Holds) (v : World) → slot_at v.this.slots on ≡ host.Travelling m → v.going on ≡ Accepted m → not_come (host.Travelling m) as_what ≡ Some m → line v.this (set_at on as_what v.going) ≡ line v.this v.going
+line_lost : (on : ℕ) (m : List Bool) (as_what : Holds) (v : World) → slot_at v.this.slots on ≡ Slot.Travelling m → v.going on ≡ Accepted m → not_come (Slot.Travelling m) as_what ≡ Some m → line v.this (set_at on as_what v.going) ≡ line v.this v.going
 line_lost on m as_what v s e l = go (on == 0) refl
   where
-    zero_on : slot_at v.this.slots 0 ≡ host.Travelling m → v.going 0 ≡ Accepted m → line v.this (set_at 0 as_what v.going) ≡ line v.this v.going
+    zero_on : slot_at v.this.slots 0 ≡ Slot.Travelling m → v.going 0 ≡ Accepted m → line v.this (set_at 0 as_what v.going) ≡ line v.this v.going
     zero_on s e =
         ap (λ (x : LinkSlot). commands_out (not_come x as_what)) s ∙ ap commands_out l
-        ∙ sym (ap (λ (h : Holds). commands_out (not_come (host.Travelling m) h)) e) ∙ sym (ap (λ (x : LinkSlot). commands_out (not_come x (v.going 0))) s)
+        ∙ sym (ap (λ (h : Holds). commands_out (not_come (Slot.Travelling m) h)) e) ∙ sym (ap (λ (x : LinkSlot). commands_out (not_come x (v.going 0))) s)
 
     go : (b : Bool) → (on == 0) ≡ b → line v.this (set_at on as_what v.going) ≡ line v.this v.going
-    go true z = subst (λ (j : ℕ). slot_at v.this.slots j ≡ host.Travelling m → v.going j ≡ Accepted m → line v.this (set_at j as_what v.going) ≡ line v.this v.going) (sym (eqb-true on 0 z)) zero_on s e
+    go true z = subst (λ (j : ℕ). slot_at v.this.slots j ≡ Slot.Travelling m → v.going j ≡ Accepted m → line v.this (set_at j as_what v.going) ≡ line v.this v.going) (sym (eqb-true on 0 z)) zero_on s e
     go false z = ap (λ (b : Bool). commands_out (not_come (slot_at v.this.slots 0) (if b then as_what else v.going 0))) (not_zero on z)
 
-module _ (on : ℕ) (m : List Bool) (as_what : Holds) (v : World) (s : slot_at v.this.slots on ≡ host.Travelling m) (e : v.going on ≡ Accepted m) (l : not_come (host.Travelling m) as_what ≡ Some m) where
+module _ (on : ℕ) (m : List Bool) (as_what : Holds) (v : World) (s : slot_at v.this.slots on ≡ Slot.Travelling m) (e : v.going on ≡ Accepted m) (l : not_come (Slot.Travelling m) as_what ≡ Some m) where
   pub lost_there : (view : View) (began : Bool) → Toward v view began → Toward (goes_lost on as_what v) view began
   lost_there view began t = record {
     beside = t.beside;
@@ -69,22 +69,22 @@ module _ (on : ℕ) (m : List Bool) (as_what : Holds) (v : World) (s : slot_at v
 abbrev pub is_told : ℕ → Answer → World → World
 is_told on a v = record v { this = answer_comes on a v.this; going = set_at on Free v.going }
 
-line_told : (on : ℕ) (m : List Bool) (a : Answer) (h : Holds) (v : World) → slot_at v.this.slots on ≡ host.Travelling m → v.going on ≡ h → not_come (answered a (host.Travelling m)) Free ≡ not_come (host.Travelling m) h
+line_told : (on : ℕ) (m : List Bool) (a : Answer) (h : Holds) (v : World) → slot_at v.this.slots on ≡ Slot.Travelling m → v.going on ≡ h → not_come (answered a (Slot.Travelling m)) Free ≡ not_come (Slot.Travelling m) h
     → line (is_told on a v).this (is_told on a v).going ≡ line v.this v.going
 line_told on m a h v s e l = go (on == 0) refl
   where
-    zero_on : slot_at v.this.slots 0 ≡ host.Travelling m → v.going 0 ≡ h → line (is_told 0 a v).this (is_told 0 a v).going ≡ line v.this v.going
+    zero_on : slot_at v.this.slots 0 ≡ Slot.Travelling m → v.going 0 ≡ h → line (is_told 0 a v).this (is_told 0 a v).going ≡ line v.this v.going
     zero_on s e =
         ap (λ (x : LinkSlot). commands_out (not_come x Free)) (answer_here 0 a v.this ∙ ap (answered a) s) ∙ ap commands_out l
-        ∙ sym (ap (λ (k : Holds). commands_out (not_come (host.Travelling m) k)) e) ∙ sym (ap (λ (x : LinkSlot). commands_out (not_come x (v.going 0))) s)
+        ∙ sym (ap (λ (k : Holds). commands_out (not_come (Slot.Travelling m) k)) e) ∙ sym (ap (λ (x : LinkSlot). commands_out (not_come x (v.going 0))) s)
 
     go : (b : Bool) → (on == 0) ≡ b → line (is_told on a v).this (is_told on a v).going ≡ line v.this v.going
-    go true z = subst (λ (j : ℕ). slot_at v.this.slots j ≡ host.Travelling m → v.going j ≡ h → line (is_told j a v).this (is_told j a v).going ≡ line v.this v.going) (sym (eqb-true on 0 z)) zero_on s e
+    go true z = subst (λ (j : ℕ). slot_at v.this.slots j ≡ Slot.Travelling m → v.going j ≡ h → line (is_told j a v).this (is_told j a v).going ≡ line v.this v.going) (sym (eqb-true on 0 z)) zero_on s e
     go false z =
         ap (λ (x : LinkSlot). commands_out (not_come x (if 0 == on then Free else v.going 0))) (answer_there on 0 a v.this (λ x. let nay : true ≡ false = sym (eq-eqb on 0 (sym x)) ∙ z in absurd (cc)))
         ∙ ap (λ (b : Bool). commands_out (not_come (slot_at v.this.slots 0) (if b then Free else v.going 0))) (not_zero on z)
 
-module _ (on : ℕ) (m : List Bool) (a : Answer) (h : Holds) (v : World) (s : slot_at v.this.slots on ≡ host.Travelling m) (e : v.going on ≡ h) (l : not_come (answered a (host.Travelling m)) Free ≡ not_come (host.Travelling m) h)
+module _ (on : ℕ) (m : List Bool) (a : Answer) (h : Holds) (v : World) (s : slot_at v.this.slots on ≡ Slot.Travelling m) (e : v.going on ≡ h) (l : not_come (answered a (Slot.Travelling m)) Free ≡ not_come (Slot.Travelling m) h)
     (busy : (on == 0) ≡ false → is_quiet v.this.slots ≡ false) where
   same_line : line (is_told on a v).this (is_told on a v).going ≡ line v.this v.going
   same_line = line_told on m a h v s e l
@@ -128,7 +128,7 @@ abbrev pub comes_on : ℕ → PeerState → World → World
 comes_on on now v = record v { that = now; going = set_at on Delivered v.going }
 
 -- commands
-module _ (m : List Bool) (cs : List Command) (now : PeerState) (v : World) (slots : now.slots ≡ v.that.slots) (s : slot_at v.this.slots 0 ≡ host.Travelling m) (is : line v.this v.going ≡ cs) where
+module _ (m : List Bool) (cs : List Command) (now : PeerState) (v : World) (slots : now.slots ≡ v.that.slots) (s : slot_at v.this.slots 0 ≡ Slot.Travelling m) (is : line v.this v.going ≡ cs) where
   none_left : line v.this (set_at 0 Delivered v.going) ≡ []
   none_left = ap (λ (x : LinkSlot). commands_out (not_come x Delivered)) s
 
@@ -192,17 +192,17 @@ module _ (on : ℕ) (now : PeerState) (v : World) (z : (on == 0) ≡ false) (slo
       go true e = refl
       go false e = absurd (both_ways_off (is_quiet v.this.slots) (t.bare e).this_quiet busy)
 
-  pub no_wait : (view own : View) (began : Bool) → Counts v → Phased v.this.peer.phase (is_quiet v.this.slots) own → Beside v.this.peer.phase own → Toward v view began → is_waiting view.peer.wait ≡ false
-  no_wait view own began c k b t = go (is_waiting view.peer.wait) refl
+  pub no_wait : (view own : View) (began : Bool) → Counts v → Phased v.this.peer.phase (is_quiet v.this.slots) own → Beside v.this.peer.phase own → Toward v view began → awaits_reply view.peer.wait ≡ false
+  no_wait view own began c k b t = go (awaits_reply view.peer.wait) refl
     where
-      go : (w : Bool) → is_waiting view.peer.wait ≡ w → w ≡ false
+      go : (w : Bool) → awaits_reply view.peer.wait ≡ w → w ≡ false
       go false e = refl
       go true e = absurd (both_ways_off (is_quiet v.this.slots) (quiet_waits v.this.peer.phase (is_quiet v.this.slots) own k b (peer_waits v view c t.beside e)) busy)
 
   pub text_heard_there : (view after : View) (began : Bool) → Counts v → Counts (comes_on on now v) → Alike view after → Toward v view began → Toward (comes_on on now v) after began
   text_heard_there view after began c d a t = record {
     beside = recount v (comes_on on now v) after c d refl back_same (ap (λ (xs : List Command). xs ++ v.this.peer.phase.waiting) line_same) (beside_alike v.that.peer.phase view after a t.beside);
-    calm = λ x. ap others line_same ∙ t.calm (ap (λ (y : Side). is_waiting y.wait) (sym a.peer) ∙ x);
+    calm = λ x. ap others line_same ∙ t.calm (ap (λ (y : Side). awaits_reply y.wait) (sym a.peer) ∙ x);
     bare = λ x. absurd (both_ways_off (is_quiet v.this.slots) (t.bare (ap (λ (y : Side). y.began) (sym a.peer) ∙ x)).this_quiet busy);
     opens = λ x. absurd (both_ways_off (is_quiet v.this.slots) (t.bare (ap (λ (y : Side). y.began) (sym a.peer) ∙ x)).this_quiet busy);
   }

@@ -7,7 +7,6 @@ use Rattle.ncp_numbers.proofs.Packing.{bytes_of-bits_of_bytes}
 use Rattle.ncp_leader.specs.declared.fault.MessageFault.{MessageFault}
 use Rattle.ncp_leader.specs.Message.{Message, message_in, message_with}
 use Rattle.ncp_terms.specs.declared.command.Command.{Command}
-use Rattle.ncp_terms.specs.declared.command.Command.TheVariants as commands
 use Rattle.ncp_terms.specs.declared.fault.CommandFault.{CommandFault}
 use Rattle.ncp_terms.specs.Spelling.{IsCommand, spellings}
 use Rattle.ncp_control.specs.Texts.{items_of}
@@ -17,13 +16,13 @@ use Rattle.ncp_host.specs.Output.{leader_to, message_to}
 use Rattle.ncp_transcript_two.specs.Tie.{IsText}
 use Rattle.ncp_transcript_two.proofs.Written.{read}
 use Rattle.ncp_umpire.specs.declared.finding.Finding.{Finding}
-use Rattle.ncp_umpire.specs.declared.finding.Thing.TheVariants as a
+use Rattle.ncp_umpire.specs.declared.finding.Thing.{Thing}
 use Rattle.ncp_umpire.specs.declared.umpire.Umpire.{Umpire}
 use Rattle.ncp_umpire.specs.declared.view.View.{View}
 use Rattle.ncp_umpire.specs.Slots.{place_of}
 use Rattle.ncp_umpire.specs.Tables.{index_of, view_in, with_view}
 use Rattle.ncp_umpire.specs.Views.{new_view}
-use Rattle.ncp_umpire.specs.Messages.{is_unused, reading_of, rule_of_message}
+use Rattle.ncp_umpire.specs.Messages.{is_unused, judged_reading, rule_of_message}
 use Rattle.ncp_umpire.specs.Phases.{early_finding, after_thing, item_findings, after_item, items_findings, after_items}
 use Rattle.ncp_umpire.specs.Judged.{view_of, knows_zero, items_said, read_findings, after_read, after_in, judges_coming, with_coming}
 
@@ -39,23 +38,23 @@ abbrev pub control_of : ℕ → List Command → Message
 control_of n cs = message_with (leader_to n 0) 8 (bits_of_bytes (spellings cs))
 
 pub control_found : (by n : ℕ) (busy : Option ℕ) (zero : Bool) (cs : List Command) (v : View) → All IsCommand cs
-    → read_findings (reading_of (control_of n cs)) (record { by = by; sent = false; busy = busy; zero = zero }) (control_of n cs).text v ≡ items_findings (record { by = by; sent = false; busy = busy; zero = zero }) (items_of cs None) v
+    → read_findings (judged_reading (control_of n cs)) (record { by = by; sent = false; busy = busy; zero = zero }) (control_of n cs).text v ≡ items_findings (record { by = by; sent = false; busy = busy; zero = zero }) (items_of cs None) v
 control_found by n busy zero cs v k =
     append-nil (items_findings (record { by = by; sent = false; busy = busy; zero = zero }) (items_said (bits_of_bytes (spellings cs))) v)
     ∙ ap (λ (xs : List (Result Command CommandFault)). items_findings (record { by = by; sent = false; busy = busy; zero = zero }) xs v) (items cs k)
 
 pub control_view : (by n : ℕ) (busy : Option ℕ) (zero : Bool) (cs : List Command) (v : View) → All IsCommand cs
-    → after_read (reading_of (control_of n cs)) (record { by = by; sent = false; busy = busy; zero = zero }) (control_of n cs).text v ≡ after_items (record { by = by; sent = false; busy = busy; zero = zero }) (items_of cs None) v
+    → after_read (judged_reading (control_of n cs)) (record { by = by; sent = false; busy = busy; zero = zero }) (control_of n cs).text v ≡ after_items (record { by = by; sent = false; busy = busy; zero = zero }) (items_of cs None) v
 control_view by n busy zero cs v k = ap (λ (xs : List (Result Command CommandFault)). after_items (record { by = by; sent = false; busy = busy; zero = zero }) xs v) (items cs k)
 
 -- ---- a text
 
 pub text_found : (by : ℕ) (busy : Option ℕ) (zero sent : Bool) (m : Message) (v : View) → is_unused m.leader.link ≡ false → (m.leader.link == 0) ≡ false
-    → read_findings (reading_of m) (record { by = by; sent = sent; busy = busy; zero = zero }) m.text v ≡ option_to_list (early_finding (record { by = by; sent = sent; busy = busy; zero = zero }) a.Text v)
+    → read_findings (judged_reading m) (record { by = by; sent = sent; busy = busy; zero = zero }) m.text v ≡ option_to_list (early_finding (record { by = by; sent = sent; busy = busy; zero = zero }) Thing.Text v)
 text_found by busy zero sent m v x y = rw (x, y) refl
 
 pub text_view : (by : ℕ) (busy : Option ℕ) (zero sent : Bool) (m : Message) (v : View) → is_unused m.leader.link ≡ false → (m.leader.link == 0) ≡ false
-    → after_read (reading_of m) (record { by = by; sent = sent; busy = busy; zero = zero }) m.text v ≡ after_thing (record { by = by; sent = sent; busy = busy; zero = zero }) a.Text v
+    → after_read (judged_reading m) (record { by = by; sent = sent; busy = busy; zero = zero }) m.text v ≡ after_thing (record { by = by; sent = sent; busy = busy; zero = zero }) Thing.Text v
 text_view by busy zero sent m v x y = rw (x, y) refl
 
 -- ---- the layout, which does not depend on the host in the leader
@@ -79,20 +78,20 @@ record Untold (n : ℕ) (busy : Option ℕ) (c : Command) (v : View) : Type 0 wh
   told : (after_item (record { by = n; sent = false; busy = busy; zero = false }) (Ok c) v).told ≡ false
 
 untold : (n : ℕ) (busy : Option ℕ) (c : Command) (v : View) → v.told ≡ false → Untold n busy c v
-untold n busy commands.Rst v t = record { none = grind arith; told = grind arith }
-untold n busy commands.Rrp v t = record { none = grind arith; told = grind arith }
-untold n busy commands.Nop v t = record { none = grind arith; told = t }
-untold n busy (commands.Rts x y z) v t = record { none = grind arith; told = t }
-untold n busy (commands.Str x y z) v t = record { none = grind arith; told = t }
-untold n busy (commands.Cls x y) v t = record { none = grind arith; told = t }
-untold n busy (commands.All x y z) v t = record { none = grind arith; told = t }
-untold n busy (commands.Gvb x y z) v t = record { none = grind arith; told = t }
-untold n busy (commands.Ret x y z) v t = record { none = grind arith; told = t }
-untold n busy (commands.Inr x) v t = record { none = grind arith; told = t }
-untold n busy (commands.Ins x) v t = record { none = grind arith; told = t }
-untold n busy (commands.Eco x) v t = record { none = grind arith; told = t }
-untold n busy (commands.Erp x) v t = record { none = grind arith; told = t }
-untold n busy (commands.Err x y) v t = record { none = grind arith; told = t }
+untold n busy Command.Rst v t = record { none = grind arith; told = grind arith }
+untold n busy Command.Rrp v t = record { none = grind arith; told = grind arith }
+untold n busy Command.Nop v t = record { none = grind arith; told = t }
+untold n busy (Command.Rts x y z) v t = record { none = grind arith; told = t }
+untold n busy (Command.Str x y z) v t = record { none = grind arith; told = t }
+untold n busy (Command.Cls x y) v t = record { none = grind arith; told = t }
+untold n busy (Command.All x y z) v t = record { none = grind arith; told = t }
+untold n busy (Command.Gvb x y z) v t = record { none = grind arith; told = t }
+untold n busy (Command.Ret x y z) v t = record { none = grind arith; told = t }
+untold n busy (Command.Inr x) v t = record { none = grind arith; told = t }
+untold n busy (Command.Ins x) v t = record { none = grind arith; told = t }
+untold n busy (Command.Eco x) v t = record { none = grind arith; told = t }
+untold n busy (Command.Erp x) v t = record { none = grind arith; told = t }
+untold n busy (Command.Err x y) v t = record { none = grind arith; told = t }
 
 pub all_untold : (n : ℕ) (busy : Option ℕ) (cs : List Command) (v : View) → v.told ≡ false → items_findings (record { by = n; sent = false; busy = busy; zero = false }) (items_of cs None) v ≡ []
 all_untold n busy [] v t = refl
@@ -101,7 +100,7 @@ all_untold n busy (c ∷ cs) v t =
     let w : View = after_item (record { by = n; sent = false; busy = busy; zero = false }) (Ok c) v in
     ap (λ (xs : List Finding). xs ++ items_findings (record { by = n; sent = false; busy = busy; zero = false }) (items_of cs None) w) one.none ∙ all_untold n busy cs w one.told
 
-pub untold_text : (n : ℕ) (busy : Option ℕ) (zero : Bool) (v : View) → v.told ≡ false → early_finding (record { by = n; sent = false; busy = busy; zero = zero }) a.Text v ≡ None
+pub untold_text : (n : ℕ) (busy : Option ℕ) (zero : Bool) (v : View) → v.told ≡ false → early_finding (record { by = n; sent = false; busy = busy; zero = zero }) Thing.Text v ≡ None
 untold_text n busy zero v t = grind arith
 
 and_not : (b f : Bool) → f ≡ true → (b && not f) ≡ false

@@ -7,7 +7,7 @@ use Rattle.ncp_leader.specs.declared.leader.Leader.{Leader}
 use Rattle.ncp_leader.specs.declared.leader.TheConstants.{LEADER_BITS}
 use Rattle.ncp_leader.specs.Leader.{leader_in, leader_at}
 use Rattle.ncp_terms.specs.Spelling.{spellings}
-use Rattle.ncp_slot.specs.declared.slot.Slot.TheVariants as slots
+use Rattle.ncp_slot.specs.declared.slot.Slot.{Slot}
 use Rattle.ncp_slot.specs.Slots.{LinkSlot, slot_at}
 use Rattle.ncp_subnet.specs.Messages.{host_in, link_in}
 use Rattle.ncp_subnet.specs.Transit.{is_free, answer_kind}
@@ -15,20 +15,19 @@ use Rattle.ncp_subnet.specs.Ways.{OnLink}
 use Rattle.ncp_subnet.specs.Subnet.{has_way, transit_at, with_transit, new_subnet}
 use Rattle.ncp_subnet.proofs.NewRows.{has_way-new, transit-new}
 use Rattle.ncp_proof_resets.specs.Delivery.{Link}
-use Rattle.ncp_proof_machine.specs.Hosts.{TextOut}
-use Rattle.ncp_proof_machine.specs.Hosts as hosts
+use Rattle.ncp_proof_machine.specs.Hosts.{TextOut, TwoNodes, nodes_swapped}
 use Rattle.ncp_model.specs.Peers.{Peer}
 use Rattle.ncp_host.specs.PeerState.{new_state}
 use Rattle.ncp_host.specs.Hearing.{is_wrong_link}
 use Rattle.ncp_host.specs.Output.{leader_to, message_to, links, next_of, message_on, output_by, after_output}
 use Rattle.ncp_host.specs.Turns.{next_output}
-use Rattle.ncp_transcript.specs.declared.note.HostNote.TheVariants as of_host
+use Rattle.ncp_transcript.specs.declared.note.HostNote.{HostNote}
 use Rattle.ncp_transcript_two.specs.Subnet.{Holds, Free, Accepted, Delivered, Lost, Dead, set_at, from_host, answer_bits}
 use Rattle.ncp_transcript_two.specs.World.{World, Told}
-use Rattle.ncp_transcript_two.specs.Tie.{Place, Nowhere, Waits, Goes, Came, Failed, Died, Kept, slot_of, holds_of, Carries, control_bits, text_bits, AreCommands, IsText, IsTextOn, Tied, IsOfModel}
+use Rattle.ncp_transcript_two.specs.Tie.{Whereabouts, Nowhere, Waits, Goes, Came, Failed, Died, Kept, slot_of, holds_of, Carries, control_bits, text_as_message, AreCommands, IsText, IsTextOn, Tied, IsOfModel}
 use Rattle.ncp_transcript_two.specs.declared.event.Event.{Event}
 use Rattle.ncp_transcript_two.specs.declared.note.Note.{Note}
-use Rattle.ncp_transcript_two.specs.Between.{Hosts, new_hosts, is_regular, taken, after_out, after_note}
+use Rattle.ncp_transcript_two.specs.Between.{Hosts, new_hosts, is_regular, accepted_from, subnet_after_out, hosts_after_note}
 use Rattle.ncp_transcript_two.specs.Happening.{Noted}
 use Rattle.ncp_transcript_two.specs.Seen.{state_or_new, had_for, seen, as_rules, told_of, side_of}
 use Rattle.ncp_transcript_two.proofs.Accepting.{taken_yes, both}
@@ -52,13 +51,13 @@ pub record Joined (w : Hosts) : Type 0 where
   pub model : IsOfModel (seen w)
 
 pub turned_joined : (w : Hosts) → Joined w → Joined (turned w)
-turned_joined w k = record { stand = stand-turned w k.stand; model = (hosts.swap k.model.0, tied-swapped k.model.0 (seen w) k.model.1) }
+turned_joined w k = record { stand = stand-turned w k.stand; model = (nodes_swapped k.model.0, tied-swapped k.model.0 (seen w) k.model.1) }
 
-of_model : (note : Note) (w : Hosts) (o : Option Told) → DoesOn (as_rules (side_of note)) o (seen w) (seen (after_note note w)) → IsOfModel (seen w) → IsOfModel (seen (after_note note w))
+of_model : (note : Note) (w : Hosts) (o : Option Told) → DoesOn (as_rules (side_of note)) o (seen w) (seen (hosts_after_note note w)) → IsOfModel (seen w) → IsOfModel (seen (hosts_after_note note w))
 of_model note w None same m = subst IsOfModel (sym same) m
 of_model note w (Some t) (st, ok, is) m = subst IsOfModel (ap (λ (d : World × Told). d.0) is) (step-ties (as_rules (side_of note)) st (seen w) ok m)
 
-pub joined_after : (event : Event) (note : Note) (w : Hosts) → Noted event note w → Joined w → Joined (after_note note w)
+pub joined_after : (event : Event) (note : Note) (w : Hosts) → Noted event note w → Joined w → Joined (hosts_after_note note w)
 joined_after event note w n k = record {
   stand = stand-after note w k.stand;
   model = of_model note w (told_of note) (event-does w k.stand k.model.0 k.model.1 event note n) k.model;
@@ -69,13 +68,13 @@ joined_after event note w n k = record {
 free_of : {M : Type 0} (write : M → List Bool) (P : M → Type 0) (l : Link M) (s : LinkSlot) (h : Holds) → Carries write P l s h → (number on : ℕ) (p : Peer) (m : List Bool) → output_by s number on p ≡ Some m → h ≡ Free
 free_of write P l s h c number on p m o = go c.place c.in_slot c.in_subnet
   where
-    stuck : (r : List Bool) → s ≡ slots.Travelling r → h ≡ Free
+    stuck : (r : List Bool) → s ≡ Slot.Travelling r → h ≡ Free
     stuck r e = let none : None ≡ Some m = ap (λ (x : LinkSlot). output_by x number on p) (sym e) ∙ o in absurd (cc none)
 
-    held : (r : List Bool) → s ≡ slots.Held r → h ≡ Free
+    held : (r : List Bool) → s ≡ Slot.Held r → h ≡ Free
     held r e = let none : None ≡ Some m = ap (λ (x : LinkSlot). output_by x number on p) (sym e) ∙ o in absurd (cc none)
 
-    go : (place : Place _) → s ≡ slot_of write place → h ≡ holds_of write place → h ≡ Free
+    go : (place : Whereabouts _) → s ≡ slot_of write place → h ≡ holds_of write place → h ≡ Free
     go Nowhere a b = b
     go (Waits x) a b = b
     go (Goes x) a b = stuck (write x) a
@@ -89,7 +88,7 @@ pub record Leaves (w : Hosts) (m : List Bool) : Type 0 where
   pub on : ℕ
   pub led : leader_in m ≡ Ok (leader_to w.number_b on)
   pub free : transit_at w.subnet w.number_a w.number_b on ≡ Free
-  pub takes : after_out w.number_a (of_host.Out m) w.subnet ≡ with_transit w.subnet w.number_a w.number_b on (Accepted m)
+  pub takes : subnet_after_out w.number_a (HostNote.Out m) w.subnet ≡ with_transit w.subnet w.number_a w.number_b on (Accepted m)
   pub next : next_of w.number_b (had_for w.number_b w.a) ≡ Some (on, m)
   pub right : is_wrong_link on ≡ false
   pub ready : output_by (slot_at (had_for w.number_b w.a).slots on) w.number_b on (had_for w.number_b w.a).peer ≡ Some m
@@ -104,7 +103,7 @@ leaves w m k q = go (some_out (next_of w.number_b (had_for w.number_b w.a)) m (s
     v : World
     v = seen w
 
-    x : hosts.World
+    x : TwoNodes
     x = k.model.0
 
     t : Tied x v
@@ -131,12 +130,12 @@ leaves w m k q = go (some_out (next_of w.number_b (had_for w.number_b w.a)) m (s
         by true z =
             let zero : on ≡ 0 = eqb-true on 0 z in
             ap v.going zero ∙ free_of (control_bits v.there) AreCommands x.this.control (slot_at v.this.slots 0) (v.going 0) t.this.control v.there on v.this.peer m (ap (λ (j : ℕ). output_by (slot_at v.this.slots j) v.there on v.this.peer) (sym zero) ∙ f.1)
-        by false z = free_of (text_bits v.there on) (IsTextOn on) (x.this.texts on) (slot_at v.this.slots on) (v.going on) (t.this.texts on z) v.there on v.this.peer m f.1
+        by false z = free_of (text_as_message v.there on) (IsTextOn on) (x.this.texts on) (slot_at v.this.slots on) (v.going on) (t.this.texts on z) v.there on v.this.peer m f.1
 
         free : transit_at w.subnet w.number_a w.number_b on ≡ Free
         free = by (on == 0) refl
 
-        takes : taken w.number_a m w.subnet ≡ with_transit w.subnet w.number_a w.number_b on (Accepted m)
+        takes : accepted_from w.number_a m w.subnet ≡ with_transit w.subnet w.number_a w.number_b on (Accepted m)
         takes =
             let parts : (nat_le LEADER_BITS (length m) ≡ true) × (leader_at m ≡ leader_to w.number_b on) = leader-parts m (leader_to w.number_b on) led_on in
             let to_b : host_in m ≡ w.number_b = ap (λ (l : Leader). l.host) parts.1 in
@@ -162,7 +161,7 @@ written w on m k e = go (on == 0) refl
     v : World
     v = seen w
 
-    x : hosts.World
+    x : TwoNodes
     x = k.model.0
 
     t : Tied x v
@@ -176,7 +175,7 @@ written w on m k e = go (on == 0) refl
     go : (b : Bool) → (on == 0) ≡ b → Written w on m
     go true z = subst (λ (j : ℕ). v.going j ≡ Accepted m → Written w j m) (sym (eqb-true on 0 z)) zero_on e
     go false z =
-        let c : Comes (text_bits v.there on) (IsTextOn on) (x.this.texts on) (slot_at v.this.slots on) m = delivered (text_bits v.there on) (IsTextOn on) (x.this.texts on) (slot_at v.this.slots on) (v.going on) m (t.this.texts on z) e in
+        let c : Comes (text_as_message v.there on) (IsTextOn on) (x.this.texts on) (slot_at v.this.slots on) m = delivered (text_as_message v.there on) (IsTextOn on) (x.this.texts on) (slot_at v.this.slots on) (v.going on) m (t.this.texts on z) e in
         record { size = c.what.of_size; text = c.what.bits; fits = c.fits.1; few = small on c.fits.0; is = c.written }
 
 pub comes_as : (w : Hosts) (on : ℕ) (m : List Bool) (r : Written w on m) → from_host w.number_a m ≡ message_to w.number_a on r.size r.text
@@ -198,7 +197,7 @@ pub record AnswerLed (w : Hosts) (on kind : ℕ) : Type 0 where
 pub answer_leads : (w : Hosts) (on kind : ℕ) → Joined w → answer_kind (transit_at w.subnet w.number_a w.number_b on) ≡ Some kind → AnswerLed w on kind
 answer_leads w on kind k e = go (transit_at w.subnet w.number_a w.number_b on) refl e
   where
-    x : hosts.World
+    x : TwoNodes
     x = k.model.0
 
     t : Tied x (seen w)

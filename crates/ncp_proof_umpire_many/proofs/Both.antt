@@ -6,8 +6,8 @@ use Rattle.ncp_leader.specs.Leader.{leader_in}
 use Rattle.ncp_leader.specs.Message.{message_in, message_with}
 use Rattle.ncp_terms.specs.declared.command.Command.{Command}
 use Rattle.ncp_terms.specs.Spelling.{IsCommand, spellings}
-use Rattle.ncp_slot.specs.declared.slot.Slot.TheVariants as slots
-use Rattle.ncp_slot.specs.Slot.{is_empty, kept_message, answered as slot_answered, woken}
+use Rattle.ncp_slot.specs.declared.slot.Slot.{Slot}
+use Rattle.ncp_slot.specs.Slot.{is_empty, kept_message, answered, woken}
 use Rattle.ncp_slot.specs.Slots.{LinkSlot, slot_at, is_quiet}
 use Rattle.ncp_subnet.specs.Messages.{arriving, answering}
 use Rattle.ncp_subnet.specs.Transit.{is_accepted, answer_kind}
@@ -30,25 +30,23 @@ use Rattle.ncp_host.specs.Host.{Host, numbers_of, state_of}
 use Rattle.ncp_transcript_two.proofs.Comings.{small}
 use Rattle.ncp_host.specs.Output.{leader_to, message_to, control_message, text_message, output_by, after_next, after_output}
 use Rattle.ncp_host.specs.Turns.{next_output, after_next_output}
-use Rattle.ncp_transcript.specs.declared.input.Input.TheVariants as inputs
+use Rattle.ncp_transcript.specs.declared.input.Input.{Input}
 use Rattle.ncp_transcript.specs.declared.call.Call.{Call}
 use Rattle.ncp_transcript.specs.declared.note.HostNote.{HostNote}
-use Rattle.ncp_transcript.specs.declared.note.HostNote.TheVariants as of_host
-use Rattle.ncp_transcript.specs.After as after
+use Rattle.ncp_transcript.specs.After.{after_note}
 use Rattle.ncp_transcript.specs.Noting.{note_of_message, note_of_output, note_of_bits}
-use Rattle.ncp_transcript.specs.Runs.{IsSaid}
+use Rattle.ncp_transcript.specs.Runs.{IsHostSaid}
 use Rattle.ncp_transcript.proofs.Saying.{noted_said}
 use Rattle.ncp_transcript_two.specs.Subnet.{Holds, Free, Accepted, Delivered, Lost, Dead, from_host, answer_bits}
-use Rattle.ncp_transcript_two.specs.World.{World, swap, after_received}
+use Rattle.ncp_transcript_two.specs.World.{World, swap, state_after_received}
 use Rattle.ncp_transcript_two.specs.Tie.{AreCommands, IsText, control_bits, IsOfModel}
 use Rattle.ncp_transcript_two.specs.Underway.{commands_of, not_come, commands_out}
 use Rattle.ncp_transcript_two.specs.declared.side.Side.TheVariants.{A}
-use Rattle.ncp_transcript_two.specs.declared.event.Event.TheVariants as events
-use Rattle.ncp_transcript_two.specs.declared.note.Move.TheVariants as moves
+use Rattle.ncp_transcript_two.specs.declared.event.Event.{Event}
+use Rattle.ncp_transcript_two.specs.declared.note.Move.{Move}
 use Rattle.ncp_transcript_two.specs.declared.note.Note.{Note}
-use Rattle.ncp_transcript_two.specs.declared.note.Note.TheVariants as notes
-use Rattle.ncp_transcript_two.specs.Between.{Hosts, new_hosts, transit_of, after_note}
-use Rattle.ncp_transcript_two.specs.Happening.{IsCalled, came, answered, note_of_out, note_of_delivery, note_of_loss, note_of_death, note_of_answer}
+use Rattle.ncp_transcript_two.specs.Between.{Hosts, new_hosts, transit_of, hosts_after_note}
+use Rattle.ncp_transcript_two.specs.Happening.{IsCalled, note_of_coming, note_of_answering, note_of_out, note_of_delivery, note_of_loss, note_of_death, note_of_answer}
 use Rattle.ncp_transcript_two.specs.Seen.{state_or_new, had_for, seen}
 use Rattle.ncp_transcript_two.proofs.OnePeer.{has-peer, had-changed, had-sent, noted-answer}
 use Rattle.ncp_transcript_two.proofs.Flights.{delivered-out, lost-out, dead-out}
@@ -64,9 +62,9 @@ use Rattle.ncp_umpire.specs.declared.views.TheConstants.{VIEWS}
 use Rattle.ncp_umpire.specs.declared.way.Way.TheVariants.{ToImp, FromImp}
 use Rattle.ncp_umpire.specs.Messages.{rule_of_message}
 use Rattle.ncp_umpire.specs.Tables.{index_of, view_in}
-use Rattle.ncp_umpire.specs.Views.{is_waiting, new_view}
+use Rattle.ncp_umpire.specs.Views.{awaits_reply, new_view}
 use Rattle.ncp_umpire.specs.Phases.{early_finding, items_findings, after_items}
-use Rattle.ncp_umpire.specs.declared.finding.Thing.TheVariants as a_thing
+use Rattle.ncp_umpire.specs.declared.finding.Thing.{Thing}
 use Rattle.ncp_control.specs.Texts.{items_of}
 use Rattle.ncp_umpire.specs.Judged.{new_umpire, sees, unsent_finding, record_findings, after_record}
 use Rattle.ncp_umpire.proofs.Passing.{Pass}
@@ -79,7 +77,7 @@ use Rattle.ncp_proof_umpire.proofs.PhaseLists.{itself, replicated}
 use Rattle.ncp_proof_umpire.proofs.PhaseSeen.{Seen, quiet_same}
 use Rattle.ncp_proof_umpire.proofs.PhaseSteps.{Unheard, none_heard}
 use Rattle.ncp_proof_umpire.proofs.ReadyPeers.{Ready}
-use Rattle.ncp_proof_umpire_many.specs.Files.{found_in, NothingFound}
+use Rattle.ncp_proof_umpire_many.specs.Files.{findings_in, NothingFound}
 use Rattle.ncp_proof_umpire_many.proofs.Walk.{Shows, Steps, AllPass, all_pass}
 use Rattle.ncp_proof_umpire_many.proofs.Sides.{OfA, both_sides}
 use Rattle.ncp_proof_umpire_many.proofs.Ways.{Ways, turned_ways, ways_out, Comes_in, ways_in, Told, ways_answer, ways_lost, ways_dead, new_ways}
@@ -89,14 +87,14 @@ use Rattle.ncp_proof_umpire_many.proofs.Counts.{Counts, counts, line}
 use Rattle.ncp_proof_umpire_many.proofs.Bare.{noted, resets_heard}
 use Rattle.ncp_proof_umpire_many.proofs.Toward.{Opens, Toward, nothing_else}
 use Rattle.ncp_proof_umpire_many.proofs.AsRead.{control_of, laid_alike}
-use Rattle.ncp_proof_umpire_many.proofs.OwnSide.{At}
-use Rattle.ncp_proof_umpire_many.proofs.OwnSide as own
-use Rattle.ncp_proof_umpire_many.proofs.OwnOut.{Alike, beside_alike}
-use Rattle.ncp_proof_umpire_many.proofs.OwnOut as goes
+use Rattle.ncp_proof_umpire_many.proofs.OwnSide.{At, Went, came, elsewhere}
+use Rattle.ncp_proof_umpire_many.proofs.OwnSide
+use Rattle.ncp_proof_umpire_many.proofs.OwnOut.{Alike, beside_alike, again, commands_go, text_goes}
+use Rattle.ncp_proof_umpire_many.proofs.OwnOut
 use Rattle.ncp_proof_umpire_many.proofs.Moves.{Keeps, this_called, that_called, goes_on, again_there, again_here, text_there, text_here, commands_read, commands_there, commands_here}
 use Rattle.ncp_proof_umpire_many.proofs.Arrivals.{goes_lost, lost_there, lost_here, is_told, told_there, told_here, comes_on, before_all, still_all, calm_all, starts_all, heard_there, heard_here, began_before, no_wait, text_heard_there, text_heard_here}
 use Rattle.ncp_proof_umpire_many.proofs.Coming.{Control, control, Text, a_text, received_slots, came_to}
-use Rattle.ncp_proof_umpire_many.proofs.Meets as meets
+use Rattle.ncp_proof_umpire_many.proofs.Meets.{HeardSo, commands_come, text_comes}
 
 pub record Both (w : Hosts) (umpire : Umpire) : Type 0 where
   pub joined : Joined w
@@ -151,24 +149,24 @@ module _ (w : Hosts) (umpire : Umpire) (k : Both w umpire) where
 
 -- ---- calls
 
-kept_by : (me n : ℕ) (h : Host) (note : HostNote) (umpire : Umpire) → numbers_of h.peers ≡ n ∷ [] → numbers_of (after.after_note note h).peers ≡ n ∷ [] → IsSaid note h → is_of_call note ≡ true → At me n h umpire → Keeps (had_for n h) (had_for n (after.after_note note h))
+kept_by : (me n : ℕ) (h : Host) (note : HostNote) (umpire : Umpire) → numbers_of h.peers ≡ n ∷ [] → numbers_of (after_note note h).peers ≡ n ∷ [] → IsHostSaid note h → is_of_call note ≡ true → At me n h umpire → Keeps (had_for n h) (had_for n (after_note note h))
 kept_by me n h note umpire before now said c k =
-    let x = was (n ∷ []) note h n (had_for n (after.after_note note h)) k.holds said (has-peer n (after.after_note note h) now) in
+    let x = was (n ∷ []) note h n (had_for n (after_note note h)) k.holds said (has-peer n (after_note note h) now) in
     let same : x.0 ≡ had_for n h = some_same (sym x.1 ∙ has-peer n h before) in
     subst (λ (t : PeerState). Keeps (had_for n h) t) (sym x.2)
     (subst (λ (t : PeerState). Keeps t (if names n note then note_for note x.0 else x.0)) same (by x.0 (k.ready n x.0 x.1) (names n note)))
   where
     woken_line : (y : LinkSlot) (t : Holds) → not_come (woken y) t ≡ not_come y t
-    woken_line slots.Empty t = refl
-    woken_line (slots.Ready m) t = refl
-    woken_line (slots.Travelling m) t = refl
-    woken_line (slots.Held m) t = refl
+    woken_line Slot.Empty t = refl
+    woken_line (Slot.Ready m) t = refl
+    woken_line (Slot.Travelling m) t = refl
+    woken_line (Slot.Held m) t = refl
 
     woken_empty : (y : LinkSlot) → is_empty (woken y) ≡ is_empty y
-    woken_empty slots.Empty = refl
-    woken_empty (slots.Ready m) = refl
-    woken_empty (slots.Travelling m) = refl
-    woken_empty (slots.Held m) = refl
+    woken_empty Slot.Empty = refl
+    woken_empty (Slot.Ready m) = refl
+    woken_empty (Slot.Travelling m) = refl
+    woken_empty (Slot.Held m) = refl
 
     by : (t : PeerState) → Ready t → (b : Bool) → Keeps t (if b then note_for note t else t)
     by t r false = record { line = λ h. refl; unheard = λ u. u; quiet = refl }
@@ -184,27 +182,27 @@ kept_by me n h note umpire before now said c k =
       ]);
     }
 
-called : (w : Hosts) (umpire : Umpire) (call : Call) (note : Note) → IsCalled A call note w → Both w umpire → Both (after_note note w) umpire
-called w umpire call note n k = subst (λ (x : Note). Both (after_note x w) umpire) (sym n.said) now
+called : (w : Hosts) (umpire : Umpire) (call : Call) (note : Note) → IsCalled A call note w → Both w umpire → Both (hosts_after_note note w) umpire
+called w umpire call note n k = subst (λ (x : Note). Both (hosts_after_note x w) umpire) (sym n.said) now
   where
     h : HostNote
     h = n.of_host
 
-    j : Joined (after_note (notes.Called A h) w)
-    j = joined_after (events.Call A call) (notes.Called A h) w (record { of_host = h; said = refl; noted = n.noted; fits = n.fits }) k.joined
+    j : Joined (hosts_after_note (Note.Called A h) w)
+    j = joined_after (Event.Call A call) (Note.Called A h) w (record { of_host = h; said = refl; noted = n.noted; fits = n.fits }) k.joined
 
-    keeps : Keeps (had_for w.number_b w.a) (had_for w.number_b (after.after_note h w.a))
-    keeps = kept_by w.number_a w.number_b w.a h umpire k.joined.stand.a j.stand.a (noted_said (inputs.Call call) h w.a n.noted) (call_noted call h w.a n.noted) k.at_a
+    keeps : Keeps (had_for w.number_b w.a) (had_for w.number_b (after_note h w.a))
+    keeps = kept_by w.number_a w.number_b w.a h umpire k.joined.stand.a j.stand.a (noted_said (Input.Call call) h w.a n.noted) (call_noted call h w.a n.noted) k.at_a
 
-    now : Both (after_note (notes.Called A h) w) umpire
+    now : Both (hosts_after_note (Note.Called A h) w) umpire
     now = record {
       joined = j;
       ways = k.ways;
-      at_a = own.called w.number_a w.number_b w.a umpire call h n.noted n.fits k.at_a;
+      at_a = OwnSide.called w.number_a w.number_b w.a umpire call h n.noted n.fits k.at_a;
       at_b = k.at_b;
-      of_a = λ f. this_called (seen w) (had_for w.number_b (after.after_note h w.a)) (view_in umpire.views w.number_b w.number_a) (view_in umpire.views w.number_a w.number_b).host.began keeps (k.of_a f);
-      of_b = λ f. that_called (swap (seen w)) (had_for w.number_b (after.after_note h w.a)) (view_in umpire.views w.number_a w.number_b) (view_in umpire.views w.number_b w.number_a).host.began keeps
-          (counts_back w umpire k) (counts (swap (seen (after_note (notes.Called A h) w))) (turned_joined (after_note (notes.Called A h) w) j).model) (k.of_b f);
+      of_a = λ f. this_called (seen w) (had_for w.number_b (after_note h w.a)) (view_in umpire.views w.number_b w.number_a) (view_in umpire.views w.number_a w.number_b).host.began keeps (k.of_a f);
+      of_b = λ f. that_called (swap (seen w)) (had_for w.number_b (after_note h w.a)) (view_in umpire.views w.number_a w.number_b) (view_in umpire.views w.number_b w.number_a).host.began keeps
+          (counts_back w umpire k) (counts (swap (seen (hosts_after_note (Note.Called A h) w))) (turned_joined (hosts_after_note (Note.Called A h) w) j).model) (k.of_b f);
     }
 
 -- ---- a message goes out
@@ -241,13 +239,13 @@ module _ (w : Hosts) (umpire : Umpire) (k : Both w umpire) (m : List Bool) (full
   T_b : Toward (swap (seen w)) mine theirs.host.began
   T_b = k.of_b open_before
 
-  paired : (on : ℕ) → leader_in m ≡ Ok (leader_to w.number_b on) → output_by (slot_at (s w umpire k).slots on) w.number_b on (s w umpire k).peer ≡ Some m → (r : List Bool) → slot_at (s w umpire k).slots on ≡ slots.Ready r
+  paired : (on : ℕ) → leader_in m ≡ Ok (leader_to w.number_b on) → output_by (slot_at (s w umpire k).slots on) w.number_b on (s w umpire k).peer ≡ Some m → (r : List Bool) → slot_at (s w umpire k).slots on ≡ Slot.Ready r
       → Pair w on m theirs now theirs.host.began
   paired on led ready r q =
       let st = s w umpire k in
       let same : r ≡ m = some_same (ap (λ (x : LinkSlot). output_by x w.number_b on st.peer) (sym q) ∙ ready) in
-      let is : slot_at st.slots on ≡ slots.Ready m = q ∙ ap (λ (x : List Bool). slots.Ready x) same in
-      let a = goes.again w.number_a w.number_b on m (slot_at st.slots on) st.peer umpire (b_a w umpire k) k.joined.stand.fits_a k.joined.stand.fits_b k.ways.sound.long led ready p_seen.stands.phased.told p_seen.stands.phased.known
+      let is : slot_at st.slots on ≡ Slot.Ready m = q ∙ ap (λ (x : List Bool). Slot.Ready x) same in
+      let a = again w.number_a w.number_b on m (slot_at st.slots on) st.peer umpire (b_a w umpire k) k.joined.stand.fits_a k.joined.stand.fits_b k.ways.sound.long led ready p_seen.stands.phased.told p_seen.stands.phased.known
       (λ f. (k.at_a.watched.follows f).agrees w.number_b st (there w umpire k) on) full (ap is_empty q) in
       record {
         of_a = again_there on m (seen w) theirs mine.host.began now.host.began is (ap (λ (x : Side). x.began) a.host) T_a;
@@ -258,10 +256,10 @@ module _ (w : Hosts) (umpire : Umpire) (k : Both w umpire) (m : List Bool) (full
   zero_pair led ready = by (slot_at (s w umpire k).slots 0) refl
     where
       by : (slot : LinkSlot) → slot_at (s w umpire k).slots 0 ≡ slot → Pair w 0 m theirs now theirs.host.began
-      by (slots.Ready r) q = paired 0 led ready r q
-      by (slots.Travelling r) q = let nay : None ≡ Some m = ap (λ (x : LinkSlot). output_by x w.number_b 0 (s w umpire k).peer) (sym q) ∙ ready in absurd (cc)
-      by (slots.Held r) q = let nay : None ≡ Some m = ap (λ (x : LinkSlot). output_by x w.number_b 0 (s w umpire k).peer) (sym q) ∙ ready in absurd (cc)
-      by slots.Empty q =
+      by (Slot.Ready r) q = paired 0 led ready r q
+      by (Slot.Travelling r) q = let nay : None ≡ Some m = ap (λ (x : LinkSlot). output_by x w.number_b 0 (s w umpire k).peer) (sym q) ∙ ready in absurd (cc)
+      by (Slot.Held r) q = let nay : None ≡ Some m = ap (λ (x : LinkSlot). output_by x w.number_b 0 (s w umpire k).peer) (sym q) ∙ ready in absurd (cc)
+      by Slot.Empty q =
           let st = s w umpire k in
           let cs : List Command = next_commands st.peer.phase.waiting in
           let c = control_said w.number_b cs m (ap (λ (x : LinkSlot). output_by x w.number_b 0 st.peer) (sym q) ∙ ready) in
@@ -269,9 +267,9 @@ module _ (w : Hosts) (umpire : Umpire) (k : Both w umpire) (m : List Bool) (full
           let fits : AreCommands cs = (each, weighs MAX_CONTROL st.peer.phase.waiting) in
           let reads : message_in m ≡ Ok (control_of w.number_b cs) = ap message_in c.0 ∙ read w.number_b 0 8 (bits_of_bytes (spellings cs)) k.joined.stand.fits_b (omega arith) (control_text cs fits) in
           let slot : LinkSlot = slot_at st.slots 0 in
-          let sent = goes.commands_go w.number_a w.number_b 0 m slot st.peer umpire (b_a w umpire k) k.joined.stand.fits_a k.joined.stand.fits_b k.ways.sound.long led ready p_seen.stands.phased.told p_seen.stands.phased.known
+          let sent = commands_go w.number_a w.number_b 0 m slot st.peer umpire (b_a w umpire k) k.joined.stand.fits_a k.joined.stand.fits_b k.ways.sound.long led ready p_seen.stands.phased.told p_seen.stands.phased.known
           (λ f. (k.at_a.watched.follows f).agrees w.number_b st (there w umpire k) 0) full cs (drop (length cs) st.peer.phase.waiting) (ap is_empty q) each reads (sym (next-first st.peer.phase.waiting)) T_b.beside in
-          let first = goes.before w.number_a w.number_b 0 m slot st.peer umpire (b_a w umpire k) k.joined.stand.fits_a k.joined.stand.fits_b k.ways.sound.long led ready p_seen.stands.phased.told p_seen.stands.phased.known (λ f. (k.at_a.watched.follows f).agrees w.number_b st (there w umpire k) 0) full in
+          let first = OwnOut.before w.number_a w.number_b 0 m slot st.peer umpire (b_a w umpire k) k.joined.stand.fits_a k.joined.stand.fits_b k.ways.sound.long led ready p_seen.stands.phased.told p_seen.stands.phased.known (λ f. (k.at_a.watched.follows f).agrees w.number_b st (there w umpire k) 0) full in
           let gone = ap commands_of c.0 ∙ commands_read w.number_b cs k.joined.stand.fits_b fits in
           record {
             of_a = commands_there m (seen w) cs gone refl q theirs mine now.host.began (is_quiet st.slots) (counts_now w umpire k) c.1 p_seen.stands.phased T_a;
@@ -284,13 +282,13 @@ module _ (w : Hosts) (umpire : Umpire) (k : Both w umpire) (m : List Bool) (full
       st : PeerState
       st = had_for w.number_b w.a
 
-      by_text : (o : Option (ℕ × List Bool)) → answer (cut_in on st.peer.ends) ≡ o → text_message w.number_b on o ≡ Some m → slot_at st.slots on ≡ slots.Empty → Pair w on m theirs now theirs.host.began
+      by_text : (o : Option (ℕ × List Bool)) → answer (cut_in on st.peer.ends) ≡ o → text_message w.number_b on o ≡ Some m → slot_at st.slots on ≡ Slot.Empty → Pair w on m theirs now theirs.host.began
       by_text None f e q = absurd (cc)
       by_text (Some t) f e q =
           let fits : IsText t.0 t.1 = cut-written on st.peer.ends t (is_ready w umpire k).fine.good (is_ready w umpire k).fine.well.ends f in
           let is : message_to w.number_b on t.0 t.1 ≡ m = cc in
           let reads : message_in m ≡ Ok (message_with (leader_to w.number_b on) t.0 t.1) = ap message_in (sym is) ∙ read w.number_b on t.0 t.1 k.joined.stand.fits_b (small on right) fits in
-          let a = goes.text_goes w.number_a w.number_b on m (slot_at st.slots on) st.peer umpire (b_a w umpire k) k.joined.stand.fits_a k.joined.stand.fits_b k.ways.sound.long led ready p_seen.stands.phased.told p_seen.stands.phased.known
+          let a = text_goes w.number_a w.number_b on m (slot_at st.slots on) st.peer umpire (b_a w umpire k) k.joined.stand.fits_a k.joined.stand.fits_b k.ways.sound.long led ready p_seen.stands.phased.told p_seen.stands.phased.known
           (λ g. (k.at_a.watched.follows g).agrees w.number_b st (there w umpire k) on) full t.0 t.1 (ap is_empty q) right z reads in
           record {
             of_a = text_there on m (seen w) theirs mine.host.began now.host.began t z f T_a;
@@ -298,10 +296,10 @@ module _ (w : Hosts) (umpire : Umpire) (k : Both w umpire) (m : List Bool) (full
           }
 
       by : (slot : LinkSlot) → slot_at st.slots on ≡ slot → Pair w on m theirs now theirs.host.began
-      by (slots.Ready r) q = paired on led ready r q
-      by (slots.Travelling r) q = let nay : None ≡ Some m = ap (λ (x : LinkSlot). output_by x w.number_b on st.peer) (sym q) ∙ ready in absurd (cc)
-      by (slots.Held r) q = let nay : None ≡ Some m = ap (λ (x : LinkSlot). output_by x w.number_b on st.peer) (sym q) ∙ ready in absurd (cc)
-      by slots.Empty q =
+      by (Slot.Ready r) q = paired on led ready r q
+      by (Slot.Travelling r) q = let nay : None ≡ Some m = ap (λ (x : LinkSlot). output_by x w.number_b on st.peer) (sym q) ∙ ready in absurd (cc)
+      by (Slot.Held r) q = let nay : None ≡ Some m = ap (λ (x : LinkSlot). output_by x w.number_b on st.peer) (sym q) ∙ ready in absurd (cc)
+      by Slot.Empty q =
           by_text (answer (cut_in on st.peer.ends)) refl
           (sym (ap (λ (b : Bool). if b then control_message w.number_b (next_commands st.peer.phase.waiting) else text_message w.number_b on (answer (cut_in on st.peer.ends))) z) ∙ ap (λ (x : LinkSlot). output_by x w.number_b on st.peer) (sym q) ∙ ready) q
 
@@ -313,22 +311,22 @@ module _ (w : Hosts) (umpire : Umpire) (k : Both w umpire) (m : List Bool) (full
           subst (λ (j : ℕ). leader_in m ≡ Ok (leader_to w.number_b j) → output_by (slot_at (s w umpire k).slots j) w.number_b j (s w umpire k).peer ≡ Some m → Pair w j m theirs now theirs.host.began) (sym (eqb-true l.on 0 z)) zero_pair l.led l.ready
       go false z = other_pair l.on z l.right l.led l.ready
 
-went : (w : Hosts) (umpire : Umpire) → Both w umpire → Shows nothing Both (goes_from w.number_a (note_of_output w.a)) (after_note (note_of_out A w) w) umpire
-went w umpire k = go (next_output w.a) refl (joined_after (events.Out A) (note_of_out A w) w refl k.joined)
+went : (w : Hosts) (umpire : Umpire) → Both w umpire → Shows nothing Both (goes_from w.number_a (note_of_output w.a)) (hosts_after_note (note_of_out A w) w) umpire
+went w umpire k = go (next_output w.a) refl (joined_after (Event.Out A) (note_of_out A w) w refl k.joined)
   where
-    go : (o : Option (List Bool)) → next_output w.a ≡ o → Joined (after_note (notes.Out A (note_of_message (next_output w.a))) w) → Shows nothing Both (goes_from w.number_a (note_of_message (next_output w.a))) (after_note (notes.Out A (note_of_message (next_output w.a))) w) umpire
-    go None q j = subst (λ (o : Option (List Bool)). Shows nothing Both (goes_from w.number_a (note_of_message o)) (after_note (notes.Out A (note_of_message o)) w) umpire) (sym q) (refl, k)
+    go : (o : Option (List Bool)) → next_output w.a ≡ o → Joined (hosts_after_note (Note.Out A (note_of_message (next_output w.a))) w) → Shows nothing Both (goes_from w.number_a (note_of_message (next_output w.a))) (hosts_after_note (Note.Out A (note_of_message (next_output w.a))) w) umpire
+    go None q j = subst (λ (o : Option (List Bool)). Shows nothing Both (goes_from w.number_a (note_of_message o)) (hosts_after_note (Note.Out A (note_of_message o)) w) umpire) (sym q) (refl, k)
     go (Some m) q j =
-        subst (λ (o : Option (List Bool)). Shows nothing Both (goes_from w.number_a (note_of_message o)) (after_note (notes.Out A (note_of_message o)) w) umpire) (sym q)
+        subst (λ (o : Option (List Bool)). Shows nothing Both (goes_from w.number_a (note_of_message o)) (hosts_after_note (Note.Out A (note_of_message o)) w) umpire) (sym q)
         (as_none (record_findings umpire ToImp w.number_a m) out.none, both)
       where
         l : Leaves w m
         l = leaves w m k.joined q
 
-        out : own.Went w.number_a w.number_b w.a m umpire
-        out = own.went w.number_a w.number_b w.a umpire m (b_a w umpire k) k.joined.stand.fits_a q k.at_a
+        out : Went w.number_a w.number_b w.a m umpire
+        out = OwnSide.went w.number_a w.number_b w.a umpire m (b_a w umpire k) k.joined.stand.fits_a q k.at_a
 
-        is : seen (after_note (notes.Out A (of_host.Out m)) w) ≡ goes_on l.on m (seen w)
+        is : seen (hosts_after_note (Note.Out A (HostNote.Out m)) w) ≡ goes_on l.on m (seen w)
         is =
             ap (λ (x : Subnet). (let y : Hosts = record w { a = after_next_output w.a; subnet = x } in seen y)) l.takes
             ∙ seen_with w k.joined.stand.differ l.on (Accepted m) (after_next_output w.a) w.b (after_output l.on m (had_for w.number_b w.a)) (had_for w.number_a w.b)
@@ -337,14 +335,14 @@ went w umpire k = go (next_output w.a) refl (joined_after (events.Out A) (note_o
         far : view_in (after_record umpire ToImp w.number_a m).views w.number_b w.number_a ≡ view_in umpire.views w.number_b w.number_a
         far = (other_leaves w.number_b w.number_a ToImp m umpire (a_b w umpire k)).views w.number_a k.joined.stand.fits_a
 
-        both : Both (after_note (notes.Out A (of_host.Out m)) w) (after_record umpire ToImp w.number_a m)
+        both : Both (hosts_after_note (Note.Out A (HostNote.Out m)) w) (after_record umpire ToImp w.number_a m)
         both = record {
-          joined = subst (λ (o : Option (List Bool)). Joined (after_note (notes.Out A (note_of_message o)) w)) q j;
+          joined = subst (λ (o : Option (List Bool)). Joined (hosts_after_note (Note.Out A (note_of_message o)) w)) q j;
           ways =
               subst (λ (x : Subnet). Ways w.number_a w.number_b x (after_record umpire ToImp w.number_a m)) (sym l.takes)
               (ways_out w.number_a w.number_b l.on m w.subnet umpire k.joined.stand.differ k.joined.stand.fits_a k.joined.stand.fits_b l.led l.free k.ways);
           at_a = out.at;
-          at_b = own.elsewhere w.number_b w.number_a w.number_a ToImp m w.b umpire (a_b w umpire k) k.at_b;
+          at_b = elsewhere w.number_b w.number_a w.number_a ToImp m w.b umpire (a_b w umpire k) k.at_b;
           of_a = λ f.
               subst (λ (x : World). Toward x (view_in (after_record umpire ToImp w.number_a m).views w.number_b w.number_a) (view_in (after_record umpire ToImp w.number_a m).views w.number_a w.number_b).host.began) (sym is)
               (subst (λ (x : View). Toward (goes_on l.on m (seen w)) x (view_in (after_record umpire ToImp w.number_a m).views w.number_a w.number_b).host.began) (sym far) (a_pair w umpire k m f l).of_a);
@@ -358,12 +356,12 @@ went w umpire k = go (next_output w.a) refl (joined_after (events.Out A) (note_o
 -- what is found in it, and the two sides after it
 record Come (w : Hosts) (umpire : Umpire) (on : ℕ) (bits : List Bool) : Type 0 where
   none : record_findings umpire FromImp w.number_b bits ≡ []
-  of_a : umpire.full ≡ false → Toward (comes_on on (after_received bits (had_for w.number_a w.b)) (seen w)) (view_in (after_record umpire FromImp w.number_b bits).views w.number_b w.number_a) (view_in umpire.views w.number_a w.number_b).host.began
-  of_b : umpire.full ≡ false → Toward (swap (comes_on on (after_received bits (had_for w.number_a w.b)) (seen w))) (view_in umpire.views w.number_a w.number_b) (view_in (after_record umpire FromImp w.number_b bits).views w.number_b w.number_a).host.began
+  of_a : umpire.full ≡ false → Toward (comes_on on (state_after_received bits (had_for w.number_a w.b)) (seen w)) (view_in (after_record umpire FromImp w.number_b bits).views w.number_b w.number_a) (view_in umpire.views w.number_a w.number_b).host.began
+  of_b : umpire.full ≡ false → Toward (swap (comes_on on (state_after_received bits (had_for w.number_a w.b)) (seen w))) (view_in umpire.views w.number_a w.number_b) (view_in (after_record umpire FromImp w.number_b bits).views w.number_b w.number_a).host.began
 
 module _ (w : Hosts) (umpire : Umpire) (k : Both w umpire) (m : List Bool) where
   -- the layout
-  laid_on : (on size : ℕ) (text : List Bool) → IsText size text → on < 256 → m ≡ message_to w.number_b on size text → slot_at (had_for w.number_b w.a).slots on ≡ slots.Travelling m → rule_of_message (message_in (from_host w.number_a m)) on (length (from_host w.number_a m)) ≡ None
+  laid_on : (on size : ℕ) (text : List Bool) → IsText size text → on < 256 → m ≡ message_to w.number_b on size text → slot_at (had_for w.number_b w.a).slots on ≡ Slot.Travelling m → rule_of_message (message_in (from_host w.number_a m)) on (length (from_host w.number_a m)) ≡ None
   laid_on on size text fits few is slot =
       let whole : rule_of_message (message_in m) on (length m) ≡ None = ((is_ready w umpire k).kept on m (ap kept_message slot)).0 in
       let was : rule_of_message (message_in (message_to w.number_b on size text)) on (length (message_to w.number_b on size text)) ≡ None = subst (λ (x : List Bool). rule_of_message (message_in x) on (length x) ≡ None) is whole in
@@ -379,7 +377,7 @@ module _ (w : Hosts) (umpire : Umpire) (k : Both w umpire) (m : List Bool) where
   abbrev theirs_now : View
   theirs_now = view_in umpire.views w.number_b w.number_a
 
-  come_zero : leader_in (from_host w.number_a m) ≡ Ok (leader_to w.number_a 0) → transit_at w.subnet w.number_a w.number_b 0 ≡ Accepted m → unsent_finding (sees umpire w.number_b) w.number_b w.number_a 0 (from_host w.number_a m) ≡ None → Counts (comes_on 0 (after_received (from_host w.number_a m) (had_for w.number_a w.b)) (seen w))
+  come_zero : leader_in (from_host w.number_a m) ≡ Ok (leader_to w.number_a 0) → transit_at w.subnet w.number_a w.number_b 0 ≡ Accepted m → unsent_finding (sees umpire w.number_b) w.number_b w.number_a 0 (from_host w.number_a m) ≡ None → Counts (comes_on 0 (state_after_received (from_host w.number_a m) (had_for w.number_a w.b)) (seen w))
       → Come w umpire 0 (from_host w.number_a m)
   come_zero led e sent d = record { none = met.0; of_a = λ f. to_a f (met.1 f); of_b = λ f. to_b f (met.1 f) }
     where
@@ -397,10 +395,10 @@ module _ (w : Hosts) (umpire : Umpire) (k : Both w umpire) (m : List Bool) where
 
       line_is : line (seen w).this (seen w).going ≡ c.cs
       line_is =
-          ap (λ (x : LinkSlot). commands_out (not_come x ((seen w).going 0))) c.slot ∙ ap (λ (h : Holds). commands_out (not_come (slots.Travelling m) h)) e
+          ap (λ (x : LinkSlot). commands_out (not_come x ((seen w).going 0))) c.slot ∙ ap (λ (h : Holds). commands_out (not_come (Slot.Travelling m) h)) e
           ∙ ap commands_of c.is ∙ commands_read w.number_b c.cs k.joined.stand.fits_b c.fits
 
-      to_slots : (after_received (from_host w.number_a m) (had_for w.number_a w.b)).slots ≡ (had_for w.number_a w.b).slots
+      to_slots : (state_after_received (from_host w.number_a m) (had_for w.number_a w.b)).slots ≡ (had_for w.number_a w.b).slots
       to_slots = received_slots w.number_a 0 (from_host w.number_a m) (had_for w.number_a w.b) led
 
       heard : umpire.full ≡ false → (x : View) (b : Option ℕ) (z : Bool) → Alike (view_in umpire.views w.number_b w.number_a) x
@@ -408,31 +406,31 @@ module _ (w : Hosts) (umpire : Umpire) (k : Both w umpire) (m : List Bool) where
       heard f x b z a =
           let t = k.of_a f in
           all_heard w.number_a b z c.cs (seen w).this.peer.phase.waiting (seen w).this.peer.phase (line (seen w).that (seen w).coming) x
-          (before_all m c.cs (after_received (from_host w.number_a m) (had_for w.number_a w.b)) (seen w) to_slots c.slot line_is x (counts_now w umpire k) (beside_alike (seen w).that.peer.phase (view_in umpire.views w.number_b w.number_a) x a t.beside))
-          (still_all m c.cs (after_received (from_host w.number_a m) (had_for w.number_a w.b)) (seen w) to_slots c.slot line_is (counts_now w umpire k))
-          (λ y. calm_all m c.cs (after_received (from_host w.number_a m) (had_for w.number_a w.b)) (seen w) to_slots c.slot line_is (nothing_else (seen w) (view_in umpire.views w.number_b w.number_a) mine_now.host.began (counts_now w umpire k) t (ap (λ (p : Side). is_waiting p.wait) (sym a.peer) ∙ y)))
-          (λ y. starts_all m c.cs (after_received (from_host w.number_a m) (had_for w.number_a w.b)) (seen w) to_slots c.slot line_is (view_in umpire.views w.number_b w.number_a) mine_now.host.began t (ap (λ (p : Side). p.began) (sym a.peer) ∙ y))
+          (before_all m c.cs (state_after_received (from_host w.number_a m) (had_for w.number_a w.b)) (seen w) to_slots c.slot line_is x (counts_now w umpire k) (beside_alike (seen w).that.peer.phase (view_in umpire.views w.number_b w.number_a) x a t.beside))
+          (still_all m c.cs (state_after_received (from_host w.number_a m) (had_for w.number_a w.b)) (seen w) to_slots c.slot line_is (counts_now w umpire k))
+          (λ y. calm_all m c.cs (state_after_received (from_host w.number_a m) (had_for w.number_a w.b)) (seen w) to_slots c.slot line_is (nothing_else (seen w) (view_in umpire.views w.number_b w.number_a) mine_now.host.began (counts_now w umpire k) t (ap (λ (p : Side). awaits_reply p.wait) (sym a.peer) ∙ y)))
+          (λ y. starts_all m c.cs (state_after_received (from_host w.number_a m) (had_for w.number_a w.b)) (seen w) to_slots c.slot line_is (view_in umpire.views w.number_b w.number_a) mine_now.host.began t (ap (λ (p : Side). p.began) (sym a.peer) ∙ y))
 
-      met : (record_findings umpire FromImp w.number_b (from_host w.number_a m) ≡ []) × (umpire.full ≡ false → meets.HeardSo c.cs (seen w).this.peer.phase (line (seen w).that (seen w).coming) (seen w).this.peer.phase.waiting (view_in umpire.views w.number_b w.number_a) (view_in (after_record umpire FromImp w.number_b (from_host w.number_a m)).views w.number_b w.number_a))
+      met : (record_findings umpire FromImp w.number_b (from_host w.number_a m) ≡ []) × (umpire.full ≡ false → HeardSo c.cs (seen w).this.peer.phase (line (seen w).that (seen w).coming) (seen w).this.peer.phase.waiting (view_in umpire.views w.number_b w.number_a) (view_in (after_record umpire FromImp w.number_b (from_host w.number_a m)).views w.number_b w.number_a))
       met =
-          meets.commands_come w.number_b w.number_a 0 (from_host w.number_a m) (control_of w.number_a c.cs) umpire (a_b w umpire k) k.joined.stand.fits_b k.joined.stand.fits_a k.ways.sound.long led reads laid sent c.cs
+          commands_come w.number_b w.number_a 0 (from_host w.number_a m) (control_of w.number_a c.cs) umpire (a_b w umpire k) k.joined.stand.fits_b k.joined.stand.fits_a k.ways.sound.long led reads laid sent c.cs
           (seen w).this.peer.phase (line (seen w).that (seen w).coming) (seen w).this.peer.phase.waiting c.fits.0 refl (λ f. (k.of_a f).beside.told) heard
 
-      to_a : umpire.full ≡ false → meets.HeardSo c.cs (seen w).this.peer.phase (line (seen w).that (seen w).coming) (seen w).this.peer.phase.waiting (view_in umpire.views w.number_b w.number_a) (view_in (after_record umpire FromImp w.number_b (from_host w.number_a m)).views w.number_b w.number_a)
-          → Toward (comes_on 0 (after_received (from_host w.number_a m) (had_for w.number_a w.b)) (seen w)) (view_in (after_record umpire FromImp w.number_b (from_host w.number_a m)).views w.number_b w.number_a) (view_in umpire.views w.number_a w.number_b).host.began
+      to_a : umpire.full ≡ false → HeardSo c.cs (seen w).this.peer.phase (line (seen w).that (seen w).coming) (seen w).this.peer.phase.waiting (view_in umpire.views w.number_b w.number_a) (view_in (after_record umpire FromImp w.number_b (from_host w.number_a m)).views w.number_b w.number_a)
+          → Toward (comes_on 0 (state_after_received (from_host w.number_a m) (had_for w.number_a w.b)) (seen w)) (view_in (after_record umpire FromImp w.number_b (from_host w.number_a m)).views w.number_b w.number_a) (view_in umpire.views w.number_a w.number_b).host.began
       to_a f h =
-          heard_there m c.cs (after_received (from_host w.number_a m) (had_for w.number_a w.b)) (seen w) to_slots c.slot line_is (view_in umpire.views w.number_b w.number_a) h.first
+          heard_there m c.cs (state_after_received (from_host w.number_a m) (had_for w.number_a w.b)) (seen w) to_slots c.slot line_is (view_in umpire.views w.number_b w.number_a) h.first
           (view_in (after_record umpire FromImp w.number_b (from_host w.number_a m)).views w.number_b w.number_a) mine_now.host.began h.found d h.alike h.all (k.of_a f)
 
-      to_b : umpire.full ≡ false → meets.HeardSo c.cs (seen w).this.peer.phase (line (seen w).that (seen w).coming) (seen w).this.peer.phase.waiting (view_in umpire.views w.number_b w.number_a) (view_in (after_record umpire FromImp w.number_b (from_host w.number_a m)).views w.number_b w.number_a)
-          → Toward (swap (comes_on 0 (after_received (from_host w.number_a m) (had_for w.number_a w.b)) (seen w))) (view_in umpire.views w.number_a w.number_b) (view_in (after_record umpire FromImp w.number_b (from_host w.number_a m)).views w.number_b w.number_a).host.began
+      to_b : umpire.full ≡ false → HeardSo c.cs (seen w).this.peer.phase (line (seen w).that (seen w).coming) (seen w).this.peer.phase.waiting (view_in umpire.views w.number_b w.number_a) (view_in (after_record umpire FromImp w.number_b (from_host w.number_a m)).views w.number_b w.number_a)
+          → Toward (swap (comes_on 0 (state_after_received (from_host w.number_a m) (had_for w.number_a w.b)) (seen w))) (view_in umpire.views w.number_a w.number_b) (view_in (after_record umpire FromImp w.number_b (from_host w.number_a m)).views w.number_b w.number_a).host.began
       to_b f h =
-          heard_here m c.cs (after_received (from_host w.number_a m) (had_for w.number_a w.b)) (seen w) to_slots c.slot line_is (view_in umpire.views w.number_a w.number_b) theirs_now.host.began
+          heard_here m c.cs (state_after_received (from_host w.number_a m) (had_for w.number_a w.b)) (seen w) to_slots c.slot line_is (view_in umpire.views w.number_a w.number_b) theirs_now.host.began
           (view_in (after_record umpire FromImp w.number_b (from_host w.number_a m)).views w.number_b w.number_a).host.began (h.all.host ∙ ap (λ (y : Side). y.began) h.alike.host)
           (λ o u. subst (λ (y : PeerState). Unheard y.peer.ends) (sym c.heard) (resets_heard c.cs (had_for w.number_a w.b) o u)) (k.of_b f)
 
   come_text : (on : ℕ) → (on == 0) ≡ false → leader_in (from_host w.number_a m) ≡ Ok (leader_to w.number_a on) → on < 256 → transit_at w.subnet w.number_a w.number_b on ≡ Accepted m → unsent_finding (sees umpire w.number_b) w.number_b w.number_a on (from_host w.number_a m) ≡ None
-      → Counts (comes_on on (after_received (from_host w.number_a m) (had_for w.number_a w.b)) (seen w)) → Come w umpire on (from_host w.number_a m)
+      → Counts (comes_on on (state_after_received (from_host w.number_a m) (had_for w.number_a w.b)) (seen w)) → Come w umpire on (from_host w.number_a m)
   come_text on z led few e sent d = record { none = met.0; of_a = λ f. to_a f (met.1 f); of_b = λ f. to_b f }
     where
       c : Text w on m
@@ -444,53 +442,53 @@ module _ (w : Hosts) (umpire : Umpire) (k : Both w umpire) (m : List Bool) where
       laid : rule_of_message (message_in (from_host w.number_a m)) on (length (from_host w.number_a m)) ≡ None
       laid = laid_on on c.size c.text c.fits few c.is c.slot
 
-      to_slots : (after_received (from_host w.number_a m) (had_for w.number_a w.b)).slots ≡ (had_for w.number_a w.b).slots
+      to_slots : (state_after_received (from_host w.number_a m) (had_for w.number_a w.b)).slots ≡ (had_for w.number_a w.b).slots
       to_slots = received_slots w.number_a on (from_host w.number_a m) (had_for w.number_a w.b) led
 
       busy : umpire.full ≡ false → is_quiet (had_for w.number_b w.a).slots ≡ false
       busy f = not_quiet (had_for w.number_b w.a) on (own_seen w umpire k f).used z (ap is_empty c.slot)
 
-      early : umpire.full ≡ false → (x : View) (b : Option ℕ) (y : Bool) → Alike (view_in umpire.views w.number_b w.number_a) x → early_finding (record { by = w.number_a; sent = false; busy = b; zero = y }) a_thing.Text x ≡ None
+      early : umpire.full ≡ false → (x : View) (b : Option ℕ) (y : Bool) → Alike (view_in umpire.views w.number_b w.number_a) x → early_finding (record { by = w.number_a; sent = false; busy = b; zero = y }) Thing.Text x ≡ None
       early f x b y a =
-          in_time w.number_a b y a_thing.Text x
-          (ap (λ (p : Side). p.began) a.peer ∙ began_before on (after_received (from_host w.number_a m) (had_for w.number_a w.b)) (seen w) z to_slots (busy f) (view_in umpire.views w.number_b w.number_a) mine_now.host.began (k.of_a f))
-          (ap (λ (p : Side). is_waiting p.wait) a.peer
-          ∙ no_wait on (after_received (from_host w.number_a m) (had_for w.number_a w.b)) (seen w) z to_slots (busy f) (view_in umpire.views w.number_b w.number_a) (view_in umpire.views w.number_a w.number_b) mine_now.host.began (counts_now w umpire k)
+          in_time w.number_a b y Thing.Text x
+          (ap (λ (p : Side). p.began) a.peer ∙ began_before on (state_after_received (from_host w.number_a m) (had_for w.number_a w.b)) (seen w) z to_slots (busy f) (view_in umpire.views w.number_b w.number_a) mine_now.host.began (k.of_a f))
+          (ap (λ (p : Side). awaits_reply p.wait) a.peer
+          ∙ no_wait on (state_after_received (from_host w.number_a m) (had_for w.number_a w.b)) (seen w) z to_slots (busy f) (view_in umpire.views w.number_b w.number_a) (view_in umpire.views w.number_a w.number_b) mine_now.host.began (counts_now w umpire k)
           (own_seen w umpire k f).stands.phased (k.of_b f).beside (k.of_a f))
 
       met : (record_findings umpire FromImp w.number_b (from_host w.number_a m) ≡ []) × (umpire.full ≡ false → Alike (view_in umpire.views w.number_b w.number_a) (view_in (after_record umpire FromImp w.number_b (from_host w.number_a m)).views w.number_b w.number_a))
       met =
-          meets.text_comes w.number_b w.number_a on (from_host w.number_a m) (message_with (leader_to w.number_a on) c.size c.text) umpire (a_b w umpire k) k.joined.stand.fits_b k.joined.stand.fits_a k.ways.sound.long led reads laid sent
+          text_comes w.number_b w.number_a on (from_host w.number_a m) (message_with (leader_to w.number_a on) c.size c.text) umpire (a_b w umpire k) k.joined.stand.fits_b k.joined.stand.fits_a k.ways.sound.long led reads laid sent
           c.right z (λ f. (k.of_a f).beside.told) early
 
       to_a : umpire.full ≡ false → Alike (view_in umpire.views w.number_b w.number_a) (view_in (after_record umpire FromImp w.number_b (from_host w.number_a m)).views w.number_b w.number_a)
-          → Toward (comes_on on (after_received (from_host w.number_a m) (had_for w.number_a w.b)) (seen w)) (view_in (after_record umpire FromImp w.number_b (from_host w.number_a m)).views w.number_b w.number_a) (view_in umpire.views w.number_a w.number_b).host.began
+          → Toward (comes_on on (state_after_received (from_host w.number_a m) (had_for w.number_a w.b)) (seen w)) (view_in (after_record umpire FromImp w.number_b (from_host w.number_a m)).views w.number_b w.number_a) (view_in umpire.views w.number_a w.number_b).host.began
       to_a f a =
-          text_heard_there on (after_received (from_host w.number_a m) (had_for w.number_a w.b)) (seen w) z to_slots (busy f) (view_in umpire.views w.number_b w.number_a)
+          text_heard_there on (state_after_received (from_host w.number_a m) (had_for w.number_a w.b)) (seen w) z to_slots (busy f) (view_in umpire.views w.number_b w.number_a)
           (view_in (after_record umpire FromImp w.number_b (from_host w.number_a m)).views w.number_b w.number_a) mine_now.host.began (counts_now w umpire k) d a (k.of_a f)
 
-      to_b : umpire.full ≡ false → Toward (swap (comes_on on (after_received (from_host w.number_a m) (had_for w.number_a w.b)) (seen w))) (view_in umpire.views w.number_a w.number_b) (view_in (after_record umpire FromImp w.number_b (from_host w.number_a m)).views w.number_b w.number_a).host.began
+      to_b : umpire.full ≡ false → Toward (swap (comes_on on (state_after_received (from_host w.number_a m) (had_for w.number_a w.b)) (seen w))) (view_in umpire.views w.number_a w.number_b) (view_in (after_record umpire FromImp w.number_b (from_host w.number_a m)).views w.number_b w.number_a).host.began
       to_b f =
-          text_heard_here on (after_received (from_host w.number_a m) (had_for w.number_a w.b)) (seen w) z to_slots (busy f) (view_in umpire.views w.number_a w.number_b) theirs_now.host.began
+          text_heard_here on (state_after_received (from_host w.number_a m) (had_for w.number_a w.b)) (seen w) z to_slots (busy f) (view_in umpire.views w.number_a w.number_b) theirs_now.host.began
           (view_in (after_record umpire FromImp w.number_b (from_host w.number_a m)).views w.number_b w.number_a).host.began (k.of_b f)
 
   comes : (on : ℕ) → leader_in (from_host w.number_a m) ≡ Ok (leader_to w.number_a on) → on < 256 → transit_at w.subnet w.number_a w.number_b on ≡ Accepted m → unsent_finding (sees umpire w.number_b) w.number_b w.number_a on (from_host w.number_a m) ≡ None
-      → Counts (comes_on on (after_received (from_host w.number_a m) (had_for w.number_a w.b)) (seen w)) → Come w umpire on (from_host w.number_a m)
+      → Counts (comes_on on (state_after_received (from_host w.number_a m) (had_for w.number_a w.b)) (seen w)) → Come w umpire on (from_host w.number_a m)
   comes on led few e sent d = go (on == 0) refl
     where
       go : (b : Bool) → (on == 0) ≡ b → Come w umpire on (from_host w.number_a m)
       go false z = come_text on z led few e sent d
       go true z =
           (subst (λ (j : ℕ). leader_in (from_host w.number_a m) ≡ Ok (leader_to w.number_a j) → transit_at w.subnet w.number_a w.number_b j ≡ Accepted m → unsent_finding (sees umpire w.number_b) w.number_b w.number_a j (from_host w.number_a m) ≡ None
-          → Counts (comes_on j (after_received (from_host w.number_a m) (had_for w.number_a w.b)) (seen w)) → Come w umpire j (from_host w.number_a m)) (sym (eqb-true on 0 z)) come_zero) led e sent d
+          → Counts (comes_on j (state_after_received (from_host w.number_a m) (had_for w.number_a w.b)) (seen w)) → Come w umpire j (from_host w.number_a m)) (sym (eqb-true on 0 z)) come_zero) led e sent d
 
-arrived : (w : Hosts) (umpire : Umpire) (link : ℕ) → Both w umpire → Shows nothing Both (comes_to w.number_b (arriving w.number_a (transit_of A link w))) (after_note (note_of_delivery A link w) w) umpire
-arrived w umpire link k = go (transit_of A link w) refl (joined_after (events.Deliver A link) (note_of_delivery A link w) w refl k.joined)
+arrived : (w : Hosts) (umpire : Umpire) (link : ℕ) → Both w umpire → Shows nothing Both (comes_to w.number_b (arriving w.number_a (transit_of A link w))) (hosts_after_note (note_of_delivery A link w) w) umpire
+arrived w umpire link k = go (transit_of A link w) refl (joined_after (Event.Deliver A link) (note_of_delivery A link w) w refl k.joined)
   where
     As : OnLink → Type 0
-    As h = Shows nothing Both (comes_to w.number_b (arriving w.number_a h)) (after_note (came A link (arriving w.number_a h) w) w) umpire
+    As h = Shows nothing Both (comes_to w.number_b (arriving w.number_a h)) (hosts_after_note (note_of_coming A link (arriving w.number_a h) w) w) umpire
 
-    go : (h : OnLink) → transit_of A link w ≡ h → Joined (after_note (note_of_delivery A link w) w) → As (transit_of A link w)
+    go : (h : OnLink) → transit_of A link w ≡ h → Joined (hosts_after_note (note_of_delivery A link w) w) → As (transit_of A link w)
     go Free q j = subst As (sym q) (refl, k)
     go Delivered q j = subst As (sym q) (refl, k)
     go Lost q j = subst As (sym q) (refl, k)
@@ -506,16 +504,16 @@ arrived w umpire link k = go (transit_of A link w) refl (joined_after (events.De
         way : Comes_in w.number_a w.number_b link (from_host w.number_a m) w.subnet umpire
         way = ways_in w.number_a w.number_b link m (from_host w.number_a m) w.subnet umpire k.joined.stand.differ k.joined.stand.fits_a k.joined.stand.fits_b led q (comes_near w link m r) k.ways
 
-        joined : Joined (after_note (notes.Came A link (note_of_bits (from_host w.number_a m) w.b)) w)
-        joined = subst (λ (h : OnLink). Joined (after_note (came A link (arriving w.number_a h) w) w)) q j
+        joined : Joined (hosts_after_note (Note.Came A link (note_of_bits (from_host w.number_a m) w.b)) w)
+        joined = subst (λ (h : OnLink). Joined (hosts_after_note (note_of_coming A link (arriving w.number_a h) w) w)) q j
 
-        is : seen (after_note (notes.Came A link (note_of_bits (from_host w.number_a m) w.b)) w) ≡ comes_on link (after_received (from_host w.number_a m) (had_for w.number_a w.b)) (seen w)
+        is : seen (hosts_after_note (Note.Came A link (note_of_bits (from_host w.number_a m) w.b)) w) ≡ comes_on link (state_after_received (from_host w.number_a m) (had_for w.number_a w.b)) (seen w)
         is =
-            seen_with w k.joined.stand.differ link Delivered w.a (after.after_note (note_of_bits (from_host w.number_a m) w.b) w.b) (had_for w.number_b w.a) (after_received (from_host w.number_a m) (had_for w.number_a w.b)) refl
+            seen_with w k.joined.stand.differ link Delivered w.a (after_note (note_of_bits (from_host w.number_a m) w.b) w.b) (had_for w.number_b w.a) (state_after_received (from_host w.number_a m) (had_for w.number_a w.b)) refl
             (came_to w link (from_host w.number_a m) k.joined led)
 
         come : Come w umpire link (from_host w.number_a m)
-        come = comes w umpire k m link led r.few q way.sent (counts (comes_on link (after_received (from_host w.number_a m) (had_for w.number_a w.b)) (seen w)) (subst IsOfModel is joined.model))
+        come = comes w umpire k m link led r.few q way.sent (counts (comes_on link (state_after_received (from_host w.number_a m) (had_for w.number_a w.b)) (seen w)) (subst IsOfModel is joined.model))
 
         far : view_in (after_record umpire FromImp w.number_b (from_host w.number_a m)).views w.number_a w.number_b ≡ view_in umpire.views w.number_a w.number_b
         far = (other_leaves w.number_a w.number_b FromImp (from_host w.number_a m) umpire (b_a w umpire k)).views w.number_b k.joined.stand.fits_b
@@ -523,32 +521,32 @@ arrived w umpire link k = go (transit_of A link w) refl (joined_after (events.De
         open_before : (after_record umpire FromImp w.number_b (from_host w.number_a m)).full ≡ false → umpire.full ≡ false
         open_before f = (other_leaves w.number_a w.number_b FromImp (from_host w.number_a m) umpire (b_a w umpire k)).full f
 
-        both : Both (after_note (notes.Came A link (note_of_bits (from_host w.number_a m) w.b)) w) (after_record umpire FromImp w.number_b (from_host w.number_a m))
+        both : Both (hosts_after_note (Note.Came A link (note_of_bits (from_host w.number_a m) w.b)) w) (after_record umpire FromImp w.number_b (from_host w.number_a m))
         both = record {
           joined = joined;
           ways = way.ways;
-          at_a = own.elsewhere w.number_a w.number_b w.number_b FromImp (from_host w.number_a m) w.a umpire (b_a w umpire k) k.at_a;
-          at_b = own.came w.number_b w.number_a w.b umpire (from_host w.number_a m) (a_b w umpire k) k.joined.stand.fits_b k.at_b;
+          at_a = elsewhere w.number_a w.number_b w.number_b FromImp (from_host w.number_a m) w.a umpire (b_a w umpire k) k.at_a;
+          at_b = came w.number_b w.number_a w.b umpire (from_host w.number_a m) (a_b w umpire k) k.joined.stand.fits_b k.at_b;
           of_a = λ f.
               subst (λ (x : World). Toward x (view_in (after_record umpire FromImp w.number_b (from_host w.number_a m)).views w.number_b w.number_a) (view_in (after_record umpire FromImp w.number_b (from_host w.number_a m)).views w.number_a w.number_b).host.began) (sym is)
-              (subst (λ (x : View). Toward (comes_on link (after_received (from_host w.number_a m) (had_for w.number_a w.b)) (seen w)) (view_in (after_record umpire FromImp w.number_b (from_host w.number_a m)).views w.number_b w.number_a) x.host.began) (sym far) (come.of_a (open_before f)));
+              (subst (λ (x : View). Toward (comes_on link (state_after_received (from_host w.number_a m) (had_for w.number_a w.b)) (seen w)) (view_in (after_record umpire FromImp w.number_b (from_host w.number_a m)).views w.number_b w.number_a) x.host.began) (sym far) (come.of_a (open_before f)));
           of_b = λ f.
               subst (λ (x : World). Toward (swap x) (view_in (after_record umpire FromImp w.number_b (from_host w.number_a m)).views w.number_a w.number_b) (view_in (after_record umpire FromImp w.number_b (from_host w.number_a m)).views w.number_b w.number_a).host.began) (sym is)
-              (subst (λ (x : View). Toward (swap (comes_on link (after_received (from_host w.number_a m) (had_for w.number_a w.b)) (seen w))) x (view_in (after_record umpire FromImp w.number_b (from_host w.number_a m)).views w.number_b w.number_a).host.began) (sym far) (come.of_b (open_before f)));
+              (subst (λ (x : View). Toward (swap (comes_on link (state_after_received (from_host w.number_a m) (had_for w.number_a w.b)) (seen w))) x (view_in (after_record umpire FromImp w.number_b (from_host w.number_a m)).views w.number_b w.number_a).host.began) (sym far) (come.of_b (open_before f)));
         }
 
 -- ---- it is lost, or its destination is dead
 
 -- it stands in its slot
-out_slot : (w : Hosts) (link : ℕ) (m : List Bool) → Joined w → transit_at w.subnet w.number_a w.number_b link ≡ Accepted m → slot_at (had_for w.number_b w.a).slots link ≡ slots.Travelling m
+out_slot : (w : Hosts) (link : ℕ) (m : List Bool) → Joined w → transit_at w.subnet w.number_a w.number_b link ≡ Accepted m → slot_at (had_for w.number_b w.a).slots link ≡ Slot.Travelling m
 out_slot w link m k e = go (link == 0) refl
   where
-    go : (b : Bool) → (link == 0) ≡ b → slot_at (had_for w.number_b w.a).slots link ≡ slots.Travelling m
+    go : (b : Bool) → (link == 0) ≡ b → slot_at (had_for w.number_b w.a).slots link ≡ Slot.Travelling m
     go true z =
-        subst (λ (j : ℕ). transit_at w.subnet w.number_a w.number_b j ≡ Accepted m → slot_at (had_for w.number_b w.a).slots j ≡ slots.Travelling m) (sym (eqb-true link 0 z)) (λ f. (control w m k f).slot) e
+        subst (λ (j : ℕ). transit_at w.subnet w.number_a w.number_b j ≡ Accepted m → slot_at (had_for w.number_b w.a).slots j ≡ Slot.Travelling m) (sym (eqb-true link 0 z)) (λ f. (control w m k f).slot) e
     go false z = (a_text w link m z k e).slot
 
-lose_with : (w : Hosts) (umpire : Umpire) (link : ℕ) (m : List Bool) (as_what : Holds) → Both w umpire → transit_of A link w ≡ Accepted m → not_come (slots.Travelling m) as_what ≡ Some m
+lose_with : (w : Hosts) (umpire : Umpire) (link : ℕ) (m : List Bool) (as_what : Holds) → Both w umpire → transit_of A link w ≡ Accepted m → not_come (Slot.Travelling m) as_what ≡ Some m
     → Joined (record w { subnet = with_transit w.subnet w.number_a w.number_b link as_what }) → Ways w.number_a w.number_b (with_transit w.subnet w.number_a w.number_b link as_what) umpire
     → Both (record w { subnet = with_transit w.subnet w.number_a w.number_b link as_what }) umpire
 lose_with w umpire link m as_what k e l j ways = record {
@@ -564,38 +562,38 @@ lose_with w umpire link m as_what k e l j ways = record {
       (lost_here link m as_what (seen w) slot e l (view_in umpire.views w.number_a w.number_b) (view_in umpire.views w.number_b w.number_a).host.began (k.of_b f));
 }
   where
-    slot : slot_at (had_for w.number_b w.a).slots link ≡ slots.Travelling m
+    slot : slot_at (had_for w.number_b w.a).slots link ≡ Slot.Travelling m
     slot = out_slot w link m k.joined e
 
     is : seen (record w { subnet = with_transit w.subnet w.number_a w.number_b link as_what }) ≡ goes_lost link as_what (seen w)
     is = seen_with w k.joined.stand.differ link as_what w.a w.b (had_for w.number_b w.a) (had_for w.number_a w.b) refl refl
 
-lost : (w : Hosts) (umpire : Umpire) (link : ℕ) → Both w umpire → Both (after_note (note_of_loss A link w) w) umpire
-lost w umpire link k = go (transit_of A link w) refl (joined_after (events.Lose A link) (note_of_loss A link w) w refl k.joined)
+lost : (w : Hosts) (umpire : Umpire) (link : ℕ) → Both w umpire → Both (hosts_after_note (note_of_loss A link w) w) umpire
+lost w umpire link k = go (transit_of A link w) refl (joined_after (Event.Lose A link) (note_of_loss A link w) w refl k.joined)
   where
-    go : (h : OnLink) → transit_of A link w ≡ h → Joined (after_note (if is_accepted (transit_of A link w) then notes.Lost A link else notes.Nothing A link moves.Lose) w)
-        → Both (after_note (if is_accepted (transit_of A link w) then notes.Lost A link else notes.Nothing A link moves.Lose) w) umpire
-    go Free q j = subst (λ (h : OnLink). Both (after_note (if is_accepted h then notes.Lost A link else notes.Nothing A link moves.Lose) w) umpire) (sym q) k
-    go Delivered q j = subst (λ (h : OnLink). Both (after_note (if is_accepted h then notes.Lost A link else notes.Nothing A link moves.Lose) w) umpire) (sym q) k
-    go Lost q j = subst (λ (h : OnLink). Both (after_note (if is_accepted h then notes.Lost A link else notes.Nothing A link moves.Lose) w) umpire) (sym q) k
-    go Dead q j = subst (λ (h : OnLink). Both (after_note (if is_accepted h then notes.Lost A link else notes.Nothing A link moves.Lose) w) umpire) (sym q) k
+    go : (h : OnLink) → transit_of A link w ≡ h → Joined (hosts_after_note (if is_accepted (transit_of A link w) then Note.Lost A link else Note.Nothing A link Move.Lose) w)
+        → Both (hosts_after_note (if is_accepted (transit_of A link w) then Note.Lost A link else Note.Nothing A link Move.Lose) w) umpire
+    go Free q j = subst (λ (h : OnLink). Both (hosts_after_note (if is_accepted h then Note.Lost A link else Note.Nothing A link Move.Lose) w) umpire) (sym q) k
+    go Delivered q j = subst (λ (h : OnLink). Both (hosts_after_note (if is_accepted h then Note.Lost A link else Note.Nothing A link Move.Lose) w) umpire) (sym q) k
+    go Lost q j = subst (λ (h : OnLink). Both (hosts_after_note (if is_accepted h then Note.Lost A link else Note.Nothing A link Move.Lose) w) umpire) (sym q) k
+    go Dead q j = subst (λ (h : OnLink). Both (hosts_after_note (if is_accepted h then Note.Lost A link else Note.Nothing A link Move.Lose) w) umpire) (sym q) k
     go (Accepted m) q j =
-        subst (λ (h : OnLink). Both (after_note (if is_accepted h then notes.Lost A link else notes.Nothing A link moves.Lose) w) umpire) (sym q)
-        (lose_with w umpire link m Lost k q refl (subst (λ (h : OnLink). Joined (after_note (if is_accepted h then notes.Lost A link else notes.Nothing A link moves.Lose) w)) q j)
+        subst (λ (h : OnLink). Both (hosts_after_note (if is_accepted h then Note.Lost A link else Note.Nothing A link Move.Lose) w) umpire) (sym q)
+        (lose_with w umpire link m Lost k q refl (subst (λ (h : OnLink). Joined (hosts_after_note (if is_accepted h then Note.Lost A link else Note.Nothing A link Move.Lose) w)) q j)
         (ways_lost w.number_a w.number_b link m w.subnet umpire k.joined.stand.differ q k.ways))
 
-died : (w : Hosts) (umpire : Umpire) (link : ℕ) → Both w umpire → Both (after_note (note_of_death A link w) w) umpire
-died w umpire link k = go (transit_of A link w) refl (joined_after (events.Dead A link) (note_of_death A link w) w refl k.joined)
+died : (w : Hosts) (umpire : Umpire) (link : ℕ) → Both w umpire → Both (hosts_after_note (note_of_death A link w) w) umpire
+died w umpire link k = go (transit_of A link w) refl (joined_after (Event.Dead A link) (note_of_death A link w) w refl k.joined)
   where
-    go : (h : OnLink) → transit_of A link w ≡ h → Joined (after_note (if is_accepted (transit_of A link w) then notes.FoundDead A link else notes.Nothing A link moves.Dead) w)
-        → Both (after_note (if is_accepted (transit_of A link w) then notes.FoundDead A link else notes.Nothing A link moves.Dead) w) umpire
-    go Free q j = subst (λ (h : OnLink). Both (after_note (if is_accepted h then notes.FoundDead A link else notes.Nothing A link moves.Dead) w) umpire) (sym q) k
-    go Delivered q j = subst (λ (h : OnLink). Both (after_note (if is_accepted h then notes.FoundDead A link else notes.Nothing A link moves.Dead) w) umpire) (sym q) k
-    go Lost q j = subst (λ (h : OnLink). Both (after_note (if is_accepted h then notes.FoundDead A link else notes.Nothing A link moves.Dead) w) umpire) (sym q) k
-    go Dead q j = subst (λ (h : OnLink). Both (after_note (if is_accepted h then notes.FoundDead A link else notes.Nothing A link moves.Dead) w) umpire) (sym q) k
+    go : (h : OnLink) → transit_of A link w ≡ h → Joined (hosts_after_note (if is_accepted (transit_of A link w) then Note.FoundDead A link else Note.Nothing A link Move.Dead) w)
+        → Both (hosts_after_note (if is_accepted (transit_of A link w) then Note.FoundDead A link else Note.Nothing A link Move.Dead) w) umpire
+    go Free q j = subst (λ (h : OnLink). Both (hosts_after_note (if is_accepted h then Note.FoundDead A link else Note.Nothing A link Move.Dead) w) umpire) (sym q) k
+    go Delivered q j = subst (λ (h : OnLink). Both (hosts_after_note (if is_accepted h then Note.FoundDead A link else Note.Nothing A link Move.Dead) w) umpire) (sym q) k
+    go Lost q j = subst (λ (h : OnLink). Both (hosts_after_note (if is_accepted h then Note.FoundDead A link else Note.Nothing A link Move.Dead) w) umpire) (sym q) k
+    go Dead q j = subst (λ (h : OnLink). Both (hosts_after_note (if is_accepted h then Note.FoundDead A link else Note.Nothing A link Move.Dead) w) umpire) (sym q) k
     go (Accepted m) q j =
-        subst (λ (h : OnLink). Both (after_note (if is_accepted h then notes.FoundDead A link else notes.Nothing A link moves.Dead) w) umpire) (sym q)
-        (lose_with w umpire link m Dead k q refl (subst (λ (h : OnLink). Joined (after_note (if is_accepted h then notes.FoundDead A link else notes.Nothing A link moves.Dead) w)) q j)
+        subst (λ (h : OnLink). Both (hosts_after_note (if is_accepted h then Note.FoundDead A link else Note.Nothing A link Move.Dead) w) umpire) (sym q)
+        (lose_with w umpire link m Dead k q refl (subst (λ (h : OnLink). Joined (hosts_after_note (if is_accepted h then Note.FoundDead A link else Note.Nothing A link Move.Dead) w)) q j)
         (ways_dead w.number_a w.number_b link m w.subnet umpire k.joined.stand.differ q k.ways))
 
 -- ---- it is answered
@@ -605,8 +603,8 @@ record Told_how (w : Hosts) (link kind : ℕ) : Type 0 where
   h : Holds
   m : List Bool
   is : transit_at w.subnet w.number_a w.number_b link ≡ h
-  slot : slot_at (had_for w.number_b w.a).slots link ≡ slots.Travelling m
-  same : not_come (slot_answered (answer_of kind) (slots.Travelling m)) Free ≡ not_come (slots.Travelling m) h
+  slot : slot_at (had_for w.number_b w.a).slots link ≡ Slot.Travelling m
+  same : not_come (answered (answer_of kind) (Slot.Travelling m)) Free ≡ not_come (Slot.Travelling m) h
 
 told_how : (w : Hosts) (link kind : ℕ) → Joined w → answer_kind (transit_at w.subnet w.number_a w.number_b link) ≡ Some kind → Told_how w link kind
 told_how w link kind k e = go (transit_at w.subnet w.number_a w.number_b link) refl e
@@ -627,13 +625,13 @@ told_how w link kind k e = go (transit_at w.subnet w.number_a w.number_b link) r
         let o = dead-out link k.model.0 (seen w) k.model.1 q in
         subst (Told_how w link) is (record { h = Dead; m = o.message; is = q; slot = o.in_slot; same = refl })
 
-told : (w : Hosts) (umpire : Umpire) (link : ℕ) → Both w umpire → Shows nothing Both (comes_to w.number_a (answering w.number_b link (answer_kind (transit_of A link w)))) (after_note (note_of_answer A link w) w) umpire
-told w umpire link k = go (answer_kind (transit_of A link w)) refl (joined_after (events.Answer A link) (note_of_answer A link w) w refl k.joined)
+told : (w : Hosts) (umpire : Umpire) (link : ℕ) → Both w umpire → Shows nothing Both (comes_to w.number_a (answering w.number_b link (answer_kind (transit_of A link w)))) (hosts_after_note (note_of_answer A link w) w) umpire
+told w umpire link k = go (answer_kind (transit_of A link w)) refl (joined_after (Event.Answer A link) (note_of_answer A link w) w refl k.joined)
   where
     As : Option ℕ → Type 0
-    As o = Shows nothing Both (comes_to w.number_a (answering w.number_b link o)) (after_note (answered A link (answering w.number_b link o) w) w) umpire
+    As o = Shows nothing Both (comes_to w.number_a (answering w.number_b link o)) (hosts_after_note (note_of_answering A link (answering w.number_b link o) w) w) umpire
 
-    go : (o : Option ℕ) → answer_kind (transit_of A link w) ≡ o → Joined (after_note (note_of_answer A link w) w) → As (answer_kind (transit_of A link w))
+    go : (o : Option ℕ) → answer_kind (transit_of A link w) ≡ o → Joined (hosts_after_note (note_of_answer A link w) w) → As (answer_kind (transit_of A link w))
     go None q j = subst As (sym q) (refl, k)
     go (Some kind) q j = subst As (sym q) (as_none (record_findings umpire FromImp w.number_a (answer_bits kind w.number_b link)) way.none, both)
       where
@@ -646,17 +644,17 @@ told w umpire link k = go (answer_kind (transit_of A link w)) refl (joined_after
         way : Told w.number_a w.number_b link (answer_bits kind w.number_b link) w.subnet umpire
         way = ways_answer w.number_a w.number_b link kind (answer_bits kind w.number_b link) w.subnet umpire k.joined.stand.differ k.joined.stand.fits_a l.led l.not_regular l.is_one q k.ways
 
-        joined : Joined (after_note (notes.Answered A link (note_of_bits (answer_bits kind w.number_b link) w.a)) w)
-        joined = subst (λ (o : Option ℕ). Joined (after_note (answered A link (answering w.number_b link o) w) w)) q j
+        joined : Joined (hosts_after_note (Note.Answered A link (note_of_bits (answer_bits kind w.number_b link) w.a)) w)
+        joined = subst (λ (o : Option ℕ). Joined (hosts_after_note (note_of_answering A link (answering w.number_b link o) w) w)) q j
 
-        state : had_for w.number_b (after.after_note (note_of_bits (answer_bits kind w.number_b link) w.a) w.a) ≡ answer_comes link (answer_of kind) (had_for w.number_b w.a)
+        state : had_for w.number_b (after_note (note_of_bits (answer_bits kind w.number_b link) w.a) w.a) ≡ answer_comes link (answer_of kind) (had_for w.number_b w.a)
         state =
-            ap (λ (n : HostNote). had_for w.number_b (after.after_note n w.a)) (noted-answer w.a (answer_bits kind w.number_b link) (answer_leader kind w.number_b link) k.joined.stand.a l.led l.is_one)
+            ap (λ (n : HostNote). had_for w.number_b (after_note n w.a)) (noted-answer w.a (answer_bits kind w.number_b link) (answer_leader kind w.number_b link) k.joined.stand.a l.led l.is_one)
             ∙ had-changed w.number_b (answer_comes link (answer_of kind)) w.a k.joined.stand.a
 
-        is : seen (after_note (notes.Answered A link (note_of_bits (answer_bits kind w.number_b link) w.a)) w) ≡ is_told link (answer_of kind) (seen w)
+        is : seen (hosts_after_note (Note.Answered A link (note_of_bits (answer_bits kind w.number_b link) w.a)) w) ≡ is_told link (answer_of kind) (seen w)
         is =
-            seen_with w k.joined.stand.differ link Free (after.after_note (note_of_bits (answer_bits kind w.number_b link) w.a) w.a) w.b (answer_comes link (answer_of kind) (had_for w.number_b w.a)) (had_for w.number_a w.b) state refl
+            seen_with w k.joined.stand.differ link Free (after_note (note_of_bits (answer_bits kind w.number_b link) w.a) w.a) w.b (answer_comes link (answer_of kind) (had_for w.number_b w.a)) (had_for w.number_a w.b) state refl
 
         far : view_in (after_record umpire FromImp w.number_a (answer_bits kind w.number_b link)).views w.number_b w.number_a ≡ view_in umpire.views w.number_b w.number_a
         far = (other_leaves w.number_b w.number_a FromImp (answer_bits kind w.number_b link) umpire (a_b w umpire k)).views w.number_a k.joined.stand.fits_a
@@ -670,12 +668,12 @@ told w umpire link k = go (answer_kind (transit_of A link w)) refl (joined_after
         busy : umpire.full ≡ false → (link == 0) ≡ false → is_quiet (had_for w.number_b w.a).slots ≡ false
         busy f z = not_quiet (had_for w.number_b w.a) link (own_seen w umpire k f).used z (ap is_empty t.slot)
 
-        both : Both (after_note (notes.Answered A link (note_of_bits (answer_bits kind w.number_b link) w.a)) w) (after_record umpire FromImp w.number_a (answer_bits kind w.number_b link))
+        both : Both (hosts_after_note (Note.Answered A link (note_of_bits (answer_bits kind w.number_b link) w.a)) w) (after_record umpire FromImp w.number_a (answer_bits kind w.number_b link))
         both = record {
           joined = joined;
           ways = way.ways;
-          at_a = own.came w.number_a w.number_b w.a umpire (answer_bits kind w.number_b link) (b_a w umpire k) k.joined.stand.fits_a k.at_a;
-          at_b = own.elsewhere w.number_b w.number_a w.number_a FromImp (answer_bits kind w.number_b link) w.b umpire (a_b w umpire k) k.at_b;
+          at_a = came w.number_a w.number_b w.a umpire (answer_bits kind w.number_b link) (b_a w umpire k) k.joined.stand.fits_a k.at_a;
+          at_b = elsewhere w.number_b w.number_a w.number_a FromImp (answer_bits kind w.number_b link) w.b umpire (a_b w umpire k) k.at_b;
           of_a = λ f.
               subst (λ (x : World). Toward x (view_in (after_record umpire FromImp w.number_a (answer_bits kind w.number_b link)).views w.number_b w.number_a) (view_in (after_record umpire FromImp w.number_a (answer_bits kind w.number_b link)).views w.number_a w.number_b).host.began) (sym is)
               (subst (λ (x : View). Toward (is_told link (answer_of kind) (seen w)) x (view_in (after_record umpire FromImp w.number_a (answer_bits kind w.number_b link)).views w.number_a w.number_b).host.began) (sym far)
@@ -686,7 +684,7 @@ told w umpire link k = go (answer_kind (transit_of A link w)) refl (joined_after
               (subst (λ (x : View). Toward (swap (is_told link (answer_of kind) (seen w))) (view_in (after_record umpire FromImp w.number_a (answer_bits kind w.number_b link)).views w.number_a w.number_b) x.host.began) (sym far)
               (subst (λ (x : View). Toward (swap (is_told link (answer_of kind) (seen w))) x (view_in umpire.views w.number_b w.number_a).host.began) (sym near)
               (told_here link t.m (answer_of kind) t.h (seen w) t.slot t.is t.same (busy (open_before f)) (view_in umpire.views w.number_a w.number_b) (view_in umpire.views w.number_b w.number_a).host.began (counts_back w umpire k)
-              (counts (swap (is_told link (answer_of kind) (seen w))) (subst (λ (x : World). IsOfModel (swap x)) is (turned_joined (after_note (notes.Answered A link (note_of_bits (answer_bits kind w.number_b link) w.a)) w) joined).model)) (k.of_b (open_before f)))));
+              (counts (swap (is_told link (answer_of kind) (seen w))) (subst (λ (x : World). IsOfModel (swap x)) is (turned_joined (hosts_after_note (Note.Answered A link (note_of_bits (answer_bits kind w.number_b link) w.a)) w) joined).model)) (k.of_b (open_before f)))));
         }
 
 sides : OfA nothing Both
@@ -725,8 +723,8 @@ pub begins : (a b : ℕ) → a ≢ b → a < 256 → b < 256 → Both (new_hosts
 begins a b d k l = record {
   joined = new_joined a b d k l;
   ways = new_ways a b;
-  at_a = own.begins a b l;
-  at_b = own.begins b a k;
+  at_a = OwnSide.begins a b l;
+  at_b = OwnSide.begins b a k;
   of_a = λ f. new_toward (seen (new_hosts a b)) (view_in (new_umpire false).views b a) (view_in (new_umpire false).views a b) (new_had b) (new_had a) (new_seen b a) (new_seen a b);
   of_b = λ f. new_toward (swap (seen (new_hosts a b))) (view_in (new_umpire false).views a b) (view_in (new_umpire false).views b a) (new_had a) (new_had b) (new_seen a b) (new_seen b a);
 }
@@ -739,4 +737,4 @@ none_passes : AllPass nothing
 none_passes = all_pass nothing Both each_step begins
 
 pub none_found : NothingFound
-none_found a b given now differ k l steps = no_pass (found_in (new_umpire false) (world_file given now.notes (new_hosts a b))) (none_passes a b given now differ k l steps)
+none_found a b given now differ k l steps = no_pass (findings_in (new_umpire false) (world_file given now.notes (new_hosts a b))) (none_passes a b given now differ k l steps)

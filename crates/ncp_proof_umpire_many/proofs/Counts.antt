@@ -6,25 +6,23 @@ use Rattle.ncp_slot.specs.Slots.{slot_at}
 use Rattle.ncp_model.specs.Phase.{Phase, up}
 use Rattle.ncp_model.specs.Peers.{Peer}
 use Rattle.ncp_model.proofs.ResetLists.{bit, rsts, rrps, others, after_rst, rsts-append, rrps-append}
-use Rattle.ncp_proof_resets.specs.Resets.{on_line, is_up}
-use Rattle.ncp_proof_resets.specs.Resets as resets
+use Rattle.ncp_proof_resets.specs.Resets.{on_line, is_up, commands_underway}
 use Rattle.ncp_proof_resets.proofs.ResetKept.{Kept}
-use Rattle.ncp_proof_machine.specs.Hosts.{Event, run}
-use Rattle.ncp_proof_machine.specs.Hosts as hosts
+use Rattle.ncp_proof_machine.specs.Hosts.{NodeEvent, run, TwoNodes}
 use Rattle.ncp_proof_headline.proofs.HostsHeld.{ever}
 use Rattle.ncp_host.specs.PeerState.{PeerState}
-use Rattle.ncp_transcript_two.specs.Subnet.{Subnet}
+use Rattle.ncp_transcript_two.specs.Subnet.{TransitByLink}
 use Rattle.ncp_transcript_two.specs.World.{World}
 use Rattle.ncp_transcript_two.specs.Tie.{Reached, IsOfModel}
 use Rattle.ncp_transcript_two.specs.Underway.{not_come, commands_out, underway}
 use Rattle.ncp_transcript_two.proofs.Reaching.{of-reached}
 use Rattle.ncp_transcript_two.proofs.Underway.{underway-is}
 use Rattle.ncp_umpire.specs.declared.view.View.{View}
-use Rattle.ncp_umpire.specs.Views.{is_waiting}
+use Rattle.ncp_umpire.specs.Views.{awaits_reply}
 use Rattle.ncp_proof_umpire_many.proofs.PeerSeen.{Beside, Within}
 
 -- the commands of the message that went out and has not come
-abbrev pub line : PeerState → Subnet → List Command
+abbrev pub line : PeerState → TransitByLink → List Command
 line s u = commands_out (not_come (slot_at s.slots 0) (u 0))
 
 pub record Counts (v : World) : Type 0 where
@@ -33,25 +31,25 @@ pub record Counts (v : World) : Type 0 where
   pub still : after_rst (underway v.this v.going) ≡ []
   pub calm : up v.this.peer.phase ≡ false → others v.this.peer.phase.waiting ≡ []
 
-abbrev KeptIn : hosts.World → Type 0
+abbrev KeptIn : TwoNodes → Type 0
 KeptIn w = Kept w.this.host w.that.host (on_line w.this.control.slot w.this.control.subnet) (on_line w.that.control.slot w.that.control.subnet)
 
-kept_in : (w : hosts.World) → Reached w → KeptIn w
-kept_in w r = of-reached (λ (x : hosts.World). KeptIn x) (λ (es : List Event). (ever es).holds.joined.kept) w r
+kept_in : (w : TwoNodes) → Reached w → KeptIn w
+kept_in w r = of-reached (λ (x : TwoNodes). KeptIn x) (λ (es : List NodeEvent). (ever es).holds.joined.kept) w r
 
 pub counts : (v : World) → IsOfModel v → Counts v
 counts v m = record { there = there; back = back; still = still; calm = calm }
   where
-    w : hosts.World
+    w : TwoNodes
     w = m.0
 
     k : KeptIn w
     k = kept_in w m.1.reached
 
-    u_is : underway v.this v.going ≡ resets.underway w.this.host w.this.control
+    u_is : underway v.this v.going ≡ commands_underway w.this.host w.this.control
     u_is = underway-is v.there w.this v.this v.going m.1.this
 
-    x_is : underway v.that v.coming ≡ resets.underway w.that.host w.that.control
+    x_is : underway v.that v.coming ≡ commands_underway w.that.host w.that.control
     x_is = underway-is v.here w.that v.that v.coming m.1.that
 
     this_is : v.this.peer.phase ≡ w.this.host.phase
@@ -63,15 +61,15 @@ counts v m = record { there = there; back = back; still = still; calm = calm }
     there : rsts (underway v.this v.going) + bit v.that.peer.phase.owe + rrps (underway v.that v.coming) ≡ bit v.this.peer.phase.wait
     there =
         ap (λ (u : List Command). rsts u + bit v.that.peer.phase.owe + rrps (underway v.that v.coming)) u_is
-        ∙ ap (λ (u : List Command). rsts (resets.underway w.this.host w.this.control) + bit v.that.peer.phase.owe + rrps u) x_is
-        ∙ ap (λ (p : Phase). rsts (resets.underway w.this.host w.this.control) + bit p.owe + rrps (resets.underway w.that.host w.that.control)) that_is
+        ∙ ap (λ (u : List Command). rsts (commands_underway w.this.host w.this.control) + bit v.that.peer.phase.owe + rrps u) x_is
+        ∙ ap (λ (p : Phase). rsts (commands_underway w.this.host w.this.control) + bit p.owe + rrps (commands_underway w.that.host w.that.control)) that_is
         ∙ k.there.count ∙ ap (λ (p : Phase). bit p.wait) (sym this_is)
 
     back : rsts (underway v.that v.coming) + bit v.this.peer.phase.owe + rrps (underway v.this v.going) ≡ bit v.that.peer.phase.wait
     back =
         ap (λ (u : List Command). rsts u + bit v.this.peer.phase.owe + rrps (underway v.this v.going)) x_is
-        ∙ ap (λ (u : List Command). rsts (resets.underway w.that.host w.that.control) + bit v.this.peer.phase.owe + rrps u) u_is
-        ∙ ap (λ (p : Phase). rsts (resets.underway w.that.host w.that.control) + bit p.owe + rrps (resets.underway w.this.host w.this.control)) this_is
+        ∙ ap (λ (u : List Command). rsts (commands_underway w.that.host w.that.control) + bit v.this.peer.phase.owe + rrps u) u_is
+        ∙ ap (λ (p : Phase). rsts (commands_underway w.that.host w.that.control) + bit p.owe + rrps (commands_underway w.this.host w.this.control)) this_is
         ∙ k.here.count ∙ ap (λ (p : Phase). bit p.wait) (sym that_is)
 
     still : after_rst (underway v.this v.going) ≡ []
@@ -100,7 +98,7 @@ within_of v view c b = record {
     q : List Command
     q = v.that.peer.phase.waiting
 
-    waits : bit (is_waiting view.peer.wait) + rsts (underway v.this v.going) + rrps x ≡ bit v.this.peer.phase.wait
+    waits : bit (awaits_reply view.peer.wait) + rsts (underway v.this v.going) + rrps x ≡ bit v.this.peer.phase.wait
     waits = let e : rrps (underway v.that v.coming) ≡ rrps x + rrps q = rrps-append x q in let f = c.there in let g = b.waits in omega (arith, e, f, g)
 
     asked : view.peer.asked ≡ rsts x + bit v.this.peer.phase.owe + rrps (underway v.this v.going)
@@ -124,7 +122,7 @@ beside_of v view c b = record {
     q : List Command
     q = v.that.peer.phase.waiting
 
-    waits : bit (is_waiting view.peer.wait) ≡ bit v.that.peer.phase.owe + rrps q
+    waits : bit (awaits_reply view.peer.wait) ≡ bit v.that.peer.phase.owe + rrps q
     waits = let e : rrps (underway v.that v.coming) ≡ rrps x + rrps q = rrps-append x q in let f = c.there in let g = b.waits in omega (arith, e, f, g)
 
     asked : view.peer.asked + rsts q ≡ bit v.that.peer.phase.wait

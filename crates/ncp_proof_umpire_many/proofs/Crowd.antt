@@ -3,27 +3,26 @@ use Rattle.std.proofs.Common.{◌≡◌, ◌⊎◌, inl, inr, ℕ, ◌<◌, ◌=
 use Rattle.std.proofs.lemmas.Bool.Decides.{eqb_tells}
 use Rattle.ncp_leader.specs.Message.{Message}
 use Rattle.ncp_terms.specs.declared.command.Command.{Command}
-use Rattle.ncp_terms.specs.declared.command.Command.TheVariants as commands
 use Rattle.ncp_terms.specs.declared.fault.CommandFault.{CommandFault}
 use Rattle.ncp_umpire.specs.declared.view.View.{View}
 use Rattle.ncp_umpire.specs.declared.views.TheConstants.{VIEWS}
-use Rattle.ncp_umpire.specs.Messages.{is_unused, reading_of}
+use Rattle.ncp_umpire.specs.Messages.{is_unused, judged_reading}
 use Rattle.ncp_umpire.specs.declared.view.Wait.TheVariants.{Answered}
 use Rattle.ncp_umpire.specs.Tables.{index_of, view_in, with_view}
 use Rattle.ncp_umpire.specs.Views.{new_view}
-use Rattle.ncp_umpire.specs.Phases.{hears_reset, after_reset, after_reset_of_host, after_reset_of_peer, after_reply, after_reply_of_host, after_reply_of_peer, after_untold_reply, after_item, after_items, after_room}
+use Rattle.ncp_umpire.specs.Phases.{hears_reset, view_after_reset, after_reset_of_host, after_reset_of_peer, view_after_reply, after_reply_of_host, after_reply_of_peer, after_untold_reply, after_item, after_items, after_room}
 use Rattle.ncp_umpire.specs.Judged.{is_roomy, items_said, after_read}
 
 either : (b : Bool) (x y : View) (c : Bool) → x.crowded ≡ c → y.crowded ≡ c → (if b then x else y).crowded ≡ c
 either true x y c e f = e
 either false x y c e f = f
 
-reset_stays : (n : ℕ) (sent : Bool) (busy : Option ℕ) (zero : Bool) (v : View) → (after_reset (record { by = n; sent = sent; busy = busy; zero = zero }) v).crowded ≡ v.crowded
+reset_stays : (n : ℕ) (sent : Bool) (busy : Option ℕ) (zero : Bool) (v : View) → (view_after_reset (record { by = n; sent = sent; busy = busy; zero = zero }) v).crowded ≡ v.crowded
 reset_stays n sent busy zero v =
     either (hears_reset (record { by = n; sent = sent; busy = busy; zero = zero }) v) (if sent then after_reset_of_host (record { by = n; sent = sent; busy = busy; zero = zero }) v else after_reset_of_peer (record { by = n; sent = sent; busy = busy; zero = zero }) v) v v.crowded
     (either sent (after_reset_of_host (record { by = n; sent = sent; busy = busy; zero = zero }) v) (after_reset_of_peer (record { by = n; sent = sent; busy = busy; zero = zero }) v) v.crowded refl refl) refl
 
-reply_stays : (n : ℕ) (sent : Bool) (busy : Option ℕ) (zero : Bool) (v : View) → (after_reply (record { by = n; sent = sent; busy = busy; zero = zero }) v).crowded ≡ v.crowded
+reply_stays : (n : ℕ) (sent : Bool) (busy : Option ℕ) (zero : Bool) (v : View) → (view_after_reply (record { by = n; sent = sent; busy = busy; zero = zero }) v).crowded ≡ v.crowded
 reply_stays n sent busy zero v =
     either v.told (if sent then after_reply_of_host (record { by = n; sent = sent; busy = busy; zero = zero }) v else after_reply_of_peer v) (after_untold_reply (record { by = n; sent = sent; busy = busy; zero = zero }) v) v.crowded
     (either sent (after_reply_of_host (record { by = n; sent = sent; busy = busy; zero = zero }) v) (after_reply_of_peer v) v.crowded refl refl)
@@ -31,20 +30,20 @@ reply_stays n sent busy zero v =
 
 item_stays : (n : ℕ) (sent : Bool) (busy : Option ℕ) (zero : Bool) (item : Result Command CommandFault) (v : View) → (after_item (record { by = n; sent = sent; busy = busy; zero = zero }) item v).crowded ≡ v.crowded
 item_stays n sent busy zero (Err fault) v = refl
-item_stays n sent busy zero (Ok commands.Rst) v = reset_stays n sent busy zero v
-item_stays n sent busy zero (Ok commands.Rrp) v = reply_stays n sent busy zero v
-item_stays n sent busy zero (Ok commands.Nop) v = refl
-item_stays n sent busy zero (Ok (commands.Rts i j k)) v = refl
-item_stays n sent busy zero (Ok (commands.Str i j k)) v = refl
-item_stays n sent busy zero (Ok (commands.Cls i j)) v = refl
-item_stays n sent busy zero (Ok (commands.All i j k)) v = refl
-item_stays n sent busy zero (Ok (commands.Gvb i j k)) v = refl
-item_stays n sent busy zero (Ok (commands.Ret i j k)) v = refl
-item_stays n sent busy zero (Ok (commands.Inr i)) v = refl
-item_stays n sent busy zero (Ok (commands.Ins i)) v = refl
-item_stays n sent busy zero (Ok (commands.Eco i)) v = refl
-item_stays n sent busy zero (Ok (commands.Erp i)) v = refl
-item_stays n sent busy zero (Ok (commands.Err i j)) v = refl
+item_stays n sent busy zero (Ok Command.Rst) v = reset_stays n sent busy zero v
+item_stays n sent busy zero (Ok Command.Rrp) v = reply_stays n sent busy zero v
+item_stays n sent busy zero (Ok Command.Nop) v = refl
+item_stays n sent busy zero (Ok (Command.Rts i j k)) v = refl
+item_stays n sent busy zero (Ok (Command.Str i j k)) v = refl
+item_stays n sent busy zero (Ok (Command.Cls i j)) v = refl
+item_stays n sent busy zero (Ok (Command.All i j k)) v = refl
+item_stays n sent busy zero (Ok (Command.Gvb i j k)) v = refl
+item_stays n sent busy zero (Ok (Command.Ret i j k)) v = refl
+item_stays n sent busy zero (Ok (Command.Inr i)) v = refl
+item_stays n sent busy zero (Ok (Command.Ins i)) v = refl
+item_stays n sent busy zero (Ok (Command.Eco i)) v = refl
+item_stays n sent busy zero (Ok (Command.Erp i)) v = refl
+item_stays n sent busy zero (Ok (Command.Err i j)) v = refl
 
 items_stay : (n : ℕ) (sent : Bool) (busy : Option ℕ) (zero : Bool) (items : List (Result Command CommandFault)) (v : View) → (after_items (record { by = n; sent = sent; busy = busy; zero = zero }) items v).crowded ≡ v.crowded
 items_stay n sent busy zero [] v = refl
@@ -53,10 +52,10 @@ items_stay n sent busy zero (item ∷ items) v = items_stay n sent busy zero ite
 room_stays : (n : ℕ) (sent : Bool) (busy : Option ℕ) (zero : Bool) (room : Bool) (v : View) → (after_room (record { by = n; sent = sent; busy = busy; zero = zero }) room v).crowded ≡ v.crowded
 room_stays n sent busy zero room v = either (sent && room && not v.told) _ v v.crowded refl refl
 
-pub read_stays : (m : Message) (n : ℕ) (sent : Bool) (busy : Option ℕ) (zero : Bool) (v : View) → (after_read (reading_of m) (record { by = n; sent = sent; busy = busy; zero = zero }) m.text v).crowded ≡ v.crowded
+pub read_stays : (m : Message) (n : ℕ) (sent : Bool) (busy : Option ℕ) (zero : Bool) (v : View) → (after_read (judged_reading m) (record { by = n; sent = sent; busy = busy; zero = zero }) m.text v).crowded ≡ v.crowded
 read_stays m n sent busy zero v = go (is_unused m.leader.link) (m.leader.link == 0) (m.size == 8) refl refl refl
   where
-    go : (x y z : Bool) → is_unused m.leader.link ≡ x → (m.leader.link == 0) ≡ y → (m.size == 8) ≡ z → (after_read (reading_of m) (record { by = n; sent = sent; busy = busy; zero = zero }) m.text v).crowded ≡ v.crowded
+    go : (x y z : Bool) → is_unused m.leader.link ≡ x → (m.leader.link == 0) ≡ y → (m.size == 8) ≡ z → (after_read (judged_reading m) (record { by = n; sent = sent; busy = busy; zero = zero }) m.text v).crowded ≡ v.crowded
     go true y z e f g = rw e refl
     go false false z e f g = rw (e, f) refl
     go false true true e f g = rw (e, f, g) (room_stays n sent busy zero (is_roomy m.text) (after_items (record { by = n; sent = sent; busy = busy; zero = zero }) (items_said m.text) v) ∙ items_stay n sent busy zero (items_said m.text) v)

@@ -4,13 +4,12 @@ use Rattle.std.proofs.lemmas.Bool.{eq-eqb}
 use Rattle.ncp_host.specs.Host.{Host, is_one_of, are_distinct}
 use Rattle.ncp_host.specs.Turns.{next_output}
 use Rattle.ncp_subnet.specs.Messages.{from_host, answer_bits}
-use Rattle.ncp_transcript.specs.After as after
+use Rattle.ncp_transcript.specs.After.{after_note, after_notes}
 use Rattle.ncp_transcript.specs.declared.note.HostNote.{HostNote}
-use Rattle.ncp_transcript.specs.declared.note.HostNote.TheVariants as of_host
 use Rattle.ncp_transcript.specs.Noting.{note_of_bits}
-use Rattle.ncp_transcript.specs.Runs as runs
+use Rattle.ncp_transcript.specs.Runs.{IsHostRun}
 use Rattle.ncp_proof_runs.specs.Peers.{peer_of_leader}
-use Rattle.ncp_proof_runs.proofs.States.{Turn, is_there as peer_there}
+use Rattle.ncp_proof_runs.proofs.States.{Turn, peer_there}
 use Rattle.ncp_proof_runs.proofs.HostRuns.{Holds, out-turn, out-leader}
 use Rattle.ncp_proof_runs.proofs.EachPeer.{holds-after, new-holds}
 use Rattle.ncp_leader.specs.declared.leader.Leader.{Leader}
@@ -18,7 +17,6 @@ use Rattle.ncp_leader.specs.declared.leader.Short.{Short}
 use Rattle.std.proofs.Common.{Result}
 use Rattle.ncp_transcript_many.specs.declared.many_event.ManyEvent.{ManyEvent}
 use Rattle.ncp_transcript_many.specs.declared.many_note.ManyNote.{ManyNote}
-use Rattle.ncp_transcript_many.specs.declared.many_note.ManyNote.TheVariants as many
 use Rattle.ncp_transcript_many.specs.Crowd.{Crowd, numbers_in, is_there, others, new_crowd, host_at, after_many}
 use Rattle.ncp_transcript_many.specs.ManyHappening.{are_two, ManyNoted}
 use Rattle.ncp_transcript_many.specs.Pairs.{with_peer, two_of, note_at_host}
@@ -33,9 +31,9 @@ use Rattle.ncp_proof_umpire_many.specs.ManyFiles.{passing}
 abbrev pub Whole : Crowd → Type 0
 Whole m = (k : ℕ) → is_there k m ≡ true → Holds (others k (numbers_in m)) (host_at k m)
 
-holds_run : (ns : List ℕ) (noted : List HostNote) (h : Host) → Holds ns h → runs.IsRun noted h → Holds ns (after.after_notes noted h)
+holds_run : (ns : List ℕ) (noted : List HostNote) (h : Host) → Holds ns h → IsHostRun noted h → Holds ns (after_notes noted h)
 holds_run ns [] h k r = k
-holds_run ns (n ∷ noted) h k r = holds_run ns noted (after.after_note n h) (holds-after ns n h k r.0) r.1
+holds_run ns (n ∷ noted) h k r = holds_run ns noted (after_note n h) (holds-after ns n h k r.0) r.1
 
 pub whole_after : (event : ManyEvent) (n : ManyNote) (m : Crowd) → ManyNoted event n m → Whole m → Whole (after_many n m)
 whole_after event n m noted w k there =
@@ -69,7 +67,7 @@ About m n = (passing n ≡ []) ⊎ OfTwo m n
 differs : (c d : ℕ) → not (c == d) ≡ true → c ≢ d
 differs c d e same = let nay : true ≡ false = sym e ∙ ap not (eq-eqb c d same) in absurd (cc)
 
-goes_about : (m : Crowd) (host : ℕ) (message : List Bool) → Whole m → is_there host m ≡ true → next_output (host_at host m) ≡ Some message → About m (many.Out host (of_host.Out message))
+goes_about : (m : Crowd) (host : ℕ) (message : List Bool) → Whole m → is_there host m ≡ true → next_output (host_at host m) ≡ Some message → About m (ManyNote.Out host (HostNote.Out message))
 goes_about m host message w there next =
     let own : Holds (others host (numbers_in m)) (host_at host m) = w host there in
     let t : Turn (host_at host m).peers message = out-turn (others host (numbers_in m)) (host_at host m) message own next in
@@ -93,10 +91,10 @@ kinds m w = record {
   called = λ host call n there noted fits. inl refl;
   goes = λ host message there next. goes_about m host message w there next;
   still = λ host there next. inl refl;
-  came = λ from to link y two there. two_about m from to (many.Came from to link (note_of_bits (from_host from y) (host_at to m))) two refl;
+  came = λ from to link y two there. two_about m from to (ManyNote.Came from to link (note_of_bits (from_host from y) (host_at to m))) two refl;
   lost = λ from to link two there. inl refl;
   dead = λ from to link two there. inl refl;
-  answered = λ from to link kind two there. two_about m from to (many.Answered from to link (note_of_bits (answer_bits kind to link) (host_at from m))) two refl;
+  answered = λ from to link kind two there. two_about m from to (ManyNote.Answered from to link (note_of_bits (answer_bits kind to link) (host_at from m))) two refl;
   never_came = λ from to link two none. inl refl;
   never_lost = λ from to link two none. inl refl;
   never_dead = λ from to link two none. inl refl;

@@ -11,7 +11,7 @@ use Rattle.ncp_slot.specs.Slots.{slot_at}
 use Rattle.ncp_subnet.specs.Ways.{OnLink}
 use Rattle.ncp_host.specs.PeerState.{PeerState}
 use Rattle.ncp_host.specs.Host.{Host, state_of, is_one_of}
-use Rattle.ncp_proof_runs.proofs.States.{is_there}
+use Rattle.ncp_proof_runs.proofs.States.{peer_there}
 use Rattle.ncp_proof_runs.proofs.HostRuns.{Holds}
 use Rattle.ncp_transcript_two.specs.Between.{Hosts}
 use Rattle.ncp_transcript_two.specs.Seen.{seen}
@@ -22,11 +22,11 @@ use Rattle.ncp_umpire.specs.declared.view.View.{View}
 use Rattle.ncp_umpire.specs.declared.way.Way.{Way}
 use Rattle.ncp_umpire.specs.declared.way.Way.TheVariants.{ToImp, FromImp}
 use Rattle.ncp_umpire.specs.Events.{is_answer, event_behind}
-use Rattle.ncp_umpire.specs.Messages.{reading_of}
+use Rattle.ncp_umpire.specs.Messages.{judged_reading}
 use Rattle.ncp_umpire.specs.Slots.{is_of, place_of, gone_out, has_room, with_out}
 use Rattle.ncp_umpire.specs.Tables.{index_of, view_in, with_view}
 use Rattle.ncp_umpire.specs.Views.{new_view}
-use Rattle.ncp_umpire.specs.Judged.{has_seen, sees, view_of, slot_of, same_of, view_after_out, fresh_out, after_out, with_answer, after_answer, judges_coming, with_coming, after_in, turn_at, after_read, after_said, after_event, after_record}
+use Rattle.ncp_umpire.specs.Judged.{has_seen, sees, view_of, slot_of_link, same_of, view_after_out, fresh_out, umpire_after_out, with_answer, umpire_after_answer, judges_coming, with_coming, after_in, turn_at, after_read, after_said, after_event, after_record}
 use Rattle.ncp_proof_umpire.proofs.PhaseSeen.{view_length, Seen}
 use Rattle.ncp_proof_umpire.proofs.Shown.{Shows, after_answering, after_coming}
 use Rattle.ncp_proof_umpire_many.proofs.Tells.{Tells, keys_apart, others_go}
@@ -82,7 +82,7 @@ said_spares a b at peer by sent true (Ok m) x p s n = record {
   full = λ e. e;
   sound = λ k. sound_said x at peer by sent true (Ok m) k;
   seen = λ host k e. e;
-  view = place_other x.views at peer a b (after_read (reading_of m) (turn_at x at peer by sent) m.text (view_of x at peer)) p s n;
+  view = place_other x.views at peer a b (after_read (judged_reading m) (turn_at x at peer by sent) m.text (view_of x at peer)) p s n;
   kept = λ e on. refl;
 }
 said_spares a b at peer by sent false (Ok m) x p s n = still a b x
@@ -92,11 +92,11 @@ has_place : (b : Bool) → not b ≡ false → b ≡ true
 has_place true e = refl
 has_place false e = absurd (cc)
 
-out_spares : (a b at peer on : ℕ) (bits : List Bool) (x : Umpire) → peer < 256 → b < 256 → IsOfOthers a b at peer → Spares a b x (after_out x at peer on bits)
+out_spares : (a b at peer on : ℕ) (bits : List Bool) (x : Umpire) → peer < 256 → b < 256 → IsOfOthers a b at peer → Spares a b x (umpire_after_out x at peer on bits)
 out_spares a b at peer on bits x p s n = go x.full refl
   where
     view : View
-    view = view_after_out (view_in x.views at peer) (slot_of x at peer on) (same_of x at peer on bits)
+    view = view_after_out (view_in x.views at peer) (slot_of_link x at peer on) (same_of x at peer on bits)
 
     now : Umpire
     now = record x { full = not (has_room x.kept (place_of at peer on x.kept)); views = with_view x.views at peer view; kept = with_out x.kept (place_of at peer on x.kept) (gone_out at peer on bits) }
@@ -124,7 +124,7 @@ in_spares a b at peer on x n = go (judges_coming x at peer)
     }
     go false = still a b x
 
-answer_spares : (a b at peer on kind : ℕ) (x : Umpire) → IsOfOthers a b at peer → Spares a b x (after_answer x kind at peer on)
+answer_spares : (a b at peer on kind : ℕ) (x : Umpire) → IsOfOthers a b at peer → Spares a b x (umpire_after_answer x kind at peer on)
 answer_spares a b at peer on kind x n = go x.full
   where
     known : Bool
@@ -150,11 +150,11 @@ record_spares a b at way bits leader umpire l p s led n =
     U : Umpire
     U = sees umpire at
 
-    out : (on : ℕ) → Spares a b U (after_said (after_out U at leader.host on bits) at leader.host (turn_at (after_out U at leader.host on bits) at leader.host at true) (fresh_out U at leader.host on bits) (message_in bits))
+    out : (on : ℕ) → Spares a b U (after_said (umpire_after_out U at leader.host on bits) at leader.host (turn_at (umpire_after_out U at leader.host on bits) at leader.host at true) (fresh_out U at leader.host on bits) (message_in bits))
     out on =
-        spares_both a b U (after_out U at leader.host on bits) (after_said (after_out U at leader.host on bits) at leader.host (turn_at (after_out U at leader.host on bits) at leader.host at true) (fresh_out U at leader.host on bits) (message_in bits))
+        spares_both a b U (umpire_after_out U at leader.host on bits) (after_said (umpire_after_out U at leader.host on bits) at leader.host (turn_at (umpire_after_out U at leader.host on bits) at leader.host at true) (fresh_out U at leader.host on bits) (message_in bits))
         (out_spares a b at leader.host on bits U p s n)
-        (said_spares a b at leader.host at true (fresh_out U at leader.host on bits) (message_in bits) (after_out U at leader.host on bits) p s n)
+        (said_spares a b at leader.host at true (fresh_out U at leader.host on bits) (message_in bits) (umpire_after_out U at leader.host on bits) p s n)
 
     come : (on : ℕ) → Spares a b U (after_said (after_in U at leader.host on) at leader.host (turn_at (after_in U at leader.host on) at leader.host leader.host false) true (message_in bits))
     come on =
@@ -189,7 +189,7 @@ way_spared a b t umpire now k s w = record {
 
 -- the only peer
 only : (n : ℕ) (h : Host) → Holds (n ∷ []) h → (m : ℕ) (s : PeerState) → state_of h m ≡ Some s → n ≡ m
-only n h k m s there = go (n == m) refl (sym (ap (is_one_of m) k.numbers) ∙ is_there h.peers m s there)
+only n h k m s there = go (n == m) refl (sym (ap (is_one_of m) k.numbers) ∙ peer_there h.peers m s there)
   where
     go : (c : Bool) → (n == m) ≡ c → (c || false) ≡ true → n ≡ m
     go true e f = eqb-true n m e

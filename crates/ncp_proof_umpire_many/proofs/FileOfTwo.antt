@@ -2,7 +2,7 @@
 use Rattle.std.proofs.Common.{◌≡◌, ℕ, Bool, List, [], ◌∷◌, ◌++◌, map, refl, sym, ap, ◌∙◌, subst}
 use Rattle.ncp_transcript_two.specs.declared.event.Event.{Event}
 use Rattle.ncp_transcript_two.specs.declared.note.Note.{Note}
-use Rattle.ncp_transcript_two.specs.Between.{Hosts, new_hosts, after_note}
+use Rattle.ncp_transcript_two.specs.Between.{Hosts, new_hosts, hosts_after_note}
 use Rattle.ncp_transcript_two.specs.Transcript.{AreNotes, new_world}
 use Rattle.ncp_umpire.specs.declared.way.Way.{Way}
 use Rattle.ncp_transcript_many.specs.ManyHappening.{by_numbers}
@@ -18,11 +18,11 @@ file_is [] [] w n j = refl
 file_is [] (note ∷ noted) w n j = absurd n
 file_is (event ∷ happened) [] w n j = absurd n
 file_is (event ∷ happened) (note ∷ noted) w n j =
-    let later = file_is happened noted (after_note note w) n.1 (joined_after event note w n.0 j) in
+    let later = file_is happened noted (hosts_after_note note w) n.1 (joined_after event note w n.0 j) in
     ap (λ (xs : List (ℕ × Way × List Bool)). xs ++ many_file (map (by_numbers w.number_a w.number_b) noted)) (passes_fit event note w n.0 j).0
     ∙ ap (λ (xs : List (ℕ × Way × List Bool)). passes_between event note w ++ xs)
     (ap (λ (x : ℕ). many_file (map (by_numbers x w.number_b) noted)) (sym (a-stays (note ∷ []) w))
-    ∙ ap (λ (x : ℕ). many_file (map (by_numbers (after_note note w).number_a x) noted)) (sym (b-stays (note ∷ []) w))
+    ∙ ap (λ (x : ℕ). many_file (map (by_numbers (hosts_after_note note w).number_a x) noted)) (sym (b-stays (note ∷ []) w))
     ∙ later)
 
 pub two_of_many : FileOfTwo

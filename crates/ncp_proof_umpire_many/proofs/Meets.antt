@@ -10,14 +10,14 @@ use Rattle.ncp_model.specs.Phase.{Phase}
 use Rattle.ncp_host.specs.Output.{leader_to}
 use Rattle.ncp_umpire.specs.declared.finding.Finding.{Finding}
 use Rattle.ncp_umpire.specs.declared.finding.Rule.{Rule}
-use Rattle.ncp_umpire.specs.declared.finding.Thing.TheVariants as a_thing
+use Rattle.ncp_umpire.specs.declared.finding.Thing.{Thing}
 use Rattle.ncp_umpire.specs.declared.umpire.Umpire.{Umpire}
 use Rattle.ncp_umpire.specs.declared.view.View.{View}
 use Rattle.ncp_umpire.specs.declared.views.TheConstants.{VIEWS}
 use Rattle.ncp_umpire.specs.declared.way.Way.TheVariants.{FromImp}
 use Rattle.ncp_umpire.specs.Slots.{busy_link}
 use Rattle.ncp_umpire.specs.Tables.{view_in}
-use Rattle.ncp_umpire.specs.Messages.{is_unused, reading_of, rule_of_message}
+use Rattle.ncp_umpire.specs.Messages.{is_unused, judged_reading, rule_of_message}
 use Rattle.ncp_umpire.specs.Phases.{early_finding, items_findings, after_items}
 use Rattle.ncp_umpire.specs.Judged.{by_host, sees, view_of, knows_zero, unsent_finding, after_in, turn_at, read_findings, after_read, said_findings, message_findings, after_said, record_findings, after_record}
 use Rattle.ncp_umpire.proofs.Following.{in_is, said_keeps}
@@ -54,18 +54,18 @@ module _ (me n on : ℕ) (bits : List Bool) (x : Message) (u : Umpire) (differ :
   full_as : A.full ≡ u.full
   full_as = in_full (sees u me) me n on
 
-  pub found : record_findings u FromImp me bits ≡ read_findings (reading_of x) (record { by = n; sent = false; busy = busy; zero = knows_zero A me n }) x.text first
+  pub found : record_findings u FromImp me bits ≡ read_findings (judged_reading x) (record { by = n; sent = false; busy = busy; zero = knows_zero A me n }) x.text first
   found =
       in_found u me n on bits led differ
       ∙ ap (λ (o : Option Finding). option_to_list o ++ message_findings A me n (turn_at A me n n false) true on bits) sent
       ∙ ap (λ (o : Option Rule). option_to_list (option_map (by_host n) o) ++ said_findings A me n (turn_at A me n n false) true (message_in bits)) laid
       ∙ ap (λ (r : Result Message MessageFault). said_findings A me n (turn_at A me n n false) true r) read
 
-  pub view_now : view_in (after_record u FromImp me bits).views me n ≡ after_read (reading_of x) (record { by = n; sent = false; busy = busy; zero = knows_zero A me n }) x.text first
+  pub view_now : view_in (after_record u FromImp me bits).views me n ≡ after_read (judged_reading x) (record { by = n; sent = false; busy = busy; zero = knows_zero A me n }) x.text first
   view_now =
       ap (λ (y : Umpire). view_in y.views me n) (in_is u me bits (leader_to n on) false led differ refl refl)
       ∙ ap (λ (r : Result Message MessageFault). view_in (after_said A me n (turn_at A me n n false) true r).views me n) read
-      ∙ view_same A.views me n (after_read (reading_of x) (record { by = n; sent = false; busy = busy; zero = knows_zero A me n }) x.text first) (ap (λ (z : List View). length z) views ∙ long) small few
+      ∙ view_same A.views me n (after_read (judged_reading x) (record { by = n; sent = false; busy = busy; zero = knows_zero A me n }) x.text first) (ap (λ (z : List View). length z) views ∙ long) small few
 
   pub full_same : (after_record u FromImp me bits).full ≡ u.full
   full_same = ap (λ (y : Umpire). y.full) (in_is u me bits (leader_to n on) false led differ refl refl) ∙ (said_keeps A me n (turn_at A me n n false) true (message_in bits)).1 ∙ full_as
@@ -81,7 +81,7 @@ module _ (me n on : ℕ) (bits : List Bool) (x : Message) (u : Umpire) (differ :
   pub commands_found : (cs : List Command) → All IsCommand cs → x ≡ control_of n cs
       → (u.full ≡ false → items_findings (record { by = n; sent = false; busy = busy; zero = knows_zero A me n }) (items_of cs None) first ≡ [])
       → record_findings u FromImp me bits ≡ []
-  commands_found cs k is none = found ∙ ap (λ (y : Message). read_findings (reading_of y) (record { by = n; sent = false; busy = busy; zero = knows_zero A me n }) y.text first) is ∙ control_found n n busy (knows_zero A me n) cs first k ∙ go u.full refl
+  commands_found cs k is none = found ∙ ap (λ (y : Message). read_findings (judged_reading y) (record { by = n; sent = false; busy = busy; zero = knows_zero A me n }) y.text first) is ∙ control_found n n busy (knows_zero A me n) cs first k ∙ go u.full refl
     where
       go : (b : Bool) → u.full ≡ b → items_findings (record { by = n; sent = false; busy = busy; zero = knows_zero A me n }) (items_of cs None) first ≡ []
       go false f = none f
@@ -90,14 +90,14 @@ module _ (me n on : ℕ) (bits : List Bool) (x : Message) (u : Umpire) (differ :
           ∙ all_untold n busy cs first (not_told A me n (full_as ∙ f))
 
   pub commands_view : (cs : List Command) → All IsCommand cs → x ≡ control_of n cs → view_in (after_record u FromImp me bits).views me n ≡ after_items (record { by = n; sent = false; busy = busy; zero = knows_zero A me n }) (items_of cs None) first
-  commands_view cs k is = view_now ∙ ap (λ (y : Message). after_read (reading_of y) (record { by = n; sent = false; busy = busy; zero = knows_zero A me n }) y.text first) is ∙ control_view n n busy (knows_zero A me n) cs first k
+  commands_view cs k is = view_now ∙ ap (λ (y : Message). after_read (judged_reading y) (record { by = n; sent = false; busy = busy; zero = knows_zero A me n }) y.text first) is ∙ control_view n n busy (knows_zero A me n) cs first k
 
   -- a text
-  pub text_none : is_unused x.leader.link ≡ false → (x.leader.link == 0) ≡ false → (u.full ≡ false → early_finding (record { by = n; sent = false; busy = busy; zero = knows_zero A me n }) a_thing.Text first ≡ None)
+  pub text_none : is_unused x.leader.link ≡ false → (x.leader.link == 0) ≡ false → (u.full ≡ false → early_finding (record { by = n; sent = false; busy = busy; zero = knows_zero A me n }) Thing.Text first ≡ None)
       → record_findings u FromImp me bits ≡ []
   text_none right z none = found ∙ text_found n busy (knows_zero A me n) false x first right z ∙ ap option_to_list (go u.full refl)
     where
-      go : (b : Bool) → u.full ≡ b → early_finding (record { by = n; sent = false; busy = busy; zero = knows_zero A me n }) a_thing.Text first ≡ None
+      go : (b : Bool) → u.full ≡ b → early_finding (record { by = n; sent = false; busy = busy; zero = knows_zero A me n }) Thing.Text first ≡ None
       go false f = none f
       go true f = untold_text n busy (knows_zero A me n) first (not_told A me n (full_as ∙ f))
 
@@ -115,7 +115,7 @@ module _ (me n on : ℕ) (bits : List Bool) (x : Message) (u : Umpire) (differ :
   )
 
   pub text_comes : is_unused x.leader.link ≡ false → (x.leader.link == 0) ≡ false → (u.full ≡ false → v.told ≡ true)
-      → (u.full ≡ false → (w : View) (b : Option ℕ) (z : Bool) → Alike v w → early_finding (record { by = n; sent = false; busy = b; zero = z }) a_thing.Text w ≡ None)
+      → (u.full ≡ false → (w : View) (b : Option ℕ) (z : Bool) → Alike v w → early_finding (record { by = n; sent = false; busy = b; zero = z }) Thing.Text w ≡ None)
       → (record_findings u FromImp me bits ≡ []) × (u.full ≡ false → Alike v (view_in (after_record u FromImp me bits).views me n))
   text_comes right z told early = (
     text_none right z (λ f. early f first busy (knows_zero A me n) (alike (told f) f)),

@@ -9,7 +9,7 @@ use Rattle.ncp_terms.specs.declared.command.Command.{Command}
 use Rattle.ncp_terms.specs.Spelling.{spellings}
 use Rattle.ncp_control.specs.Reading.{commands_in}
 use Rattle.ncp_control.proofs.Reading.{spellings_small, spelled_alone}
-use Rattle.ncp_slot.specs.declared.slot.Slot.TheVariants as host
+use Rattle.ncp_slot.specs.declared.slot.Slot.{Slot}
 use Rattle.ncp_slot.specs.Slot.{is_empty}
 use Rattle.ncp_slot.specs.Slots.{LinkSlot, slot_at, is_quiet}
 use Rattle.ncp_slot.proofs.Places.{slot_at-with_slot_same, slot_at-with_slot_other}
@@ -18,8 +18,7 @@ use Rattle.ncp_model.specs.Act.{answer}
 use Rattle.ncp_model.specs.End.{End}
 use Rattle.ncp_model.specs.Ends.{Ends, hears_link, sender_on, pair_of, cut_at, cut_in}
 use Rattle.ncp_model.specs.Sending.{next_commands}
-use Rattle.ncp_model.specs.Peers.{Peer}
-use Rattle.ncp_model.specs.Peers as peers
+use Rattle.ncp_model.specs.Peers.{Peer, cuts, peer_sends}
 use Rattle.ncp_model.proofs.LinksLead.{led}
 use Rattle.ncp_model.proofs.ResetLists.{others}
 use Rattle.ncp_host.specs.PeerState.{PeerState}
@@ -32,7 +31,7 @@ use Rattle.ncp_transcript_two.proofs.Written.{read, control_text}
 use Rattle.ncp_proof_runs.proofs.MadeOfRuns.{next-first}
 use Rattle.ncp_umpire.specs.declared.view.Side.{Side}
 use Rattle.ncp_umpire.specs.declared.view.View.{View}
-use Rattle.ncp_umpire.specs.Views.{is_waiting}
+use Rattle.ncp_umpire.specs.Views.{awaits_reply}
 use Rattle.ncp_proof_umpire.proofs.Phased.{Phased}
 use Rattle.ncp_proof_umpire.proofs.PhaseSteps.{Unheard, none_heard, Stands}
 use Rattle.ncp_proof_umpire.proofs.PhaseSeen.{quiet_filled, quiet_zero}
@@ -97,38 +96,38 @@ heard_some m on t u e = go (sender_on on m) refl e
 -- the line after it: a message on link 0, and one on another link
 
 line_zero : (m : List Bool) (v : World) → line (goes_on 0 m v).this (goes_on 0 m v).going ≡ commands_of m
-line_zero m v = ap (λ (x : LinkSlot). commands_out (not_come x (Accepted m))) (slot_at-with_slot_same v.this.slots 0 (host.Travelling m))
+line_zero m v = ap (λ (x : LinkSlot). commands_out (not_come x (Accepted m))) (slot_at-with_slot_same v.this.slots 0 (Slot.Travelling m))
 
 pub not_zero : (on : ℕ) → (on == 0) ≡ false → (0 == on) ≡ false
 not_zero on z = ne_eqb 0 on (λ e. let nay : true ≡ false = sym (eq-eqb on 0 (sym e)) ∙ z in absurd (cc))
 
 line_other : (on : ℕ) (m : List Bool) (v : World) → (on == 0) ≡ false → line (goes_on on m v).this (goes_on on m v).going ≡ line v.this v.going
 line_other on m v z =
-    ap (λ (x : LinkSlot). commands_out (not_come x (if 0 == on then Accepted m else v.going 0))) (slot_at-with_slot_other v.this.slots on (host.Travelling m) 0 (λ e. let nay : true ≡ false = sym (eq-eqb on 0 (sym e)) ∙ z in absurd (cc)))
+    ap (λ (x : LinkSlot). commands_out (not_come x (if 0 == on then Accepted m else v.going 0))) (slot_at-with_slot_other v.this.slots on (Slot.Travelling m) 0 (λ e. let nay : true ≡ false = sym (eq-eqb on 0 (sym e)) ∙ z in absurd (cc)))
     ∙ ap (λ (b : Bool). commands_out (not_come (slot_at v.this.slots 0) (if b then Accepted m else v.going 0))) (not_zero on z)
 
 -- again
-line_again : (on : ℕ) (m : List Bool) (v : World) → slot_at v.this.slots on ≡ host.Ready m → line (goes_on on m v).this (goes_on on m v).going ≡ line v.this v.going
+line_again : (on : ℕ) (m : List Bool) (v : World) → slot_at v.this.slots on ≡ Slot.Ready m → line (goes_on on m v).this (goes_on on m v).going ≡ line v.this v.going
 line_again on m v e = go (on == 0) refl
   where
-    zero_on : slot_at v.this.slots 0 ≡ host.Ready m → line (goes_on 0 m v).this (goes_on 0 m v).going ≡ line v.this v.going
+    zero_on : slot_at v.this.slots 0 ≡ Slot.Ready m → line (goes_on 0 m v).this (goes_on 0 m v).going ≡ line v.this v.going
     zero_on e = line_zero m v ∙ ap (λ (x : LinkSlot). commands_out (not_come x (v.going 0))) (sym e)
 
     go : (b : Bool) → (on == 0) ≡ b → line (goes_on on m v).this (goes_on on m v).going ≡ line v.this v.going
-    go true z = subst (λ (j : ℕ). slot_at v.this.slots j ≡ host.Ready m → line (goes_on j m v).this (goes_on j m v).going ≡ line v.this v.going) (sym (eqb-true on 0 z)) zero_on e
+    go true z = subst (λ (j : ℕ). slot_at v.this.slots j ≡ Slot.Ready m → line (goes_on j m v).this (goes_on j m v).going ≡ line v.this v.going) (sym (eqb-true on 0 z)) zero_on e
     go false z = line_other on m v z
 
 module _ (on : ℕ) (m : List Bool) (v : World) where
   abbrev pub now : World
   now = goes_on on m v
 
-  quiet_again : slot_at v.this.slots on ≡ host.Ready m → is_quiet now.this.slots ≡ is_quiet v.this.slots
-  quiet_again e = quiet_filled v.this.slots on (host.Travelling m) (sym (ap is_empty e))
+  quiet_again : slot_at v.this.slots on ≡ Slot.Ready m → is_quiet now.this.slots ≡ is_quiet v.this.slots
+  quiet_again e = quiet_filled v.this.slots on (Slot.Travelling m) (sym (ap is_empty e))
 
-  peer_again : slot_at v.this.slots on ≡ host.Ready m → now.this.peer ≡ v.this.peer
+  peer_again : slot_at v.this.slots on ≡ Slot.Ready m → now.this.peer ≡ v.this.peer
   peer_again e = ap (λ (x : LinkSlot). after_by x on v.this.peer) e
 
-  pub again_there : (view : View) (began after : Bool) → slot_at v.this.slots on ≡ host.Ready m → after ≡ began → Toward v view began → Toward now view after
+  pub again_there : (view : View) (began after : Bool) → slot_at v.this.slots on ≡ Slot.Ready m → after ≡ began → Toward v view began → Toward now view after
   again_there view began after e same t = record {
     beside = t.beside;
     calm = λ x. ap others (line_again on m v e) ∙ t.calm x;
@@ -136,18 +135,18 @@ module _ (on : ℕ) (m : List Bool) (v : World) where
     opens = λ x. subst (λ (cs : List Command). Opens cs after) (sym (line_again on m v e)) (subst (Opens (line v.this v.going)) (sym same) (t.opens x));
   }
 
-  pub again_here : (view next : View) (began : Bool) → slot_at v.this.slots on ≡ host.Ready m → Alike view next → Toward (swap v) view began → Toward (swap now) next began
+  pub again_here : (view next : View) (began : Bool) → slot_at v.this.slots on ≡ Slot.Ready m → Alike view next → Toward (swap v) view began → Toward (swap now) next began
   again_here view next began e a t = record {
     beside = subst (λ (p : Peer). Beside p.phase next) (sym (peer_again e)) (beside_alike v.this.peer.phase view next a t.beside);
-    calm = λ x. t.calm (ap (λ (s : Side). is_waiting s.wait) (sym a.peer) ∙ x);
+    calm = λ x. t.calm (ap (λ (s : Side). awaits_reply s.wait) (sym a.peer) ∙ x);
     bare = λ x. let b = t.bare (ap (λ (s : Side). s.began) (sym a.peer) ∙ x) in record { unheard = b.unheard; this_quiet = b.this_quiet; that_quiet = quiet_again e ∙ b.that_quiet; none = ap others (line_again on m v e) ∙ b.none };
     opens = λ x. t.opens (ap (λ (s : Side). s.began) (sym a.peer) ∙ x);
   }
 
   -- a text
 
-  peer_text : slot_at v.this.slots on ≡ host.Empty → (on == 0) ≡ false → now.this.peer ≡ peers.cuts on v.this.peer
-  peer_text e z = ap (λ (x : LinkSlot). after_by x on v.this.peer) e ∙ ap (λ (b : Bool). if b then peers.sends v.this.peer else peers.cuts on v.this.peer) z
+  peer_text : slot_at v.this.slots on ≡ Slot.Empty → (on == 0) ≡ false → now.this.peer ≡ cuts on v.this.peer
+  peer_text e z = ap (λ (x : LinkSlot). after_by x on v.this.peer) e ∙ ap (λ (b : Bool). if b then peer_sends v.this.peer else cuts on v.this.peer) z
 
   pub text_there : (view : View) (began after : Bool) (text : ℕ × List Bool) → (on == 0) ≡ false → answer (cut_in on v.this.peer.ends) ≡ Some text → Toward v view began → Toward now view after
   text_there view began after text z cut t = record {
@@ -157,10 +156,10 @@ module _ (on : ℕ) (m : List Bool) (v : World) where
     opens = λ x. absurd (heard_some v.this.peer.ends on text (t.bare x).unheard cut);
   }
 
-  pub text_here : (view next : View) (began q : Bool) (text : ℕ × List Bool) → slot_at v.this.slots on ≡ host.Empty → (on == 0) ≡ false → answer (cut_in on v.this.peer.ends) ≡ Some text → Stands v.this.peer q view → Alike view next → Toward (swap v) view began → Toward (swap now) next began
+  pub text_here : (view next : View) (began q : Bool) (text : ℕ × List Bool) → slot_at v.this.slots on ≡ Slot.Empty → (on == 0) ≡ false → answer (cut_in on v.this.peer.ends) ≡ Some text → Stands v.this.peer q view → Alike view next → Toward (swap v) view began → Toward (swap now) next began
   text_here view next began q text e z cut k a t = record {
     beside = subst (λ (p : Peer). Beside p.phase next) (sym (peer_text e z)) (beside_alike v.this.peer.phase view next a t.beside);
-    calm = λ x. t.calm (ap (λ (s : Side). is_waiting s.wait) (sym a.peer) ∙ x);
+    calm = λ x. t.calm (ap (λ (s : Side). awaits_reply s.wait) (sym a.peer) ∙ x);
     bare = λ x. absurd (none (ap (λ (s : Side). s.began) (sym a.peer) ∙ x));
     opens = λ x. absurd (none (ap (λ (s : Side). s.began) (sym a.peer) ∙ x));
   }
@@ -170,7 +169,7 @@ module _ (on : ℕ) (m : List Bool) (v : World) where
 
 -- commands
 
-module _ (m : List Bool) (v : World) (cs : List Command) (gone : commands_of m ≡ cs) (from : cs ≡ next_commands v.this.peer.phase.waiting) (empty : slot_at v.this.slots 0 ≡ host.Empty) where
+module _ (m : List Bool) (v : World) (cs : List Command) (gone : commands_of m ≡ cs) (from : cs ≡ next_commands v.this.peer.phase.waiting) (empty : slot_at v.this.slots 0 ≡ Slot.Empty) where
   abbrev pub next : World
   next = goes_on 0 m v
 
@@ -186,11 +185,11 @@ module _ (m : List Bool) (v : World) (cs : List Command) (gone : commands_of m �
   none_before : line v.this v.going ≡ []
   none_before = ap (λ (x : LinkSlot). commands_out (not_come x (v.going 0))) empty
 
-  peer_sent : next.this.peer ≡ peers.sends v.this.peer
+  peer_sent : next.this.peer ≡ peer_sends v.this.peer
   peer_sent = ap (λ (x : LinkSlot). after_by x 0 v.this.peer) empty
 
   quiet_sent : is_quiet next.this.slots ≡ is_quiet v.this.slots
-  quiet_sent = quiet_zero v.this.slots 0 (host.Travelling m) refl
+  quiet_sent = quiet_zero v.this.slots 0 (Slot.Travelling m) refl
 
   opens_so : (q : Bool) (own : View) (xs ys : List Command) (after : Bool) → xs ++ ys ≡ v.this.peer.phase.waiting → (xs ≡ [] → ⊥) → Phased v.this.peer.phase q own → own.host.began ≡ false → Opens xs after
   opens_so q own [] ys after e some k b = absurd (some refl)
@@ -207,7 +206,7 @@ module _ (m : List Bool) (v : World) (cs : List Command) (gone : commands_of m �
   pub commands_here : (view before now : View) (began q : Bool) → Counts (swap v) → Phased v.this.peer.phase q view → Alike view before → Sent v.this.peer.phase rest before now → Toward (swap v) view began → Toward (swap next) now began
   commands_here view before now began q c k a s t = record {
     beside = subst (λ (p : Peer). Beside p.phase now) (sym peer_sent) (subst (λ (xs : List Command). Beside (record v.this.peer.phase { waiting = xs }) now) (ap (λ (xs : List Command). drop (length xs) v.this.peer.phase.waiting) from) s.beside);
-    calm = λ x. t.calm (ap (λ (y : Side). is_waiting y.wait) (sym a.peer) ∙ s.less x);
+    calm = λ x. t.calm (ap (λ (y : Side). awaits_reply y.wait) (sym a.peer) ∙ s.less x);
     bare = λ x. let y = was x in let b = t.bare y in record {
       unheard = b.unheard;
       this_quiet = b.this_quiet;

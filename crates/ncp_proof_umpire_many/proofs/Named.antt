@@ -1,18 +1,15 @@
 -- A note of many hosts is one of a pair, or it names no such pair.
 use Rattle.std.proofs.Common.{◌≡◌, ◌⊎◌, inl, inr, ℕ, ◌==◌, Bool, true, false, ◌&&◌, if◌then◌else◌, [], ◌∷◌, Option, None, Some, refl, sym, ap, ◌∙◌}
 use Rattle.std.proofs.lemmas.Bool.{and_parts, both_ways, eq-eqb, eqb-true}
-use Rattle.ncp_proof_runs.specs.Peers.{peer_of}
+use Rattle.ncp_proof_runs.specs.Peers.{peer_of_note}
 use Rattle.ncp_proof_runs.proofs.HostRuns.{some_same}
 use Rattle.ncp_transcript_two.specs.declared.side.Side.{Side}
 use Rattle.ncp_transcript_two.specs.declared.side.Side.TheVariants.{A, B}
-use Rattle.ncp_transcript_two.specs.declared.note.Move.TheVariants as moves
+use Rattle.ncp_transcript_two.specs.declared.note.Move.{Move}
 use Rattle.ncp_transcript_two.specs.declared.note.Note.{Note}
-use Rattle.ncp_transcript_two.specs.declared.note.Note.TheVariants as notes
 use Rattle.ncp_transcript_two.proofs.Accepting.{both}
 use Rattle.ncp_transcript_many.specs.declared.many_event.ManyEvent.{ManyEvent}
-use Rattle.ncp_transcript_many.specs.declared.many_event.ManyEvent.TheVariants as events
 use Rattle.ncp_transcript_many.specs.declared.many_note.ManyNote.{ManyNote}
-use Rattle.ncp_transcript_many.specs.declared.many_note.ManyNote.TheVariants as many
 use Rattle.ncp_transcript_many.specs.ManyHappening.{by_numbers}
 use Rattle.ncp_transcript_many.specs.Pairs.{with_peer, ways_of, two_of, side_of_pair, on_side, if_side, note_between}
 
@@ -33,32 +30,32 @@ first_is : (host : ℕ) (o : Option ℕ) (a b : ℕ) → with_peer host o ≡ So
 first_is host None a b e = absurd (cc)
 first_is host (Some peer) a b e = ap (λ (p : ℕ × ℕ). p.0) (some_same e)
 
-vain_is : (a b : ℕ) (event : ManyEvent) (side : Side) → ways_of event ≡ Some (ordered side a b) → IsOn a b side (many.Nothing event)
-vain_is a b (events.Call host call) side e = absurd (cc)
-vain_is a b (events.Out host) side e = absurd (cc)
-vain_is a b (events.Deliver from to link) A e = (notes.Nothing A link moves.Deliver, refl, moved (λ x y. many.Nothing (events.Deliver x y link)) from to a b e)
-vain_is a b (events.Deliver from to link) B e = (notes.Nothing B link moves.Deliver, refl, moved (λ x y. many.Nothing (events.Deliver x y link)) from to b a e)
-vain_is a b (events.Lose from to link) A e = (notes.Nothing A link moves.Lose, refl, moved (λ x y. many.Nothing (events.Lose x y link)) from to a b e)
-vain_is a b (events.Lose from to link) B e = (notes.Nothing B link moves.Lose, refl, moved (λ x y. many.Nothing (events.Lose x y link)) from to b a e)
-vain_is a b (events.Dead from to link) A e = (notes.Nothing A link moves.Dead, refl, moved (λ x y. many.Nothing (events.Dead x y link)) from to a b e)
-vain_is a b (events.Dead from to link) B e = (notes.Nothing B link moves.Dead, refl, moved (λ x y. many.Nothing (events.Dead x y link)) from to b a e)
-vain_is a b (events.Answer from to link) A e = (notes.Nothing A link moves.Answer, refl, moved (λ x y. many.Nothing (events.Answer x y link)) from to a b e)
-vain_is a b (events.Answer from to link) B e = (notes.Nothing B link moves.Answer, refl, moved (λ x y. many.Nothing (events.Answer x y link)) from to b a e)
+vain_is : (a b : ℕ) (event : ManyEvent) (side : Side) → ways_of event ≡ Some (ordered side a b) → IsOn a b side (ManyNote.Nothing event)
+vain_is a b (ManyEvent.Call host call) side e = absurd (cc)
+vain_is a b (ManyEvent.Out host) side e = absurd (cc)
+vain_is a b (ManyEvent.Deliver from to link) A e = (Note.Nothing A link Move.Deliver, refl, moved (λ x y. ManyNote.Nothing (ManyEvent.Deliver x y link)) from to a b e)
+vain_is a b (ManyEvent.Deliver from to link) B e = (Note.Nothing B link Move.Deliver, refl, moved (λ x y. ManyNote.Nothing (ManyEvent.Deliver x y link)) from to b a e)
+vain_is a b (ManyEvent.Lose from to link) A e = (Note.Nothing A link Move.Lose, refl, moved (λ x y. ManyNote.Nothing (ManyEvent.Lose x y link)) from to a b e)
+vain_is a b (ManyEvent.Lose from to link) B e = (Note.Nothing B link Move.Lose, refl, moved (λ x y. ManyNote.Nothing (ManyEvent.Lose x y link)) from to b a e)
+vain_is a b (ManyEvent.Dead from to link) A e = (Note.Nothing A link Move.Dead, refl, moved (λ x y. ManyNote.Nothing (ManyEvent.Dead x y link)) from to a b e)
+vain_is a b (ManyEvent.Dead from to link) B e = (Note.Nothing B link Move.Dead, refl, moved (λ x y. ManyNote.Nothing (ManyEvent.Dead x y link)) from to b a e)
+vain_is a b (ManyEvent.Answer from to link) A e = (Note.Nothing A link Move.Answer, refl, moved (λ x y. ManyNote.Nothing (ManyEvent.Answer x y link)) from to a b e)
+vain_is a b (ManyEvent.Answer from to link) B e = (Note.Nothing B link Move.Answer, refl, moved (λ x y. ManyNote.Nothing (ManyEvent.Answer x y link)) from to b a e)
 
 on_is : (a b : ℕ) (n : ManyNote) (side : Side) → two_of n ≡ Some (ordered side a b) → IsOn a b side n
-on_is a b (many.Called host note) A e = (notes.Called A note, refl, ap (λ x. many.Called x note) (first_is host (peer_of note) a b e))
-on_is a b (many.Called host note) B e = (notes.Called B note, refl, ap (λ x. many.Called x note) (first_is host (peer_of note) b a e))
-on_is a b (many.Out host note) A e = (notes.Out A note, refl, ap (λ x. many.Out x note) (first_is host (peer_of note) a b e))
-on_is a b (many.Out host note) B e = (notes.Out B note, refl, ap (λ x. many.Out x note) (first_is host (peer_of note) b a e))
-on_is a b (many.Came from to link note) A e = (notes.Came A link note, refl, moved (λ x y. many.Came x y link note) from to a b e)
-on_is a b (many.Came from to link note) B e = (notes.Came B link note, refl, moved (λ x y. many.Came x y link note) from to b a e)
-on_is a b (many.Lost from to link) A e = (notes.Lost A link, refl, moved (λ x y. many.Lost x y link) from to a b e)
-on_is a b (many.Lost from to link) B e = (notes.Lost B link, refl, moved (λ x y. many.Lost x y link) from to b a e)
-on_is a b (many.FoundDead from to link) A e = (notes.FoundDead A link, refl, moved (λ x y. many.FoundDead x y link) from to a b e)
-on_is a b (many.FoundDead from to link) B e = (notes.FoundDead B link, refl, moved (λ x y. many.FoundDead x y link) from to b a e)
-on_is a b (many.Answered from to link note) A e = (notes.Answered A link note, refl, moved (λ x y. many.Answered x y link note) from to a b e)
-on_is a b (many.Answered from to link note) B e = (notes.Answered B link note, refl, moved (λ x y. many.Answered x y link note) from to b a e)
-on_is a b (many.Nothing event) side e = vain_is a b event side e
+on_is a b (ManyNote.Called host note) A e = (Note.Called A note, refl, ap (λ x. ManyNote.Called x note) (first_is host (peer_of_note note) a b e))
+on_is a b (ManyNote.Called host note) B e = (Note.Called B note, refl, ap (λ x. ManyNote.Called x note) (first_is host (peer_of_note note) b a e))
+on_is a b (ManyNote.Out host note) A e = (Note.Out A note, refl, ap (λ x. ManyNote.Out x note) (first_is host (peer_of_note note) a b e))
+on_is a b (ManyNote.Out host note) B e = (Note.Out B note, refl, ap (λ x. ManyNote.Out x note) (first_is host (peer_of_note note) b a e))
+on_is a b (ManyNote.Came from to link note) A e = (Note.Came A link note, refl, moved (λ x y. ManyNote.Came x y link note) from to a b e)
+on_is a b (ManyNote.Came from to link note) B e = (Note.Came B link note, refl, moved (λ x y. ManyNote.Came x y link note) from to b a e)
+on_is a b (ManyNote.Lost from to link) A e = (Note.Lost A link, refl, moved (λ x y. ManyNote.Lost x y link) from to a b e)
+on_is a b (ManyNote.Lost from to link) B e = (Note.Lost B link, refl, moved (λ x y. ManyNote.Lost x y link) from to b a e)
+on_is a b (ManyNote.FoundDead from to link) A e = (Note.FoundDead A link, refl, moved (λ x y. ManyNote.FoundDead x y link) from to a b e)
+on_is a b (ManyNote.FoundDead from to link) B e = (Note.FoundDead B link, refl, moved (λ x y. ManyNote.FoundDead x y link) from to b a e)
+on_is a b (ManyNote.Answered from to link note) A e = (Note.Answered A link note, refl, moved (λ x y. ManyNote.Answered x y link note) from to a b e)
+on_is a b (ManyNote.Answered from to link note) B e = (Note.Answered B link note, refl, moved (λ x y. ManyNote.Answered x y link note) from to b a e)
+on_is a b (ManyNote.Nothing event) side e = vain_is a b event side e
 
 -- ---- it names the two, or it does not
 

@@ -9,7 +9,6 @@ use Rattle.ncp_subnet.specs.Transit.{is_free, answer_kind}
 use Rattle.ncp_subnet.specs.Ways.{OnLink}
 use Rattle.ncp_umpire.specs.declared.finding.Finding.{Finding}
 use Rattle.ncp_umpire.specs.declared.finding.Rule.{Rule}
-use Rattle.ncp_umpire.specs.declared.finding.Rule.TheVariants as rule
 use Rattle.ncp_umpire.specs.declared.finding.Unsent.{Unsent}
 use Rattle.ncp_umpire.specs.declared.kept.Kept.{Kept}
 use Rattle.ncp_umpire.specs.declared.umpire.Umpire.{Umpire}
@@ -17,8 +16,8 @@ use Rattle.ncp_umpire.specs.declared.view.View.{View}
 use Rattle.ncp_umpire.specs.declared.views.TheConstants.{VIEWS}
 use Rattle.ncp_umpire.specs.Slots.{is_of, same_but_host, place_of, gone_out, has_room, with_out, busy_link}
 use Rattle.ncp_umpire.specs.Tables.{view_in, with_view}
-use Rattle.ncp_umpire.specs.Messages.{reading_of}
-use Rattle.ncp_umpire.specs.Judged.{by_imp, has_seen, view_of, knows_zero, slot_of, same_of, view_after_out, after_out, sees_both, is_crowded, false_rule, false_finding, stray_finding, answer_findings, with_answer, after_answer, judges_coming, unsent_at, unsent_finding, with_coming, after_in, turn_at, after_read, after_said, sees}
+use Rattle.ncp_umpire.specs.Messages.{judged_reading}
+use Rattle.ncp_umpire.specs.Judged.{by_imp, has_seen, view_of, knows_zero, slot_of_link, same_of, view_after_out, umpire_after_out, sees_both, is_crowded, false_rule, false_finding, stray_finding, answer_findings, with_answer, umpire_after_answer, judges_coming, unsent_at, unsent_finding, with_coming, after_in, turn_at, after_read, after_said, sees}
 use Rattle.ncp_proof_umpire.proofs.KeptOne.{Apart}
 use Rattle.ncp_proof_umpire.proofs.PhaseSeen.{view_length}
 use Rattle.ncp_proof_umpire.proofs.Shown.{after_answering, after_coming}
@@ -94,11 +93,11 @@ filled umpire at peer on bits =
     let place = place_of at peer on umpire.kept in
     record umpire {
       full = not (has_room umpire.kept place);
-      views = with_view umpire.views at peer (view_after_out (view_in umpire.views at peer) (slot_of umpire at peer on) (same_of umpire at peer on bits));
+      views = with_view umpire.views at peer (view_after_out (view_in umpire.views at peer) (slot_of_link umpire at peer on) (same_of umpire at peer on bits));
       kept = with_out umpire.kept place (gone_out at peer on bits);
     }
 
-pub sound_out : (umpire : Umpire) (at peer on : ℕ) (bits : List Bool) → Sound umpire → Sound (after_out umpire at peer on bits)
+pub sound_out : (umpire : Umpire) (at peer on : ℕ) (bits : List Bool) → Sound umpire → Sound (umpire_after_out umpire at peer on bits)
 sound_out umpire at peer on bits s = go umpire.full
   where
     go : (b : Bool) → Sound (if b then umpire else filled umpire at peer on bits)
@@ -106,12 +105,12 @@ sound_out umpire at peer on bits s = go umpire.full
     go false = record {
       part = s.part;
       seen_long = s.seen_long;
-      long = view_length umpire.views at peer (view_after_out (view_in umpire.views at peer) (slot_of umpire at peer on) (same_of umpire at peer on bits)) ∙ s.long;
+      long = view_length umpire.views at peer (view_after_out (view_in umpire.views at peer) (slot_of_link umpire at peer on) (same_of umpire at peer on bits)) ∙ s.long;
     }
 
 -- of the way on which it goes
 pub out_way : (from to on : ℕ) (bits : List Bool) (t after : ℕ → OnLink) (umpire : Umpire) → Sound umpire → from < 256 → to < 256 → has_seen umpire from ≡ true → t on ≡ Free → But on (Accepted bits) t after
-    → OneWay from to t umpire → OneWay from to after (after_out umpire from to on bits)
+    → OneWay from to t umpire → OneWay from to after (umpire_after_out umpire from to on bits)
 out_way from to on bits t after umpire s f g seen free b w = go umpire.full refl
   where
     go : (b : Bool) → umpire.full ≡ b → OneWay from to after (if b then umpire else filled umpire from to on bits)
@@ -120,7 +119,7 @@ out_way from to on bits t after umpire s f g seen free b w = go umpire.full refl
         let view : View = view_in umpire.views from to in
         let here : Tells Free (filter (is_of from to on) umpire.kept) = subst (λ (x : OnLink). Tells x (filter (is_of from to on) umpire.kept)) free (w.tells e on) in
         record {
-          clear = crowd_set umpire.views from to from to (view_after_out view (slot_of umpire from to on) (same_of umpire from to on bits)) s.long f g (or_false view.crowded _ (not_out view.known umpire.kept (is_of from to on) here)) ∙ w.clear;
+          clear = crowd_set umpire.views from to from to (view_after_out view (slot_of_link umpire from to on) (same_of umpire from to on bits)) s.long f g (or_false view.crowded _ (not_out view.known umpire.kept (is_of from to on) here)) ∙ w.clear;
           seen = λ k x. seen;
           tells = λ x.
               let room = open_room (has_room umpire.kept (place_of from to on umpire.kept)) x in
@@ -130,7 +129,7 @@ out_way from to on bits t after umpire s f g seen free b w = go umpire.full refl
 
 -- of the other way
 pub out_far : (from to on : ℕ) (bits : List Bool) (back t : ℕ → OnLink) (umpire : Umpire) → Sound umpire → from < 256 → to < 256 → from ≢ to → t on ≡ Free → OneWay from to t umpire
-    → OneWay to from back umpire → OneWay to from back (after_out umpire from to on bits)
+    → OneWay to from back umpire → OneWay to from back (umpire_after_out umpire from to on bits)
 out_far from to on bits back t umpire s f g differ free own w = go umpire.full refl
   where
     go : (b : Bool) → umpire.full ≡ b → OneWay to from back (if b then umpire else filled umpire from to on bits)
@@ -139,7 +138,7 @@ out_far from to on bits back t umpire s f g differ free own w = go umpire.full r
         let view : View = view_in umpire.views from to in
         let here : Tells Free (filter (is_of from to on) umpire.kept) = subst (λ (x : OnLink). Tells x (filter (is_of from to on) umpire.kept)) free (own.tells e on) in
         record {
-          clear = crowd_set umpire.views from to to from (view_after_out view (slot_of umpire from to on) (same_of umpire from to on bits)) s.long f g (or_false view.crowded _ (not_out view.known umpire.kept (is_of from to on) here)) ∙ w.clear;
+          clear = crowd_set umpire.views from to to from (view_after_out view (slot_of_link umpire from to on) (same_of umpire from to on bits)) s.long f g (or_false view.crowded _ (not_out view.known umpire.kept (is_of from to on) here)) ∙ w.clear;
           seen = w.seen;
           tells = λ x.
               let room = open_room (has_room umpire.kept (place_of from to on umpire.kept)) x in
@@ -152,7 +151,7 @@ pub sound_said : (umpire : Umpire) (at peer by : ℕ) (sent fresh : Bool) (r : R
 sound_said umpire at peer by sent true (Ok m) s = record {
   part = s.part;
   seen_long = s.seen_long;
-  long = view_length umpire.views at peer (after_read (reading_of m) (turn_at umpire at peer by sent) m.text (view_of umpire at peer)) ∙ s.long;
+  long = view_length umpire.views at peer (after_read (judged_reading m) (turn_at umpire at peer by sent) m.text (view_of umpire at peer)) ∙ s.long;
 }
 sound_said umpire at peer by sent false (Ok m) s = s
 sound_said umpire at peer by sent fresh (Err fault) s = s
@@ -160,7 +159,7 @@ sound_said umpire at peer by sent fresh (Err fault) s = s
 pub said_way : (from to : ℕ) (t : ℕ → OnLink) (umpire : Umpire) (at peer by : ℕ) (sent fresh : Bool) (r : Result Message MessageFault) → Sound umpire → at < 256 → peer < 256
     → OneWay from to t umpire → OneWay from to t (after_said umpire at peer (turn_at umpire at peer by sent) fresh r)
 said_way from to t umpire at peer by sent true (Ok m) s a p w = record {
-  clear = crowd_set umpire.views at peer from to (after_read (reading_of m) (turn_at umpire at peer by sent) m.text (view_of umpire at peer)) s.long a p (read_stays m by sent (busy_link at peer umpire.kept) (knows_zero umpire at peer) (view_of umpire at peer)) ∙ w.clear;
+  clear = crowd_set umpire.views at peer from to (after_read (judged_reading m) (turn_at umpire at peer by sent) m.text (view_of umpire at peer)) s.long a p (read_stays m by sent (busy_link at peer umpire.kept) (knows_zero umpire at peer) (view_of umpire at peer)) ∙ w.clear;
   seen = w.seen;
   tells = w.tells;
 }
@@ -199,10 +198,10 @@ unsent_none from to on m bits t umpire a same w = go (judges_coming umpire to fr
         by true x = absurd (cc)
         by false x = refl
 
-    go : (b : Bool) → judges_coming umpire to from ≡ b → (if b then option_map (λ (why : Unsent). by_imp (rule.Unsent from on why)) (unsent_at umpire to from on bits) else None) ≡ None
+    go : (b : Bool) → judges_coming umpire to from ≡ b → (if b then option_map (λ (why : Unsent). by_imp (Rule.Unsent from on why)) (unsent_at umpire to from on bits) else None) ≡ None
     go false j = refl
     go true j =
-        ap (option_map (λ (why : Unsent). by_imp (rule.Unsent from on why)))
+        ap (option_map (λ (why : Unsent). by_imp (Rule.Unsent from on why)))
         (coming (is_of from to on) (λ k s e. e) umpire.kept m bits (subst (λ (x : OnLink). Tells x (filter (is_of from to on) umpire.kept)) a (w.tells (open_is j) on)) same).none
 
 taken_link : (t : OnLink) (m : List Bool) → t ≡ Accepted m → is_free t ≡ false
@@ -245,7 +244,7 @@ in_far from to on back umpire differ w = go (judges_coming umpire to from)
 abbrev with_it : Umpire → ℕ → ℕ → ℕ → ℕ → Umpire
 with_it umpire kind at peer on = record umpire { kept = with_answer (view_in umpire.views at peer).known kind umpire.kept (place_of at peer on umpire.kept) }
 
-pub sound_answer : (umpire : Umpire) (kind at peer on : ℕ) → Sound umpire → Sound (after_answer umpire kind at peer on)
+pub sound_answer : (umpire : Umpire) (kind at peer on : ℕ) → Sound umpire → Sound (umpire_after_answer umpire kind at peer on)
 sound_answer umpire kind at peer on s = go umpire.full
   where
     go : (b : Bool) → Sound (if b then umpire else with_it umpire kind at peer on)
@@ -264,10 +263,10 @@ answer_none from to on kind t umpire k w = go umpire.full refl
     go false e =
         let a = answered (is_of from to on) (λ k s e. e) umpire.kept (t on) kind k (w.tells e on) in
         let known : Bool = (view_in umpire.views from to).known in
-        ap (λ (o : Option Finding). option_to_list o ++ option_to_list (stray_finding umpire kind from to on)) (nothing_false (sees_both umpire to && not (is_crowded umpire from to)) (false_rule (slot_of umpire from to on) kind to on) (a.true_one known to on))
+        ap (λ (o : Option Finding). option_to_list o ++ option_to_list (stray_finding umpire kind from to on)) (nothing_false (sees_both umpire to && not (is_crowded umpire from to)) (false_rule (slot_of_link umpire from to on) kind to on) (a.true_one known to on))
         ∙ ap (λ (o : Option Rule). option_to_list (option_map by_imp o)) (a.out known on)
 
-pub answer_way : (from to on kind : ℕ) (t after : ℕ → OnLink) (umpire : Umpire) → answer_kind (t on) ≡ Some kind → But on Free t after → (has : has_seen umpire from ≡ true) → OneWay from to t umpire → OneWay from to after (after_answer umpire kind from to on)
+pub answer_way : (from to on kind : ℕ) (t after : ℕ → OnLink) (umpire : Umpire) → answer_kind (t on) ≡ Some kind → But on Free t after → (has : has_seen umpire from ≡ true) → OneWay from to t umpire → OneWay from to after (umpire_after_answer umpire kind from to on)
 answer_way from to on kind t after umpire k b has w = go umpire.full refl
   where
     go : (f : Bool) → umpire.full ≡ f → OneWay from to after (if f then umpire else with_it umpire kind from to on)
@@ -282,7 +281,7 @@ answer_way from to on kind t after umpire k b has w = go umpire.full refl
               ((answered (is_of from to on) (λ k s e. e) umpire.kept (t on) kind k (w.tells e on)).tells known) (w.tells e);
         }
 
-pub answer_far : (from to on kind : ℕ) (back : ℕ → OnLink) (umpire : Umpire) → from ≢ to → OneWay to from back umpire → OneWay to from back (after_answer umpire kind from to on)
+pub answer_far : (from to on kind : ℕ) (back : ℕ → OnLink) (umpire : Umpire) → from ≢ to → OneWay to from back umpire → OneWay to from back (umpire_after_answer umpire kind from to on)
 answer_far from to on kind back umpire differ w = go umpire.full refl
   where
     go : (f : Bool) → umpire.full ≡ f → OneWay to from back (if f then umpire else with_it umpire kind from to on)

@@ -19,12 +19,12 @@ use Rattle.ncp_umpire.specs.declared.view.Side.{Side}
 use Rattle.ncp_umpire.specs.declared.view.View.{View}
 use Rattle.ncp_umpire.specs.declared.views.TheConstants.{VIEWS}
 use Rattle.ncp_umpire.specs.declared.way.Way.TheVariants.{ToImp}
-use Rattle.ncp_umpire.specs.Messages.{is_unused, reading_of}
+use Rattle.ncp_umpire.specs.Messages.{is_unused, judged_reading}
 use Rattle.ncp_umpire.specs.Phases.{after_items, after_room}
-use Rattle.ncp_umpire.specs.Slots.{is_of, busy_link, place_of, slot_at as kept_slot, same_at, gone_out, has_room, with_out}
+use Rattle.ncp_umpire.specs.Slots.{is_of, busy_link, place_of, kept_slot, same_at, gone_out, has_room, with_out}
 use Rattle.ncp_umpire.specs.Tables.{view_in, with_view}
-use Rattle.ncp_umpire.specs.Views.{is_waiting, is_answered}
-use Rattle.ncp_umpire.specs.Judged.{sees, view_of, knows_zero, slot_of, same_of, is_fresh, fresh_out, view_after_out, after_out, turn_at, is_roomy, after_read, after_said, after_record}
+use Rattle.ncp_umpire.specs.Views.{awaits_reply, is_answered_too_often}
+use Rattle.ncp_umpire.specs.Judged.{sees, view_of, knows_zero, slot_of_link, same_of, is_fresh, fresh_out, view_after_out, umpire_after_out, turn_at, is_roomy, after_read, after_said, after_record}
 use Rattle.ncp_umpire.proofs.Following.{out_is, said_keeps}
 use Rattle.ncp_proof_umpire.proofs.Fresh.{New, is_new}
 use Rattle.ncp_proof_umpire.proofs.PhaseSeen.{view_same, view_length}
@@ -41,20 +41,20 @@ pub record Alike (v now : View) : Type 0 where
 pub beside_alike : (k : Phase) (v now : View) → Alike v now → Beside k v → Beside k now
 beside_alike k v now a b = record {
   told = a.told;
-  waits = ap (λ (s : Side). bit (is_waiting s.wait)) a.peer ∙ b.waits;
-  sure = ap (λ (s : Side). is_answered s.wait) a.peer ∙ b.sure;
+  waits = ap (λ (s : Side). bit (awaits_reply s.wait)) a.peer ∙ b.waits;
+  sure = ap (λ (s : Side). is_answered_too_often s.wait) a.peer ∙ b.sure;
   asked = ap (λ (s : Side). s.asked + rsts k.waiting) a.peer ∙ b.asked;
-  own = ap (λ (s : Side). s.asked) a.peer ∙ b.own ∙ ap (λ (s : Side). bit (is_waiting s.wait)) (sym a.host);
-  own_sure = ap (λ (s : Side). is_answered s.wait) a.host ∙ b.own_sure;
-  unborn = λ e. ap (λ (s : Side). is_waiting s.wait) a.peer ∙ b.unborn (ap (λ (s : Side). s.began) (sym a.peer) ∙ e);
-  alone = λ e f. ap (λ (s : Side). is_waiting s.wait) a.host ∙ b.alone (ap (λ (s : Side). s.began) (sym a.peer) ∙ e) (ap (λ (s : Side). s.began) (sym a.host) ∙ f);
+  own = ap (λ (s : Side). s.asked) a.peer ∙ b.own ∙ ap (λ (s : Side). bit (awaits_reply s.wait)) (sym a.host);
+  own_sure = ap (λ (s : Side). is_answered_too_often s.wait) a.host ∙ b.own_sure;
+  unborn = λ e. ap (λ (s : Side). awaits_reply s.wait) a.peer ∙ b.unborn (ap (λ (s : Side). s.began) (sym a.peer) ∙ e);
+  alone = λ e f. ap (λ (s : Side). awaits_reply s.wait) a.host ∙ b.alone (ap (λ (s : Side). s.began) (sym a.peer) ∙ e) (ap (λ (s : Side). s.began) (sym a.host) ∙ f);
 }
 
 module _ (me n on : ℕ) (m : List Bool) (slot : LinkSlot) (p : Peer) (u : Umpire) (differ : (n == me) ≡ false) (small : me < 256) (few : n < 256) (long : length u.views ≡ VIEWS)
     (led : leader_in m ≡ Ok (leader_to n on)) (ready : output_by slot n on p ≡ Some m) (told : (view_in u.views me n).told ≡ true) (known : (view_in u.views me n).known ≡ true)
     (shown : u.full ≡ false → Shows (filter (is_of me n on) u.kept) slot) (full : (after_record u ToImp me m).full ≡ false) where
   abbrev pub A : Umpire
-  A = after_out (sees u me) me n on m
+  A = umpire_after_out (sees u me) me n on m
 
   abbrev pub v : View
   v = view_in u.views me n
@@ -72,7 +72,7 @@ module _ (me n on : ℕ) (m : List Bool) (slot : LinkSlot) (p : Peer) (u : Umpir
   full_A = sym (said_keeps A me n (turn_at A me n me true) fresh (message_in m)).1 ∙ ap (λ (x : Umpire). x.full) (sym is) ∙ full
 
   abbrev pub out_view : View
-  out_view = view_after_out v (slot_of (sees u me) me n on) (same_of (sees u me) me n on m)
+  out_view = view_after_out v (slot_of_link (sees u me) me n on) (same_of (sees u me) me n on m)
 
   abbrev pub put : Umpire
   put = record (sees u me) {
@@ -99,7 +99,7 @@ module _ (me n on : ℕ) (m : List Bool) (slot : LinkSlot) (p : Peer) (u : Umpir
 
   is_fresh_out : fresh ≡ is_empty slot
   is_fresh_out =
-      ap (λ (b : Bool). b || is_fresh (slot_of (sees u me) me n on) (same_of (sees u me) me n on m)) roomy
+      ap (λ (b : Bool). b || is_fresh (slot_of_link (sees u me) me n on) (same_of (sees u me) me n on m)) roomy
       ∙ (subst (λ (b : Bool). New (kept_slot b u.kept (place_of me n on u.kept)) (same_at u.kept (place_of me n on u.kept) m) slot) (sym known)
       (is_new (is_of me n on) u.kept slot n on p m (shown roomy) ready)).fresh
 
@@ -120,12 +120,12 @@ module _ (me n on : ℕ) (m : List Bool) (slot : LinkSlot) (p : Peer) (u : Umpir
       by (Err x) = view_alike
 
   -- it is read
-  read_on : (x : Message) → is_empty slot ≡ true → message_in m ≡ Ok x → view_in (after_record u ToImp me m).views me n ≡ after_read (reading_of x) (turn_at A me n me true) x.text (view_of A me n)
+  read_on : (x : Message) → is_empty slot ≡ true → message_in m ≡ Ok x → view_in (after_record u ToImp me m).views me n ≡ after_read (judged_reading x) (turn_at A me n me true) x.text (view_of A me n)
   read_on x e r =
       ap (λ (y : Umpire). view_in y.views me n) is
       ∙ ap (λ (b : Bool). view_in (after_said A me n (turn_at A me n me true) b (message_in m)).views me n) (is_fresh_out ∙ e)
       ∙ ap (λ (o : Result Message MessageFault). view_in (after_said A me n (turn_at A me n me true) true o).views me n) r
-      ∙ view_same A.views me n (after_read (reading_of x) (turn_at A me n me true) x.text (view_of A me n)) long_A small few
+      ∙ view_same A.views me n (after_read (judged_reading x) (turn_at A me n me true) x.text (view_of A me n)) long_A small few
 
   -- a text
   pub text_goes : (size : ℕ) (text : List Bool) → is_empty slot ≡ true → is_unused on ≡ false → (on == 0) ≡ false → message_in m ≡ Ok (message_with (leader_to n on) size text) → Alike v (view_in (after_record u ToImp me m).views me n)

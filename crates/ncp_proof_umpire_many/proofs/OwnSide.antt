@@ -4,13 +4,12 @@ use Rattle.std.proofs.lemmas.Bool.{eqb-true, and_parts}
 use Rattle.std.specs.List.{list_all}
 use Rattle.ncp_host.specs.Host.{Host, is_one_of, new_host}
 use Rattle.ncp_host.specs.Turns.{next_output}
-use Rattle.ncp_transcript.specs.declared.input.Input.TheVariants as inputs
+use Rattle.ncp_transcript.specs.declared.input.Input.{Input}
 use Rattle.ncp_transcript.specs.declared.call.Call.{Call}
 use Rattle.ncp_transcript.specs.declared.note.HostNote.{HostNote}
-use Rattle.ncp_transcript.specs.declared.note.HostNote.TheVariants as notes
 use Rattle.ncp_transcript.specs.After.{after_note}
 use Rattle.ncp_transcript.specs.Noting.{CallNoted, answer_in, note_of_bits, note_of_message, note_of_output}
-use Rattle.ncp_transcript.specs.Runs.{IsSaid}
+use Rattle.ncp_transcript.specs.Runs.{IsHostSaid}
 use Rattle.ncp_transcript.proofs.Saying.{noted_said}
 use Rattle.ncp_transcript_two.specs.Seen.{CallFits}
 use Rattle.ncp_transcript_two.proofs.Fitting.{note-fits}
@@ -22,14 +21,14 @@ use Rattle.ncp_umpire.specs.declared.finding.Finding.{Finding}
 use Rattle.ncp_umpire.specs.declared.umpire.Umpire.{Umpire}
 use Rattle.ncp_umpire.specs.declared.way.Way.{Way}
 use Rattle.ncp_umpire.specs.declared.way.Way.TheVariants.{ToImp, FromImp}
-use Rattle.ncp_umpire.specs.Judged.{new_umpire, by_host, sees, slot_of, same_of, out_rule, record_findings, after_record}
+use Rattle.ncp_umpire.specs.Judged.{new_umpire, by_host, sees, slot_of_link, same_of, out_rule, record_findings, after_record}
 use Rattle.ncp_umpire.proofs.Passing.{Pass, mapped_unless, goes}
 use Rattle.ncp_proof_umpire.specs.Recordings.{is_host, spares, any_rule}
 use Rattle.ncp_proof_umpire.proofs.Leaders.{peer_of_turn}
 use Rattle.ncp_proof_umpire.proofs.HostSlots.{call_noted}
 use Rattle.ncp_proof_umpire.proofs.Linked.{after_call, after_out_of, after_in_of}
-use Rattle.ncp_proof_umpire.proofs.LinkWalk.{begins as follows_begins}
-use Rattle.ncp_proof_umpire.proofs.ReadyPeers.{AllReady, ready_after, fits_in, begins as ready_begins}
+use Rattle.ncp_proof_umpire.proofs.LinkWalk.{follows_begins}
+use Rattle.ncp_proof_umpire.proofs.ReadyPeers.{AllReady, ready_after, fits_in, ready_begins}
 use Rattle.ncp_proof_umpire.proofs.PhaseWalk.{call_all, in_all, out_all, out_spared, seen_begins}
 use Rattle.ncp_proof_umpire.proofs.PhaseLists.{itself}
 use Rattle.ncp_proof_umpire.proofs.Others.{Watched, watched, other_leaves}
@@ -46,7 +45,7 @@ one_peer me n d = ap (λ (b : Bool). b || false) d
 
 pub called : (me n : ℕ) (h : Host) (umpire : Umpire) (call : Call) (note : HostNote) → CallNoted call note h → CallFits call → At me n h umpire → At me n (after_note note h) umpire
 called me n h umpire call note p f k =
-    let said = noted_said (inputs.Call call) note h p in
+    let said = noted_said (Input.Call call) note h p in
     let c = call_noted call note h p in
     record {
       holds = holds-after (n ∷ []) note h k.holds said;
@@ -59,7 +58,7 @@ called me n h umpire call note p f k =
 pub came : (me n : ℕ) (h : Host) (umpire : Umpire) (bits : List Bool) → (n == me) ≡ false → me < 256 → At me n h umpire → At me n (after_note (note_of_bits bits h) h) (after_record umpire FromImp me bits)
 came me n h umpire bits d l k =
     let note = note_of_bits bits h in
-    let said = noted_said (inputs.In bits) note h refl in
+    let said = noted_said (Input.In bits) note h refl in
     record {
       holds = holds-after (n ∷ []) note h k.holds said;
       watched = record {
@@ -71,12 +70,12 @@ came me n h umpire bits d l k =
 
 -- ---- what goes out
 
-said_out : (h : Host) (m : List Bool) → next_output h ≡ Some m → IsSaid (notes.Out m) h
-said_out h m q = subst (λ (o : Option (List Bool)). IsSaid (note_of_message o) h) q (noted_said inputs.Out (note_of_output h) h refl)
+said_out : (h : Host) (m : List Bool) → next_output h ≡ Some m → IsHostSaid (HostNote.Out m) h
+said_out h m q = subst (λ (o : Option (List Bool)). IsHostSaid (note_of_message o) h) q (noted_said Input.Out (note_of_output h) h refl)
 
 pub record Went (me n : ℕ) (h : Host) (m : List Bool) (umpire : Umpire) : Type 0 where
   pub none : record_findings umpire ToImp me m ≡ []
-  pub at : At me n (after_note (notes.Out m) h) (after_record umpire ToImp me m)
+  pub at : At me n (after_note (HostNote.Out m) h) (after_record umpire ToImp me m)
 
 -- all is said of the host itself, and nothing is said against it
 nothing_left : (me : ℕ) (found : List Finding) → Pass (spares any_rule me) found → Pass (λ (f : Finding). is_host me f.who) found → found ≡ []
@@ -95,19 +94,19 @@ went me n h umpire m d l q k = record {
   none = nothing_left me (record_findings umpire ToImp me m)
       (out_spared (n ∷ []) me t.n h umpire m t.s is k.holds l (one_peer me n d) said t.found k.watched.follows k.ready k.watched.seen other)
       (goes (λ (f : Finding). is_host me f.who) umpire me t.n is.on m is.leader other (λ r s. itself me)
-      (let u = sees umpire me in mapped_unless (λ (f : Finding). is_host me f.who) u.full (by_host me) (out_rule (slot_of u me t.n is.on) (same_of u me t.n is.on m) is.on) (λ r e. itself me))
+      (let u = sees umpire me in mapped_unless (λ (f : Finding). is_host me f.who) u.full (by_host me) (out_rule (slot_of_link u me t.n is.on) (same_of u me t.n is.on m) is.on) (λ r e. itself me))
       (λ r e. itself me));
   at = record {
-    holds = holds-after (n ∷ []) (notes.Out m) h k.holds said;
+    holds = holds-after (n ∷ []) (HostNote.Out m) h k.holds said;
     watched = record {
       follows = after_out_of (n ∷ []) me t.n is.on h umpire m t.s k.holds said is.leader other t.found k.watched.follows;
       seen = out_all (n ∷ []) me t.n h umpire m t.s is k.holds l (one_peer me n d) said t.found k.watched.follows k.ready k.watched.seen other;
     };
-    ready = ready_after (n ∷ []) (notes.Out m) h k.holds said tt k.ready;
+    ready = ready_after (n ∷ []) (HostNote.Out m) h k.holds said tt k.ready;
   };
 }
   where
-    said : IsSaid (notes.Out m) h
+    said : IsHostSaid (HostNote.Out m) h
     said = said_out h m q
 
     t : Turn h.peers m

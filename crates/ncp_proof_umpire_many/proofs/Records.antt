@@ -12,16 +12,14 @@ use Rattle.ncp_subnet.specs.Ways.{OnLink}
 use Rattle.ncp_host.specs.Hearing.{answer_of}
 use Rattle.ncp_host.specs.Output.{leader_to, message_to}
 use Rattle.ncp_host.specs.Turns.{next_output}
-use Rattle.ncp_transcript.specs.declared.note.HostNote.TheVariants as of_host
+use Rattle.ncp_transcript.specs.declared.note.HostNote.{HostNote}
 use Rattle.ncp_transcript.specs.Noting.{note_of_message}
 use Rattle.ncp_transcript_two.specs.declared.side.Side.TheVariants.{A, B}
 use Rattle.ncp_transcript_two.specs.declared.event.Event.{Event}
-use Rattle.ncp_transcript_two.specs.declared.event.Event.TheVariants as events
-use Rattle.ncp_transcript_two.specs.declared.note.Move.TheVariants as moves
+use Rattle.ncp_transcript_two.specs.declared.note.Move.{Move}
 use Rattle.ncp_transcript_two.specs.declared.note.Note.{Note}
-use Rattle.ncp_transcript_two.specs.declared.note.Note.TheVariants as notes
-use Rattle.ncp_transcript_two.specs.Between.{Hosts, transit_of, after_note}
-use Rattle.ncp_transcript_two.specs.Happening.{Noted, came, answered}
+use Rattle.ncp_transcript_two.specs.Between.{Hosts, transit_of, hosts_after_note}
+use Rattle.ncp_transcript_two.specs.Happening.{Noted, note_of_coming, note_of_answering}
 use Rattle.ncp_transcript_two.proofs.OnePeer.{noted-message, noted-answer}
 use Rattle.ncp_transcript_two.proofs.SeenRuns.{turned}
 use Rattle.ncp_transcript_two.proofs.Written.{answer_leader}
@@ -73,8 +71,8 @@ short_answer kind n on = omega arith
 -- a message that goes out is the written form of one, since it is in transit then
 short_out : (w : Hosts) (m : List Bool) → Joined w → next_output w.a ≡ Some m → Leaves w m → length m ≤ 8192
 short_out w m j q l =
-    let now : Hosts = after_note (notes.Out A (of_host.Out m)) w in
-    let later : Joined now = joined_after (events.Out A) (notes.Out A (of_host.Out m)) w (sym (ap (λ (o : Option (List Bool)). notes.Out A (note_of_message o)) q)) j in
+    let now : Hosts = hosts_after_note (Note.Out A (HostNote.Out m)) w in
+    let later : Joined now = joined_after (Event.Out A) (Note.Out A (HostNote.Out m)) w (sym (ap (λ (o : Option (List Bool)). Note.Out A (note_of_message o)) q)) j in
     let there : transit_at now.subnet w.number_a w.number_b l.on ≡ Accepted m = ap (λ (s : Subnet). transit_at s w.number_a w.number_b l.on) l.takes ∙ transit_at-same w.subnet w.number_a w.number_b l.on (Accepted m) in
     let r : Written now l.on m = written now l.on m later there in
     subst (λ (xs : List Bool). length xs ≤ 8192) (sym r.is) (short_message w.number_b l.on r.size r.text r.fits.2)
@@ -92,11 +90,11 @@ out_names w j = go (next_output w.a) refl
 
 -- ---- it comes
 
-come_fits : (w : Hosts) (link : ℕ) → Joined w → Fits w.number_a w.number_b (came A link (arriving w.number_a (transit_of A link w)) w) (comes_to w.number_b (arriving w.number_a (transit_of A link w)))
+come_fits : (w : Hosts) (link : ℕ) → Joined w → Fits w.number_a w.number_b (note_of_coming A link (arriving w.number_a (transit_of A link w)) w) (comes_to w.number_b (arriving w.number_a (transit_of A link w)))
 come_fits w link j = go (transit_of A link w) refl
   where
     As : OnLink → Type 0
-    As h = Fits w.number_a w.number_b (came A link (arriving w.number_a h) w) (comes_to w.number_b (arriving w.number_a h))
+    As h = Fits w.number_a w.number_b (note_of_coming A link (arriving w.number_a h) w) (comes_to w.number_b (arriving w.number_a h))
 
     go : (h : OnLink) → transit_of A link w ≡ h → As (transit_of A link w)
     go Free q = subst As (sym q) (refl, tt)
@@ -121,11 +119,11 @@ same_kind Delivered kind e = subst (λ (k : ℕ). answer_type (answer_of k) ≡ 
 same_kind Lost kind e = subst (λ (k : ℕ). answer_type (answer_of k) ≡ k) (let is : 9 ≡ kind = cc in is) refl
 same_kind Dead kind e = subst (λ (k : ℕ). answer_type (answer_of k) ≡ k) (let is : 7 ≡ kind = cc in is) refl
 
-answer_fits : (w : Hosts) (link : ℕ) → Joined w → Fits w.number_a w.number_b (answered A link (answering w.number_b link (answer_kind (transit_of A link w))) w) (comes_to w.number_a (answering w.number_b link (answer_kind (transit_of A link w))))
+answer_fits : (w : Hosts) (link : ℕ) → Joined w → Fits w.number_a w.number_b (note_of_answering A link (answering w.number_b link (answer_kind (transit_of A link w))) w) (comes_to w.number_a (answering w.number_b link (answer_kind (transit_of A link w))))
 answer_fits w link j = go (answer_kind (transit_of A link w)) refl
   where
     As : Option ℕ → Type 0
-    As o = Fits w.number_a w.number_b (answered A link (answering w.number_b link o) w) (comes_to w.number_a (answering w.number_b link o))
+    As o = Fits w.number_a w.number_b (note_of_answering A link (answering w.number_b link o) w) (comes_to w.number_a (answering w.number_b link o))
 
     go : (o : Option ℕ) → answer_kind (transit_of A link w) ≡ o → As (answer_kind (transit_of A link w))
     go None q = subst As (sym q) (refl, tt)
@@ -140,56 +138,56 @@ answer_fits w link j = go (answer_kind (transit_of A link w)) refl
 
 -- ---- nothing passes
 
-lost_none : (a b link : ℕ) (c : Bool) → passing (by_numbers a b (if c then notes.Lost A link else notes.Nothing A link moves.Lose)) ≡ []
+lost_none : (a b link : ℕ) (c : Bool) → passing (by_numbers a b (if c then Note.Lost A link else Note.Nothing A link Move.Lose)) ≡ []
 lost_none a b link true = refl
 lost_none a b link false = refl
 
-lost_back : (a b link : ℕ) (c : Bool) → passing (by_numbers a b (if c then notes.Lost B link else notes.Nothing B link moves.Lose)) ≡ []
+lost_back : (a b link : ℕ) (c : Bool) → passing (by_numbers a b (if c then Note.Lost B link else Note.Nothing B link Move.Lose)) ≡ []
 lost_back a b link true = refl
 lost_back a b link false = refl
 
-dead_none : (a b link : ℕ) (c : Bool) → passing (by_numbers a b (if c then notes.FoundDead A link else notes.Nothing A link moves.Dead)) ≡ []
+dead_none : (a b link : ℕ) (c : Bool) → passing (by_numbers a b (if c then Note.FoundDead A link else Note.Nothing A link Move.Dead)) ≡ []
 dead_none a b link true = refl
 dead_none a b link false = refl
 
-dead_back : (a b link : ℕ) (c : Bool) → passing (by_numbers a b (if c then notes.FoundDead B link else notes.Nothing B link moves.Dead)) ≡ []
+dead_back : (a b link : ℕ) (c : Bool) → passing (by_numbers a b (if c then Note.FoundDead B link else Note.Nothing B link Move.Dead)) ≡ []
 dead_back a b link true = refl
 dead_back a b link false = refl
 
 -- ---- of the other side
 
-came_back : (w : Hosts) (link : ℕ) (o : Option (List Bool)) → passing (by_numbers w.number_a w.number_b (came B link o w)) ≡ passing (by_numbers w.number_b w.number_a (came A link o (turned w)))
+came_back : (w : Hosts) (link : ℕ) (o : Option (List Bool)) → passing (by_numbers w.number_a w.number_b (note_of_coming B link o w)) ≡ passing (by_numbers w.number_b w.number_a (note_of_coming A link o (turned w)))
 came_back w link None = refl
 came_back w link (Some bits) = refl
 
-answered_back : (w : Hosts) (link : ℕ) (o : Option (List Bool)) → passing (by_numbers w.number_a w.number_b (answered B link o w)) ≡ passing (by_numbers w.number_b w.number_a (answered A link o (turned w)))
+answered_back : (w : Hosts) (link : ℕ) (o : Option (List Bool)) → passing (by_numbers w.number_a w.number_b (note_of_answering B link o w)) ≡ passing (by_numbers w.number_b w.number_a (note_of_answering A link o (turned w)))
 answered_back w link None = refl
 answered_back w link (Some bits) = refl
 
 -- ---- each event
 
 pub passes_fit : (event : Event) (note : Note) (w : Hosts) → Noted event note w → Joined w → Fits w.number_a w.number_b note (passes_between event note w)
-passes_fit (events.Call A call) note w n j = (ap (λ (x : Note). passing (by_numbers w.number_a w.number_b x)) n.said, tt)
-passes_fit (events.Call B call) note w n j = (ap (λ (x : Note). passing (by_numbers w.number_a w.number_b x)) n.said, tt)
-passes_fit (events.Out A) note w n j = subst (λ (x : Note). Fits w.number_a w.number_b x (passes_between (events.Out A) x w)) (sym n) (refl, out_names w j)
-passes_fit (events.Out B) note w n j =
-    subst (λ (x : Note). Fits w.number_a w.number_b x (passes_between (events.Out B) x w)) (sym n)
+passes_fit (Event.Call A call) note w n j = (ap (λ (x : Note). passing (by_numbers w.number_a w.number_b x)) n.said, tt)
+passes_fit (Event.Call B call) note w n j = (ap (λ (x : Note). passing (by_numbers w.number_a w.number_b x)) n.said, tt)
+passes_fit (Event.Out A) note w n j = subst (λ (x : Note). Fits w.number_a w.number_b x (passes_between (Event.Out A) x w)) (sym n) (refl, out_names w j)
+passes_fit (Event.Out B) note w n j =
+    subst (λ (x : Note). Fits w.number_a w.number_b x (passes_between (Event.Out B) x w)) (sym n)
     (refl, all_turned w.number_b w.number_a (goes_from w.number_b (note_of_message (next_output w.b))) (out_names (turned w) (turned_joined w j)))
-passes_fit (events.Deliver A link) note w n j = subst (λ (x : Note). Fits w.number_a w.number_b x (passes_between (events.Deliver A link) x w)) (sym n) (come_fits w link j)
-passes_fit (events.Deliver B link) note w n j =
+passes_fit (Event.Deliver A link) note w n j = subst (λ (x : Note). Fits w.number_a w.number_b x (passes_between (Event.Deliver A link) x w)) (sym n) (come_fits w link j)
+passes_fit (Event.Deliver B link) note w n j =
     let o : Option (List Bool) = arriving w.number_b (transit_of B link w) in
     let f = come_fits (turned w) link (turned_joined w j) in
-    subst (λ (x : Note). Fits w.number_a w.number_b x (passes_between (events.Deliver B link) x w)) (sym n)
+    subst (λ (x : Note). Fits w.number_a w.number_b x (passes_between (Event.Deliver B link) x w)) (sym n)
     (came_back w link o ∙ f.0, all_turned w.number_b w.number_a (comes_to w.number_a o) f.1)
-passes_fit (events.Lose A link) note w n j = (ap (λ (x : Note). passing (by_numbers w.number_a w.number_b x)) n ∙ lost_none w.number_a w.number_b link (is_accepted (transit_of A link w)), tt)
-passes_fit (events.Lose B link) note w n j = (ap (λ (x : Note). passing (by_numbers w.number_a w.number_b x)) n ∙ lost_back w.number_a w.number_b link (is_accepted (transit_of B link w)), tt)
-passes_fit (events.Dead A link) note w n j = (ap (λ (x : Note). passing (by_numbers w.number_a w.number_b x)) n ∙ dead_none w.number_a w.number_b link (is_accepted (transit_of A link w)), tt)
-passes_fit (events.Dead B link) note w n j = (ap (λ (x : Note). passing (by_numbers w.number_a w.number_b x)) n ∙ dead_back w.number_a w.number_b link (is_accepted (transit_of B link w)), tt)
-passes_fit (events.Answer A link) note w n j = subst (λ (x : Note). Fits w.number_a w.number_b x (passes_between (events.Answer A link) x w)) (sym n) (answer_fits w link j)
-passes_fit (events.Answer B link) note w n j =
+passes_fit (Event.Lose A link) note w n j = (ap (λ (x : Note). passing (by_numbers w.number_a w.number_b x)) n ∙ lost_none w.number_a w.number_b link (is_accepted (transit_of A link w)), tt)
+passes_fit (Event.Lose B link) note w n j = (ap (λ (x : Note). passing (by_numbers w.number_a w.number_b x)) n ∙ lost_back w.number_a w.number_b link (is_accepted (transit_of B link w)), tt)
+passes_fit (Event.Dead A link) note w n j = (ap (λ (x : Note). passing (by_numbers w.number_a w.number_b x)) n ∙ dead_none w.number_a w.number_b link (is_accepted (transit_of A link w)), tt)
+passes_fit (Event.Dead B link) note w n j = (ap (λ (x : Note). passing (by_numbers w.number_a w.number_b x)) n ∙ dead_back w.number_a w.number_b link (is_accepted (transit_of B link w)), tt)
+passes_fit (Event.Answer A link) note w n j = subst (λ (x : Note). Fits w.number_a w.number_b x (passes_between (Event.Answer A link) x w)) (sym n) (answer_fits w link j)
+passes_fit (Event.Answer B link) note w n j =
     let o : Option (List Bool) = answering w.number_a link (answer_kind (transit_of B link w)) in
     let f = answer_fits (turned w) link (turned_joined w j) in
-    subst (λ (x : Note). Fits w.number_a w.number_b x (passes_between (events.Answer B link) x w)) (sym n)
+    subst (λ (x : Note). Fits w.number_a w.number_b x (passes_between (Event.Answer B link) x w)) (sym n)
     (answered_back w link o ∙ f.0, all_turned w.number_b w.number_a (comes_to w.number_b o) f.1)
 
 -- ---- each has its place in a file

@@ -6,19 +6,18 @@ use Rattle.ncp_subnet.specs.Transit.{is_free, answer_kind}
 use Rattle.ncp_subnet.specs.Ways.{OnLink}
 use Rattle.ncp_umpire.specs.declared.kept.Kept.{Kept}
 use Rattle.ncp_umpire.specs.declared.kept.Slot.{Slot}
-use Rattle.ncp_umpire.specs.declared.kept.Slot.TheVariants as slot
-use Rattle.ncp_umpire.specs.Slots.{is_of, same_but_host, same_but_host_at, place_of, kept_at, slot_at, gone_out, has_room, with_out, with_slot, with_answered}
-use Rattle.ncp_umpire.specs.Judged.{is_out, false_rule, stray_rule, unsent_why, with_answer, with_coming}
+use Rattle.ncp_umpire.specs.Slots.{is_of, same_but_host, same_but_host_at, place_of, kept_at, kept_slot, gone_out, has_room, with_out, with_kept_slot, with_answered}
+use Rattle.ncp_umpire.specs.Judged.{is_slot_out, false_rule, stray_rule, unsent_why, with_answer, with_coming}
 use Rattle.ncp_proof_umpire.proofs.KeptOne.{middle_set, middle_get, middle_remove, Placed, placed, taken, Apart, replaced, forgotten, as_list, behind, put_out}
 use Rattle.ncp_proof_umpire.proofs.Shown.{of_itself}
 
 -- of the one message that is kept
 abbrev pub TellsOne : OnLink → Slot → List Bool → Type 0
-TellsOne Free k m = is_out k ≡ false
-TellsOne (Accepted n) k m = (k ≡ slot.Out) × (m ≡ n)
-TellsOne Delivered k m = k ≡ slot.Came
-TellsOne Lost k m = k ≡ slot.Out
-TellsOne Dead k m = k ≡ slot.Out
+TellsOne Free k m = is_slot_out k ≡ false
+TellsOne (Accepted n) k m = (k ≡ Slot.Out) × (m ≡ n)
+TellsOne Delivered k m = k ≡ Slot.Came
+TellsOne Lost k m = k ≡ Slot.Out
+TellsOne Dead k m = k ≡ Slot.Out
 
 -- of what is kept of the link
 abbrev pub Tells : OnLink → List Kept → Type 0
@@ -51,19 +50,19 @@ keys_apart f t l g u m nay k e = go (is_of g u m k) refl
 -- ---- a message goes out
 
 -- what is kept of a link on which nothing is in transit is not out
-pub not_out : (known : Bool) (kept : List Kept) (p : Kept → Bool) → Tells Free (filter p kept) → is_out (slot_at known kept (position p kept)) ≡ false
+pub not_out : (known : Bool) (kept : List Kept) (p : Kept → Bool) → Tells Free (filter p kept) → is_slot_out (kept_slot known kept (position p kept)) ≡ false
 not_out known kept p h = go (placed p kept)
   where
-    none_kept : (b : Bool) → is_out (if b then slot.Empty else slot.Unknown) ≡ false
+    none_kept : (b : Bool) → is_slot_out (if b then Slot.Empty else Slot.Unknown) ≡ false
     none_kept true = refl
     none_kept false = refl
 
-    go : ((position p kept ≡ None) × (filter p kept ≡ [])) ⊎ Placed p kept → is_out (slot_at known kept (position p kept)) ≡ false
-    go (inl none) = ap (λ (o : Option ℕ). is_out (slot_at known kept o)) none.0 ∙ none_kept known
+    go : ((position p kept ≡ None) × (filter p kept ≡ [])) ⊎ Placed p kept → is_slot_out (kept_slot known kept (position p kept)) ≡ false
+    go (inl none) = ap (λ (o : Option ℕ). is_slot_out (kept_slot known kept o)) none.0 ∙ none_kept known
     go (inr r) =
         let is : kept_at kept (length r.before) ≡ r.k = ap (λ (xs : List Kept). kept_at xs (length r.before)) r.form ∙ middle_get r.before r.k r.after in
         let all : filter p kept ≡ r.k ∷ filter p r.after = ap (filter p) r.form ∙ taken p r.before r.k r.after r.none r.hit in
-        ap (λ (o : Option ℕ). is_out (slot_at known kept o)) r.at ∙ ap (λ (k : Kept). is_out k.slot) is ∙ (only Free r.k (filter p r.after) (subst (Tells Free) all h)).1
+        ap (λ (o : Option ℕ). is_slot_out (kept_slot known kept o)) r.at ∙ ap (λ (k : Kept). is_slot_out k.slot) is ∙ (only Free r.k (filter p r.after) (subst (Tells Free) all h)).1
 
 pub after_going : (from to on : ℕ) (kept : List Kept) (bits : List Bool) → Tells Free (filter (is_of from to on) kept) → has_room kept (place_of from to on kept) ≡ true
     → Tells (Accepted bits) (filter (is_of from to on) (with_out kept (place_of from to on kept) (gone_out from to on bits)))
@@ -113,21 +112,21 @@ there p kept t f h = go (placed p kept)
 abbrev pub Blind : (Kept → Bool) → Type 0
 Blind p = (k : Kept) (s : Slot) → p k ≡ true → p (record k { slot = s }) ≡ true
 
-marked : (p : Kept → Bool) → Blind p → (kept : List Kept) (t now : OnLink) (to : Slot) (k : Kept_there p kept t) → TellsOne now to k.r.k.message → Tells now (filter p (with_slot kept (length k.r.before) to))
+marked : (p : Kept → Bool) → Blind p → (kept : List Kept) (t now : OnLink) (to : Slot) (k : Kept_there p kept t) → TellsOne now to k.r.k.message → Tells now (filter p (with_kept_slot kept (length k.r.before) to))
 marked p blind kept t now to k e =
     let r = k.r in
     let new : Kept = record r.k { slot = to } in
-    let form : with_slot kept (length r.before) to ≡ r.before ++ new ∷ r.after =
+    let form : with_kept_slot kept (length r.before) to ≡ r.before ++ new ∷ r.after =
     ap (λ (y : Kept). slice_set kept (length r.before) (record y { slot = to })) k.is
     ∙ ap (λ (xs : List Kept). slice_set xs (length r.before) new) r.form
     ∙ middle_set r.before r.k new r.after in
-    let b = as_list p kept (with_slot kept (length r.before) to) (r.before ++ new ∷ r.after) (new ∷ filter p r.after) form (replaced p kept r new (blind r.k to r.hit)) in
+    let b = as_list p kept (with_kept_slot kept (length r.before) to) (r.before ++ new ∷ r.after) (new ∷ filter p r.after) form (replaced p kept r new (blind r.k to r.hit)) in
     subst (Tells now) (sym (b.own ∙ ap (λ (xs : List Kept). new ∷ xs) k.alone)) e
 
 -- ---- it comes
 
 pub record Comes (p : Kept → Bool) (kept : List Kept) (bits : List Bool) : Type 0 where
-  pub none : unsent_why (slot_at true kept (position p kept)) (same_but_host_at kept (position p kept) bits) ≡ None
+  pub none : unsent_why (kept_slot true kept (position p kept)) (same_but_host_at kept (position p kept) bits) ≡ None
   pub tells : Tells Delivered (filter p (with_coming kept (position p kept)))
 
 pub coming : (p : Kept → Bool) → Blind p → (kept : List Kept) (m bits : List Bool) → Tells (Accepted m) (filter p kept) → same_but_host m bits ≡ true → Comes p kept bits
@@ -138,26 +137,26 @@ coming p blind kept m bits h same = go (there p kept (Accepted m) refl h)
         let r = k.r in
         record {
           none =
-              ap (λ (o : Option ℕ). unsent_why (slot_at true kept o) (same_but_host_at kept o bits)) r.at
+              ap (λ (o : Option ℕ). unsent_why (kept_slot true kept o) (same_but_host_at kept o bits)) r.at
               ∙ ap (λ (y : Kept). unsent_why y.slot (same_but_host y.message bits)) k.is
               ∙ ap (λ (s : Slot). unsent_why s (same_but_host r.k.message bits)) k.tells.0
-              ∙ ap (λ (x : List Bool). unsent_why slot.Out (same_but_host x bits)) k.tells.1
-              ∙ ap (unsent_why slot.Out) same;
+              ∙ ap (λ (x : List Bool). unsent_why Slot.Out (same_but_host x bits)) k.tells.1
+              ∙ ap (unsent_why Slot.Out) same;
           tells =
               subst (λ (o : Option ℕ). Tells Delivered (filter p (with_coming kept o))) (sym r.at)
-              (subst (λ (b : Bool). Tells Delivered (filter p (if b then with_slot kept (length r.before) slot.Came else kept))) (sym (ap (λ (y : Kept). is_out y.slot) k.is ∙ ap is_out k.tells.0))
-              (marked p blind kept (Accepted m) Delivered slot.Came k refl));
+              (subst (λ (b : Bool). Tells Delivered (filter p (if b then with_kept_slot kept (length r.before) Slot.Came else kept))) (sym (ap (λ (y : Kept). is_slot_out y.slot) k.is ∙ ap is_slot_out k.tells.0))
+              (marked p blind kept (Accepted m) Delivered Slot.Came k refl));
         }
 
 -- ---- it is answered
 
 pub record Answered (p : Kept → Bool) (kept : List Kept) (kind : ℕ) : Type 0 where
-  pub true_one : (known : Bool) (host link : ℕ) → false_rule (slot_at known kept (position p kept)) kind host link ≡ None
-  pub out : (known : Bool) (link : ℕ) → stray_rule (slot_at known kept (position p kept)) kind link ≡ None
+  pub true_one : (known : Bool) (host link : ℕ) → false_rule (kept_slot known kept (position p kept)) kind host link ≡ None
+  pub out : (known : Bool) (link : ℕ) → stray_rule (kept_slot known kept (position p kept)) kind link ≡ None
   pub tells : (known : Bool) → Tells Free (filter p (with_answer known kind kept (position p kept)))
 
 answered_as : (p : Kept → Bool) → Blind p → (kept : List Kept) (t : OnLink) (kind : ℕ) (s : Slot) → is_free t ≡ false → Tells t (filter p kept) → ((k : Slot) (m : List Bool) → TellsOne t k m → k ≡ s)
-    → is_out s ≡ true → ((host link : ℕ) → false_rule s kind host link ≡ None) → ((link : ℕ) → stray_rule s kind link ≡ None) → Answered p kept kind
+    → is_slot_out s ≡ true → ((host link : ℕ) → false_rule s kind host link ≡ None) → ((link : ℕ) → stray_rule s kind link ≡ None) → Answered p kept kind
 answered_as p blind kept t kind s f h is_s out_s no_false no_stray = go (there p kept t f h)
   where
     go : Kept_there p kept t → Answered p kept kind
@@ -166,7 +165,7 @@ answered_as p blind kept t kind s f h is_s out_s no_false no_stray = go (there p
       out = λ known link. ap (λ (x : Slot). stray_rule x kind link) (slot_is known) ∙ no_stray link;
       tells = λ known.
           subst (λ (o : Option ℕ). Tells Free (filter p (with_answer known kind kept o))) (sym r.at)
-          (subst (λ (b : Bool). Tells Free (filter p (if not b then kept else if kind == 5 then with_answered known kept (length r.before) else with_slot kept (length r.before) slot.Again))) (sym (ap (λ (y : Kept). is_out y.slot) k.is ∙ ap is_out one ∙ out_s))
+          (subst (λ (b : Bool). Tells Free (filter p (if not b then kept else if kind == 5 then with_answered known kept (length r.before) else with_kept_slot kept (length r.before) Slot.Again))) (sym (ap (λ (y : Kept). is_slot_out y.slot) k.is ∙ ap is_slot_out one ∙ out_s))
           (by (kind == 5) known));
     }
       where
@@ -176,12 +175,12 @@ answered_as p blind kept t kind s f h is_s out_s no_false no_stray = go (there p
         one : r.k.slot ≡ s
         one = is_s r.k.slot r.k.message k.tells
 
-        slot_is : (known : Bool) → slot_at known kept (position p kept) ≡ s
-        slot_is known = ap (slot_at known kept) r.at ∙ ap (λ (y : Kept). y.slot) k.is ∙ one
+        slot_is : (known : Bool) → kept_slot known kept (position p kept) ≡ s
+        slot_is known = ap (kept_slot known kept) r.at ∙ ap (λ (y : Kept). y.slot) k.is ∙ one
 
-        by : (b known : Bool) → Tells Free (filter p (if b then (if known then remove kept (length r.before) else with_slot kept (length r.before) slot.Empty) else with_slot kept (length r.before) slot.Again))
-        by false known = marked p blind kept t Free slot.Again k refl
-        by true false = marked p blind kept t Free slot.Empty k refl
+        by : (b known : Bool) → Tells Free (filter p (if b then (if known then remove kept (length r.before) else with_kept_slot kept (length r.before) Slot.Empty) else with_kept_slot kept (length r.before) Slot.Again))
+        by false known = marked p blind kept t Free Slot.Again k refl
+        by true false = marked p blind kept t Free Slot.Empty k refl
         by true true =
             let b = as_list p kept (remove kept (length r.before)) (r.before ++ r.after) (filter p r.after) (ap (λ (xs : List Kept). remove xs (length r.before)) r.form ∙ middle_remove r.before r.k r.after) (forgotten p kept r) in
             subst (Tells Free) (sym (b.own ∙ k.alone)) refl
@@ -192,10 +191,10 @@ answered p blind kept Free kind e h = absurd (cc)
 answered p blind kept (Accepted m) kind e h = absurd (cc)
 answered p blind kept Delivered kind e h =
     let is : 5 ≡ kind = cc in
-    subst (λ (k : ℕ). Answered p kept k) is (answered_as p blind kept Delivered 5 slot.Came refl h (λ k m x. x) refl (λ host link. refl) (λ link. refl))
+    subst (λ (k : ℕ). Answered p kept k) is (answered_as p blind kept Delivered 5 Slot.Came refl h (λ k m x. x) refl (λ host link. refl) (λ link. refl))
 answered p blind kept Lost kind e h =
     let is : 9 ≡ kind = cc in
-    subst (λ (k : ℕ). Answered p kept k) is (answered_as p blind kept Lost 9 slot.Out refl h (λ k m x. x) refl (λ host link. refl) (λ link. refl))
+    subst (λ (k : ℕ). Answered p kept k) is (answered_as p blind kept Lost 9 Slot.Out refl h (λ k m x. x) refl (λ host link. refl) (λ link. refl))
 answered p blind kept Dead kind e h =
     let is : 7 ≡ kind = cc in
-    subst (λ (k : ℕ). Answered p kept k) is (answered_as p blind kept Dead 7 slot.Out refl h (λ k m x. x) refl (λ host link. refl) (λ link. refl))
+    subst (λ (k : ℕ). Answered p kept k) is (answered_as p blind kept Dead 7 Slot.Out refl h (λ k m x. x) refl (λ host link. refl) (λ link. refl))

@@ -8,7 +8,7 @@ use Rattle.ncp_model.proofs.ResetLists.{bit, rsts, rrps, others, others-append}
 use Rattle.ncp_transcript_two.specs.World.{World}
 use Rattle.ncp_transcript_two.specs.Underway.{underway}
 use Rattle.ncp_umpire.specs.declared.view.View.{View}
-use Rattle.ncp_umpire.specs.Views.{is_waiting}
+use Rattle.ncp_umpire.specs.Views.{awaits_reply}
 use Rattle.ncp_proof_umpire.proofs.Phased.{Phased}
 use Rattle.ncp_proof_umpire.proofs.PhaseSteps.{Unheard}
 use Rattle.ncp_proof_umpire_many.proofs.PeerSeen.{Beside}
@@ -29,7 +29,7 @@ pub record Bare (v : World) : Type 0 where
 -- at the interface of this host it was seen to begin, or not
 pub record Toward (v : World) (view : View) (began : Bool) : Type 0 where
   pub beside : Beside v.that.peer.phase view
-  pub calm : is_waiting view.peer.wait ≡ true → others (line v.this v.going) ≡ []
+  pub calm : awaits_reply view.peer.wait ≡ true → others (line v.this v.going) ≡ []
   pub bare : view.peer.began ≡ false → Bare v
   pub opens : view.peer.began ≡ false → Opens (line v.this v.going) began
 
@@ -60,28 +60,28 @@ waits_one true rest false e f = absurd (omega (arith, e))
 waits_one false rest h e f = absurd (cc)
 
 -- while a reply of the host is owed to it, the peer waits
-pub peer_waits : (v : World) (view : View) → Counts v → Beside v.that.peer.phase view → is_waiting view.peer.wait ≡ true → v.this.peer.phase.wait ≡ true
+pub peer_waits : (v : World) (view : View) → Counts v → Beside v.that.peer.phase view → awaits_reply view.peer.wait ≡ true → v.this.peer.phase.wait ≡ true
 peer_waits v view c b e =
     let w = (within_of v view c b).waits in
-    waits_one (is_waiting view.peer.wait) (rsts (underway v.this v.going) + rrps (line v.that v.coming)) v.this.peer.phase.wait (let g = w in omega (arith, g)) e
+    waits_one (awaits_reply view.peer.wait) (rsts (underway v.this v.going) + rrps (line v.that v.coming)) v.this.peer.phase.wait (let g = w in omega (arith, g)) e
 
 both_none : (xs ys : List Command) → xs ≡ [] → ys ≡ [] → xs ++ ys ≡ []
 both_none xs ys e f = ap (λ (zs : List Command). zs ++ ys) e ∙ f
 
 -- and then nothing else is underway from it
-pub nothing_else : (v : World) (view : View) (began : Bool) → Counts v → Toward v view began → is_waiting view.peer.wait ≡ true → others (underway v.this v.going) ≡ []
+pub nothing_else : (v : World) (view : View) (began : Bool) → Counts v → Toward v view began → awaits_reply view.peer.wait ≡ true → others (underway v.this v.going) ≡ []
 nothing_else v view began c t e =
     others-append (line v.this v.going) v.this.peer.phase.waiting
     ∙ both_none (others (line v.this v.going)) (others v.this.peer.phase.waiting) (t.calm e) (c.calm (down_waits v.this.peer.phase (peer_waits v view c t.beside e)))
 
-pub none_waits : (v : World) (view : View) → Counts v → Beside v.that.peer.phase view → is_waiting view.peer.wait ≡ true → others v.this.peer.phase.waiting ≡ []
+pub none_waits : (v : World) (view : View) → Counts v → Beside v.that.peer.phase view → awaits_reply view.peer.wait ≡ true → others v.this.peer.phase.waiting ≡ []
 none_waits v view c b e = c.calm (down_waits v.this.peer.phase (peer_waits v view c b e))
 
 -- a host waits for a reply only while its data links are quiet, by what is seen at its own interface
 pub quiet_waits : (p : Phase) (q : Bool) (own : View) → Phased p q own → Beside p own → p.wait ≡ true → q ≡ true
-quiet_waits p q own k b e = go (is_waiting own.host.wait) refl
+quiet_waits p q own k b e = go (awaits_reply own.host.wait) refl
   where
-    go : (w : Bool) → is_waiting own.host.wait ≡ w → q ≡ true
+    go : (w : Bool) → awaits_reply own.host.wait ≡ w → q ≡ true
     go true f = k.wait_quiet f
     go false f = k.rst_quiet b.own_sure (let a = b.asked in let o = b.own in grind arith)
 

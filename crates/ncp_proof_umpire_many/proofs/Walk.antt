@@ -4,7 +4,7 @@ use Rattle.std.proofs.Common.{◌≡◌, ◌≢◌, ◌<◌, ℕ, Bool, false, L
 use Rattle.std.proofs.lemmas.List.{append_assoc, append-nil}
 use Rattle.ncp_transcript_two.specs.declared.event.Event.{Event}
 use Rattle.ncp_transcript_two.specs.declared.note.Note.{Note}
-use Rattle.ncp_transcript_two.specs.Between.{Hosts, new_hosts, after_note}
+use Rattle.ncp_transcript_two.specs.Between.{Hosts, new_hosts, hosts_after_note}
 use Rattle.ncp_transcript_two.specs.Happening.{Noted}
 use Rattle.ncp_transcript_two.specs.Transcript.{AreNotes, Noted_world, new_world, AreSteps}
 use Rattle.ncp_umpire.specs.declared.finding.Finding.{Finding}
@@ -13,38 +13,38 @@ use Rattle.ncp_umpire.specs.declared.way.Way.{Way}
 use Rattle.ncp_umpire.specs.Judged.{new_umpire, record_findings, after_record}
 use Rattle.ncp_umpire.proofs.Passing.{Pass, both}
 use Rattle.ncp_proof_umpire.specs.Worlds.{passes_between, world_file}
-use Rattle.ncp_proof_umpire_many.specs.Files.{found_in}
+use Rattle.ncp_proof_umpire_many.specs.Files.{findings_in}
 
 -- what is known behind all records
 abbrev pub after_file : Umpire → List (ℕ × Way × List Bool) → Umpire
 after_file umpire [] = umpire
 after_file umpire (one ∷ more) = after_file (after_record umpire one.1 one.0 one.2) more
 
-pub found_both : (umpire : Umpire) (xs ys : List (ℕ × Way × List Bool)) → found_in umpire (xs ++ ys) ≡ found_in umpire xs ++ found_in (after_file umpire xs) ys
+pub found_both : (umpire : Umpire) (xs ys : List (ℕ × Way × List Bool)) → findings_in umpire (xs ++ ys) ≡ findings_in umpire xs ++ findings_in (after_file umpire xs) ys
 found_both umpire [] ys = refl
 found_both umpire (x ∷ xs) ys =
     let here : List Finding = record_findings umpire x.1 x.0 x.2 in
     let after : Umpire = after_record umpire x.1 x.0 x.2 in
-    ap (λ (zs : List Finding). here ++ zs) (found_both after xs ys) ∙ sym (append_assoc here (found_in after xs) (found_in (after_file after xs) ys))
+    ap (λ (zs : List Finding). here ++ zs) (found_both after xs ys) ∙ sym (append_assoc here (findings_in after xs) (findings_in (after_file after xs) ys))
 
 -- what an event shows
 abbrev pub Shows : (Finding → Bool) → (Hosts → Umpire → Type 0) → List (ℕ × Way × List Bool) → Hosts → Umpire → Type 0
-Shows passes I file now umpire = Pass passes (found_in umpire file) × I now (after_file umpire file)
+Shows passes I file now umpire = Pass passes (findings_in umpire file) × I now (after_file umpire file)
 
 abbrev pub Steps : (Finding → Bool) → (Hosts → Umpire → Type 0) → Type 0
-Steps passes I = (event : Event) (note : Note) (w : Hosts) (umpire : Umpire) → Noted event note w → I w umpire → Shows passes I (passes_between event note w) (after_note note w) umpire
+Steps passes I = (event : Event) (note : Note) (w : Hosts) (umpire : Umpire) → Noted event note w → I w umpire → Shows passes I (passes_between event note w) (hosts_after_note note w) umpire
 
 pub walk : (passes : Finding → Bool) (I : Hosts → Umpire → Type 0) → Steps passes I → (happened : List Event) (noted : List Note) (w : Hosts) (umpire : Umpire) → AreNotes happened noted w → I w umpire
-    → Pass passes (found_in umpire (world_file happened noted w))
+    → Pass passes (findings_in umpire (world_file happened noted w))
 walk passes I steps [] [] w umpire p k = refl
 walk passes I steps [] (note ∷ noted) w umpire p k = absurd p
 walk passes I steps (event ∷ happened) [] w umpire p k = absurd p
 walk passes I steps (event ∷ happened) (note ∷ noted) w umpire p k =
     let s = steps event note w umpire p.0 k in
     let here : List (ℕ × Way × List Bool) = passes_between event note w in
-    let rest : List (ℕ × Way × List Bool) = world_file happened noted (after_note note w) in
+    let rest : List (ℕ × Way × List Bool) = world_file happened noted (hosts_after_note note w) in
     subst (λ (xs : List Finding). Pass passes xs) (sym (found_both umpire here rest))
-    (both passes (found_in umpire here) (found_in (after_file umpire here) rest) s.0 (walk passes I steps happened noted (after_note note w) (after_file umpire here) p.1 s.1))
+    (both passes (findings_in umpire here) (findings_in (after_file umpire here) rest) s.0 (walk passes I steps happened noted (hosts_after_note note w) (after_file umpire here) p.1 s.1))
 
 -- the notes of the steps
 pub steps_noted : (happened : List Event) (before now : Noted_world) → AreSteps happened before now → (all : List Note) × (now.notes ≡ before.notes ++ all) × AreNotes happened all before.hosts
@@ -62,10 +62,10 @@ abbrev pub AllPass : (Finding → Bool) → Type 0
 AllPass passes =
     (a b : ℕ) (given : List Event) (now : Noted_world)
     → a ≢ b → a < 256 → b < 256 → AreSteps given (new_world a b) now
-    → Pass passes (found_in (new_umpire false) (world_file given now.notes (new_hosts a b)))
+    → Pass passes (findings_in (new_umpire false) (world_file given now.notes (new_hosts a b)))
 
 pub all_pass : (passes : Finding → Bool) (I : Hosts → Umpire → Type 0) → Steps passes I → ((a b : ℕ) → a ≢ b → a < 256 → b < 256 → I (new_hosts a b) (new_umpire false)) → AllPass passes
 all_pass passes I steps begins a b happened now differ k l did =
     let n = steps_noted happened (new_world a b) now did in
-    subst (λ (all : List Note). Pass passes (found_in (new_umpire false) (world_file happened all (new_hosts a b)))) (sym n.1)
+    subst (λ (all : List Note). Pass passes (findings_in (new_umpire false) (world_file happened all (new_hosts a b)))) (sym n.1)
     (walk passes I steps happened n.0 (new_hosts a b) (new_umpire false) n.2 (begins a b differ k l))

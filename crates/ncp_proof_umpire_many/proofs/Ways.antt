@@ -23,7 +23,7 @@ use Rattle.ncp_umpire.specs.declared.view.View.{View}
 use Rattle.ncp_umpire.specs.Tables.{index_of, view_in}
 use Rattle.ncp_umpire.specs.Views.{new_view}
 use Rattle.ncp_umpire.specs.declared.views.TheConstants.{VIEWS}
-use Rattle.ncp_umpire.specs.Judged.{new_umpire, sees, fresh_out, after_out, answer_findings, with_answer, after_answer, unsent_finding, after_in, turn_at, message_findings, event_findings, record_findings, after_record}
+use Rattle.ncp_umpire.specs.Judged.{new_umpire, sees, fresh_out, umpire_after_out, answer_findings, with_answer, umpire_after_answer, unsent_finding, after_in, turn_at, message_findings, event_findings, record_findings, after_record}
 use Rattle.ncp_umpire.proofs.Following.{out_is, in_is, answer_is}
 use Rattle.ncp_proof_umpire.proofs.PhaseLists.{replicated}
 use Rattle.ncp_proof_umpire_many.proofs.Tells.{Tells}
@@ -70,7 +70,7 @@ ways_out a b on bits s umpire differ k l led free w =
     u = sees umpire a
 
     A : Umpire
-    A = after_out u a b on bits
+    A = umpire_after_out u a b on bits
 
     fresh : Bool
     fresh = fresh_out u a b on bits
@@ -141,7 +141,7 @@ answer_found umpire at peer on kind bits led zero answer apart =
     ap (λ (r : Result Leader Short). event_findings u FromImp at bits (event_behind FromImp at r)) led
     ∙ (rw (zero, answer, apart) refl)
 
-answer_views : (u : Umpire) (kind at peer on : ℕ) → (after_answer u kind at peer on).views ≡ u.views
+answer_views : (u : Umpire) (kind at peer on : ℕ) → (umpire_after_answer u kind at peer on).views ≡ u.views
 answer_views u kind at peer on = go u.full
   where
     go : (b : Bool) → (if b then u else record u { kept = with_answer (view_in u.views at peer).known kind u.kept (place_of at peer on u.kept) }).views ≡ u.views
@@ -164,7 +164,7 @@ ways_answer a b on kind bits s umpire differ k led zero answer is w = record {
       (record {
         sound = sound_answer u kind a b on sound_u;
         going = answer_way a b on kind (λ on. transit_at s a b on) _ u is (but_now s a b on Free) (seen_stays umpire a a w.sound k (w.going.seen on (busy_link (transit_at s a b on) kind is))) going_u;
-        coming = back_stays s a b on Free (after_answer u kind a b on) differ (answer_far a b on kind (λ on. transit_at s b a on) u differ (sees_way b a _ umpire a w.sound k w.coming));
+        coming = back_stays s a b on Free (umpire_after_answer u kind a b on) differ (answer_far a b on kind (λ on. transit_at s b a on) u differ (sees_way b a _ umpire a w.sound k w.coming));
       });
   views = λ at peer. ap (λ (y : Umpire). view_in y.views at peer) (answer_is umpire a bits (answer_leader kind b on) led apart zero answer) ∙ ap (λ (xs : List View). view_in xs at peer) (answer_views u kind a b on);
 }

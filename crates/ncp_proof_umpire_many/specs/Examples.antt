@@ -3,7 +3,7 @@ use Rattle.std.specs.Prelude.{ℕ, Bool, List, [], ◌∷◌}
 use Rattle.ncp_proof_runs.specs.Examples.{message_on_0}
 use Rattle.ncp_umpire.specs.declared.way.Way.{Way}
 use Rattle.ncp_umpire.specs.declared.way.Way.TheVariants.{ToImp, FromImp}
-use Rattle.ncp_proof_umpire.specs.Examples.{incomplete, wrong_resets}
+use Rattle.ncp_proof_umpire.specs.Examples.{incomplete_from_2, wrong_resets}
 
 -- the bits of records, as they come to host 1
 abbrev pub as_come : List (Way × List Bool) → List (ℕ × Way × List Bool)
@@ -12,11 +12,11 @@ as_come (one ∷ more) = (1, FromImp, one.1) ∷ as_come more
 
 -- an answer comes before any message went out
 abbrev pub stray_answer : List (ℕ × Way × List Bool)
-stray_answer = (1, FromImp, incomplete) ∷ []
+stray_answer = (1, FromImp, incomplete_from_2) ∷ []
 
 -- a message to host 2 goes out, which is no more than its leader, and is answered
-abbrev pub answered : List (ℕ × Way × List Bool)
-answered = (1, ToImp, message_on_0) ∷ (1, FromImp, incomplete) ∷ []
+abbrev pub message_and_answer : List (ℕ × Way × List Bool)
+message_and_answer = (1, ToImp, message_on_0) ∷ (1, FromImp, incomplete_from_2) ∷ []
 
 -- RST, RST, RRP and NOP come in one message of host 2
 abbrev pub resets_come : List (ℕ × Way × List Bool)

@@ -10,9 +10,9 @@ use Rattle.ncp_umpire.specs.Judged.{new_umpire, record_findings, after_record}
 use Rattle.ncp_proof_umpire.specs.Worlds.{world_file}
 
 -- all findings, the first one first
-abbrev pub found_in : Umpire → List (ℕ × Way × List Bool) → List Finding
-found_in umpire [] = []
-found_in umpire (one ∷ more) = record_findings umpire one.1 one.0 one.2 ++ found_in (after_record umpire one.1 one.0 one.2) more
+abbrev pub findings_in : Umpire → List (ℕ × Way × List Bool) → List Finding
+findings_in umpire [] = []
+findings_in umpire (one ∷ more) = record_findings umpire one.1 one.0 one.2 ++ findings_in (after_record umpire one.1 one.0 one.2) more
 
 -- Of two hosts with the subnet between them, whatever calls are made and whatever the subnet does in whatever order, nothing
 -- is found in the file of what passes both interfaces: against neither host, and not against the subnet.
@@ -20,4 +20,4 @@ abbrev pub NothingFound : Type 0
 NothingFound =
     (a b : ℕ) (given : List Event) (now : Noted_world)
     → a ≢ b → a < 256 → b < 256 → AreSteps given (new_world a b) now
-    → found_in (new_umpire false) (world_file given now.notes (new_hosts a b)) ≡ []
+    → findings_in (new_umpire false) (world_file given now.notes (new_hosts a b)) ≡ []

@@ -5,14 +5,11 @@ use Rattle.ncp_bits.specs.declared.bits.TheConstants.{MAX_BITS}
 use Rattle.ncp_leader.specs.declared.kinds.TheConstants.{RFNM, DESTINATION_DEAD, INCOMPLETE}
 use Rattle.ncp_subnet.specs.Messages.{answer_bits}
 use Rattle.ncp_terms.specs.declared.answer.Answer.{Answer}
-use Rattle.ncp_terms.specs.declared.answer.Answer.TheVariants as answers
 use Rattle.ncp_transcript.specs.declared.note.HostNote.{HostNote}
-use Rattle.ncp_transcript.specs.declared.note.HostNote.TheVariants as host_notes
 use Rattle.ncp_transcript_two.specs.declared.event.Event.{Event}
 use Rattle.ncp_transcript_two.specs.Between.{new_hosts}
 use Rattle.ncp_transcript_two.specs.Transcript.{Noted_world, new_world, AreSteps}
 use Rattle.ncp_transcript_many.specs.declared.many_note.ManyNote.{ManyNote}
-use Rattle.ncp_transcript_many.specs.declared.many_note.ManyNote.TheVariants as many
 use Rattle.ncp_transcript_many.specs.Crowd.{Crowd}
 use Rattle.ncp_transcript_many.specs.ManyHappening.{by_numbers}
 use Rattle.ncp_transcript_many.specs.ManyTranscript.{IsManyTranscript}
@@ -20,30 +17,30 @@ use Rattle.ncp_umpire.specs.declared.way.Way.{Way}
 use Rattle.ncp_umpire.specs.declared.way.Way.TheVariants.{FromImp}
 use Rattle.ncp_umpire.specs.Judged.{new_umpire}
 use Rattle.ncp_proof_umpire.specs.Worlds.{goes_from, world_file}
-use Rattle.ncp_proof_umpire_many.specs.Files.{found_in}
+use Rattle.ncp_proof_umpire_many.specs.Files.{findings_in}
 
 -- the type of an answer (BBN 1822, section 3)
 abbrev pub answer_type : Answer → ℕ
-answer_type answers.Rfnm = RFNM
-answer_type answers.Incomplete = INCOMPLETE
-answer_type answers.Dead = DESTINATION_DEAD
+answer_type Answer.Rfnm = RFNM
+answer_type Answer.Incomplete = INCOMPLETE
+answer_type Answer.Dead = DESTINATION_DEAD
 
 -- what came to a host: bits, or an answer to its message to this peer on this link
 abbrev pub came_at : ℕ → HostNote → List (ℕ × Way × List Bool)
-came_at host (host_notes.In bits received) = (host, FromImp, bits) ∷ []
-came_at host (host_notes.Answered peer link answer received) = (host, FromImp, answer_bits (answer_type answer) peer link) ∷ []
+came_at host (HostNote.In bits received) = (host, FromImp, bits) ∷ []
+came_at host (HostNote.Answered peer link answer received) = (host, FromImp, answer_bits (answer_type answer) peer link) ∷ []
 came_at host note = []
 
 -- what is recorded of a note: a message that went out, at its sender; one that came, at its receiver; an answer, at the host
 -- that it answers
 abbrev pub passing : ManyNote → List (ℕ × Way × List Bool)
-passing (many.Called host note) = []
-passing (many.Out host note) = goes_from host note
-passing (many.Came from to link note) = came_at to note
-passing (many.Lost from to link) = []
-passing (many.FoundDead from to link) = []
-passing (many.Answered from to link note) = came_at from note
-passing (many.Nothing event) = []
+passing (ManyNote.Called host note) = []
+passing (ManyNote.Out host note) = goes_from host note
+passing (ManyNote.Came from to link note) = came_at to note
+passing (ManyNote.Lost from to link) = []
+passing (ManyNote.FoundDead from to link) = []
+passing (ManyNote.Answered from to link note) = came_at from note
+passing (ManyNote.Nothing event) = []
 
 -- of all notes, the first one first
 abbrev pub many_file : List ManyNote → List (ℕ × Way × List Bool)
@@ -69,4 +66,4 @@ FileOfTwo =
 -- Of two to eight hosts with the subnet between them, whatever calls are made and whatever the subnet does in whatever order,
 -- nothing is found in the file of what passes all interfaces: against no host, and not against the subnet.
 abbrev pub NothingFoundAmongMany : Type 0
-NothingFoundAmongMany = (notes : List ManyNote) (now : Crowd) → IsManyTranscript notes now → found_in (new_umpire false) (many_file notes) ≡ []
+NothingFoundAmongMany = (notes : List ManyNote) (now : Crowd) → IsManyTranscript notes now → findings_in (new_umpire false) (many_file notes) ≡ []

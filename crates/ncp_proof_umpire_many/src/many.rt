@@ -2,10 +2,10 @@
 ghost use Rattle.std.specs.Prelude.{◌≡◌, ◌∷◌, [], ℕ, Bool, List};
 ghost use Rattle.ncp_subnet.specs.Messages.{answer_bits};
 ghost use Rattle.ncp_terms.specs.declared.answer.Answer.TheVariants.{Rfnm, Incomplete, Dead};
-ghost use Rattle.ncp_host.specs.declared.received.Received.TheVariants as received;
-ghost use Rattle.ncp_transcript.specs.declared.note.HostNote.TheVariants as of_host;
+ghost use Rattle.ncp_host.specs.declared.received.Received.{Received};
+ghost use Rattle.ncp_transcript.specs.declared.note.HostNote.{HostNote};
 ghost use Rattle.ncp_umpire.specs.declared.way.Way.TheVariants.{ToImp, FromImp};
-ghost use Rattle.ncp_transcript_many.specs.declared.many_note.ManyNote.TheVariants as many;
+ghost use Rattle.ncp_transcript_many.specs.declared.many_note.ManyNote.{ManyNote};
 ghost use Rattle.ncp_transcript_many.specs.Examples.{rst_with, row_notes};
 ghost use Rattle.ncp_proof_umpire_many.specs.ManyFiles.{passing, many_file, FileOfTwo, RecordsFit, NothingFoundAmongMany};
 
@@ -19,10 +19,10 @@ pub fn nothing_is_found_among_many()
 /// host that it answers, with its type; what is lost, and what was wanted in vain, leaves nothing.
 pub fn each_record_stands_where_it_passes()
     ensures file { many_file row_notes ≡ (1, ToImp, rst_with 2) ∷ (1, ToImp, rst_with 3) ∷ (3, FromImp, rst_with 1) ∷ [] }
-    ensures ready { passing (many.Answered 1 3 0 (of_host.Answered 3 0 Rfnm received.Answered)) ≡ (1, FromImp, answer_bits 5 3 0) ∷ [] }
-    ensures dead { passing (many.Answered 1 3 2 (of_host.Answered 3 2 Dead received.Answered)) ≡ (1, FromImp, answer_bits 7 3 2) ∷ [] }
-    ensures incomplete { passing (many.Answered 3 1 2 (of_host.Answered 1 2 Incomplete received.Answered)) ≡ (3, FromImp, answer_bits 9 1 2) ∷ [] }
-    ensures lost { (from to link : ℕ) → passing (many.Lost from to link) ≡ [] }
+    ensures ready { passing (ManyNote.Answered 1 3 0 (HostNote.Answered 3 0 Rfnm Received.Answered)) ≡ (1, FromImp, answer_bits 5 3 0) ∷ [] }
+    ensures dead { passing (ManyNote.Answered 1 3 2 (HostNote.Answered 3 2 Dead Received.Answered)) ≡ (1, FromImp, answer_bits 7 3 2) ∷ [] }
+    ensures incomplete { passing (ManyNote.Answered 3 1 2 (HostNote.Answered 1 2 Incomplete Received.Answered)) ≡ (3, FromImp, answer_bits 9 1 2) ∷ [] }
+    ensures lost { (from to link : ℕ) → passing (ManyNote.Lost from to link) ≡ [] }
 {}
 
 /// The file of two hosts is one of these: what is recorded of their notes is what passes their interfaces with their events.

@@ -7,7 +7,6 @@ use Rattle.ncp_model.specs.declared.pair.Pair.{Pair}
 use Rattle.ncp_model.specs.Pairs.{sends, receives}
 use Rattle.ncp_model.specs.End.{End}
 use Rattle.ncp_model.specs.Happenings.{Happening, happens}
-use Rattle.ncp_model.specs.Happenings as all
 use Rattle.ncp_model.specs.Leading.{suits}
 use Rattle.ncp_proof_watch.specs.Histories.{Past, no_past, adds, opens, Watched, watches, watch_from, watch}
 use Rattle.ncp_proof_watch.specs.Books.{BooksAt, Suit}
@@ -21,40 +20,40 @@ Kept pair what before past = BooksAt (happens pair what before).after (adds what
 ruleset on_books = (append-nil, append_assoc, length-append, take-append-drop)
 
 pub books-kept : (pair : Pair) (what : Happening) (before : Option End) (past : Past) → sends pair ≡ false → suits pair what ≡ true → SoundAt pair before → BooksAt before past → Kept pair what before past
-books-kept pair (all.Asks_to_send of_size with_room own full) None past n l s k = grind (arith, on_books)
-books-kept pair (all.Asks_to_send of_size with_room own full) (Some e) past n l s k = grind (arith, on_books)
-books-kept pair (all.Asks_to_receive with_room on own full) None past n l s k = grind (arith, on_books)
-books-kept pair (all.Asks_to_receive with_room on own full) (Some e) past n l s k = grind (arith, on_books)
-books-kept pair (all.Closes full) None past n l s k = tt
-books-kept pair (all.Closes full) (Some e) past n l s k = grind (arith, on_books)
-books-kept pair (all.Gives text) None past n l s k = tt
-books-kept pair (all.Gives text) (Some e) past n l s k = grind (arith, on_books)
-books-kept pair (all.Takes bytes) None past n l s k = tt
-books-kept pair (all.Takes bytes) (Some e) past n l s k = grind (arith, on_books)
-books-kept pair (all.Allocates m b full) None past n l s k = tt
-books-kept pair (all.Allocates m b full) (Some e) past n l s k = grind (arith, on_books)
-books-kept pair (all.Calls_back m b full) None past n l s k = tt
-books-kept pair (all.Calls_back m b full) (Some e) past n l s k = grind (arith, on_books)
-books-kept pair (all.Interrupts full) None past n l s k = tt
-books-kept pair (all.Interrupts full) (Some e) past n l s k = grind (arith, on_books)
-books-kept pair (all.Rts_comes on taken by_peer) None past n l s k = grind (arith, on_books)
-books-kept pair (all.Rts_comes on taken by_peer) (Some e) past n l s k = grind (arith, on_books)
-books-kept pair (all.Str_comes of_size by_peer) None past n l s k = grind (arith, on_books)
-books-kept pair (all.Str_comes of_size by_peer) (Some e) past n l s k = grind (arith, on_books)
-books-kept pair all.Cls_comes None past n l s k = grind (arith, on_books)
-books-kept pair all.Cls_comes (Some e) past n l s k = grind (arith, on_books)
-books-kept pair (all.All_comes on m b) before past n l s k = absurd (cc (n, l))
-books-kept pair (all.Gvb_comes on m b) before past n l s k = absurd (cc (n, l))
-books-kept pair (all.Ret_comes on m b) None past n l s k = tt
-books-kept pair (all.Ret_comes on m b) (Some e) past n l s k = grind (arith, on_books)
-books-kept pair (all.Inr_comes on) before past n l s k = absurd (cc (n, l))
-books-kept pair (all.Ins_comes on) None past n l s k = tt
-books-kept pair (all.Ins_comes on) (Some e) past n l s k = grind (arith, on_books)
-books-kept pair (all.Text_comes head of_size text) None past n l s k = tt
-books-kept pair (all.Text_comes head of_size text) (Some e) past n l s k = grind (arith, on_books)
-books-kept pair all.Text_goes_out before past n l s k = absurd (cc (n, l))
-books-kept pair (all.Is_answered how) before past n l s k = absurd (cc (n, l))
-books-kept pair all.Is_cleared before past n l s k = tt
+books-kept pair (Happening.Asks_to_send of_size with_room own full) None past n l s k = grind (arith, on_books)
+books-kept pair (Happening.Asks_to_send of_size with_room own full) (Some e) past n l s k = grind (arith, on_books)
+books-kept pair (Happening.Asks_to_receive with_room on own full) None past n l s k = grind (arith, on_books)
+books-kept pair (Happening.Asks_to_receive with_room on own full) (Some e) past n l s k = grind (arith, on_books)
+books-kept pair (Happening.Closes full) None past n l s k = tt
+books-kept pair (Happening.Closes full) (Some e) past n l s k = grind (arith, on_books)
+books-kept pair (Happening.Gives text) None past n l s k = tt
+books-kept pair (Happening.Gives text) (Some e) past n l s k = grind (arith, on_books)
+books-kept pair (Happening.Takes bytes) None past n l s k = tt
+books-kept pair (Happening.Takes bytes) (Some e) past n l s k = grind (arith, on_books)
+books-kept pair (Happening.Allocates m b full) None past n l s k = tt
+books-kept pair (Happening.Allocates m b full) (Some e) past n l s k = grind (arith, on_books)
+books-kept pair (Happening.Calls_back m b full) None past n l s k = tt
+books-kept pair (Happening.Calls_back m b full) (Some e) past n l s k = grind (arith, on_books)
+books-kept pair (Happening.Interrupts full) None past n l s k = tt
+books-kept pair (Happening.Interrupts full) (Some e) past n l s k = grind (arith, on_books)
+books-kept pair (Happening.Rts_comes on taken by_peer) None past n l s k = grind (arith, on_books)
+books-kept pair (Happening.Rts_comes on taken by_peer) (Some e) past n l s k = grind (arith, on_books)
+books-kept pair (Happening.Str_comes of_size by_peer) None past n l s k = grind (arith, on_books)
+books-kept pair (Happening.Str_comes of_size by_peer) (Some e) past n l s k = grind (arith, on_books)
+books-kept pair Happening.Cls_comes None past n l s k = grind (arith, on_books)
+books-kept pair Happening.Cls_comes (Some e) past n l s k = grind (arith, on_books)
+books-kept pair (Happening.All_comes on m b) before past n l s k = absurd (cc (n, l))
+books-kept pair (Happening.Gvb_comes on m b) before past n l s k = absurd (cc (n, l))
+books-kept pair (Happening.Ret_comes on m b) None past n l s k = tt
+books-kept pair (Happening.Ret_comes on m b) (Some e) past n l s k = grind (arith, on_books)
+books-kept pair (Happening.Inr_comes on) before past n l s k = absurd (cc (n, l))
+books-kept pair (Happening.Ins_comes on) None past n l s k = tt
+books-kept pair (Happening.Ins_comes on) (Some e) past n l s k = grind (arith, on_books)
+books-kept pair (Happening.Text_comes head of_size text) None past n l s k = tt
+books-kept pair (Happening.Text_comes head of_size text) (Some e) past n l s k = grind (arith, on_books)
+books-kept pair Happening.Text_goes_out before past n l s k = absurd (cc (n, l))
+books-kept pair (Happening.Is_answered how) before past n l s k = absurd (cc (n, l))
+books-kept pair Happening.Is_cleared before past n l s k = tt
 
 books-from : (pair : Pair) (whats : List Happening) (w : Watched) → receives pair ≡ true → Suit pair whats → SoundAt pair w.end → BooksAt w.end w.past → BooksAt (watch_from pair whats w).end (watch_from pair whats w).past
 books-from pair [] w r l s k = k

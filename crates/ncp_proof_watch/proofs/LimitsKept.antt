@@ -8,7 +8,6 @@ use Rattle.ncp_model.specs.Pairs.{sends}
 use Rattle.ncp_model.specs.End.{End, is_going}
 use Rattle.ncp_model.specs.Texts.{Rfnm, Incomplete, Dead}
 use Rattle.ncp_model.specs.Happenings.{Happening, happens, end_from}
-use Rattle.ncp_model.specs.Happenings as all
 use Rattle.ncp_model.specs.Leading.{suits}
 use Rattle.ncp_proof_watch.specs.Sound.{SoundAt}
 use Rattle.ncp_proof_watch.specs.Books.{Suit}
@@ -19,10 +18,10 @@ ruleset on_numbers = (length-append, length-drop)
 
 -- Calls on an end that is there, by whether it sends, asked and heard.
 
-asks_send : (pair : Pair) (of_size : ℕ) (with_room : ℕ) (own : ℕ) (full : Bool) (e : End) → SoundAt pair (Some e) → InLimitsAt pair (Some e) → InLimitsAt pair (happens pair (all.Asks_to_send of_size with_room own full) (Some e)).after
+asks_send : (pair : Pair) (of_size : ℕ) (with_room : ℕ) (own : ℕ) (full : Bool) (e : End) → SoundAt pair (Some e) → InLimitsAt pair (Some e) → InLimitsAt pair (happens pair (Happening.Asks_to_send of_size with_room own full) (Some e)).after
 asks_send pair of_size with_room own full e s k = go (sends pair) e.asked e.heard (is_going e) refl refl refl refl
   where
-    go : (f g h i : Bool) → sends pair ≡ f → e.asked ≡ g → e.heard ≡ h → is_going e ≡ i → InLimitsAt pair (happens pair (all.Asks_to_send of_size with_room own full) (Some e)).after
+    go : (f g h i : Bool) → sends pair ≡ f → e.asked ≡ g → e.heard ≡ h → is_going e ≡ i → InLimitsAt pair (happens pair (Happening.Asks_to_send of_size with_room own full) (Some e)).after
     go true true true true x y z w = grind (arith, on_numbers)
     go true true true false x y z w = grind (arith, on_numbers)
     go true true false true x y z w = grind (arith, on_numbers)
@@ -40,10 +39,10 @@ asks_send pair of_size with_room own full e s k = go (sends pair) e.asked e.hear
     go false false false true x y z w = grind (arith, on_numbers)
     go false false false false x y z w = grind (arith, on_numbers)
 
-asks_receive : (pair : Pair) (with_room : ℕ) (on : ℕ) (own : ℕ) (full : Bool) (e : End) → SoundAt pair (Some e) → InLimitsAt pair (Some e) → InLimitsAt pair (happens pair (all.Asks_to_receive with_room on own full) (Some e)).after
+asks_receive : (pair : Pair) (with_room : ℕ) (on : ℕ) (own : ℕ) (full : Bool) (e : End) → SoundAt pair (Some e) → InLimitsAt pair (Some e) → InLimitsAt pair (happens pair (Happening.Asks_to_receive with_room on own full) (Some e)).after
 asks_receive pair with_room on own full e s k = go (sends pair) e.asked e.heard (is_going e) refl refl refl refl
   where
-    go : (f g h i : Bool) → sends pair ≡ f → e.asked ≡ g → e.heard ≡ h → is_going e ≡ i → InLimitsAt pair (happens pair (all.Asks_to_receive with_room on own full) (Some e)).after
+    go : (f g h i : Bool) → sends pair ≡ f → e.asked ≡ g → e.heard ≡ h → is_going e ≡ i → InLimitsAt pair (happens pair (Happening.Asks_to_receive with_room on own full) (Some e)).after
     go true true true true x y z w = grind (arith, on_numbers)
     go true true true false x y z w = grind (arith, on_numbers)
     go true true false true x y z w = grind (arith, on_numbers)
@@ -61,10 +60,10 @@ asks_receive pair with_room on own full e s k = go (sends pair) e.asked e.heard 
     go false false false true x y z w = grind (arith, on_numbers)
     go false false false false x y z w = grind (arith, on_numbers)
 
-closes : (pair : Pair) (full : Bool) (e : End) → SoundAt pair (Some e) → InLimitsAt pair (Some e) → InLimitsAt pair (happens pair (all.Closes full) (Some e)).after
+closes : (pair : Pair) (full : Bool) (e : End) → SoundAt pair (Some e) → InLimitsAt pair (Some e) → InLimitsAt pair (happens pair (Happening.Closes full) (Some e)).after
 closes pair full e s k = go (sends pair) e.asked e.heard (is_going e) refl refl refl refl
   where
-    go : (f g h i : Bool) → sends pair ≡ f → e.asked ≡ g → e.heard ≡ h → is_going e ≡ i → InLimitsAt pair (happens pair (all.Closes full) (Some e)).after
+    go : (f g h i : Bool) → sends pair ≡ f → e.asked ≡ g → e.heard ≡ h → is_going e ≡ i → InLimitsAt pair (happens pair (Happening.Closes full) (Some e)).after
     go true true true true x y z w = grind (arith, on_numbers)
     go true true true false x y z w = grind (arith, on_numbers)
     go true true false true x y z w = grind (arith, on_numbers)
@@ -82,10 +81,10 @@ closes pair full e s k = go (sends pair) e.asked e.heard (is_going e) refl refl 
     go false false false true x y z w = grind (arith, on_numbers)
     go false false false false x y z w = grind (arith, on_numbers)
 
-gives : (pair : Pair) (text : List Bool) (e : End) → SoundAt pair (Some e) → InLimitsAt pair (Some e) → InLimitsAt pair (happens pair (all.Gives text) (Some e)).after
+gives : (pair : Pair) (text : List Bool) (e : End) → SoundAt pair (Some e) → InLimitsAt pair (Some e) → InLimitsAt pair (happens pair (Happening.Gives text) (Some e)).after
 gives pair text e s k = go (sends pair) e.asked e.heard (is_going e) refl refl refl refl
   where
-    go : (f g h i : Bool) → sends pair ≡ f → e.asked ≡ g → e.heard ≡ h → is_going e ≡ i → InLimitsAt pair (happens pair (all.Gives text) (Some e)).after
+    go : (f g h i : Bool) → sends pair ≡ f → e.asked ≡ g → e.heard ≡ h → is_going e ≡ i → InLimitsAt pair (happens pair (Happening.Gives text) (Some e)).after
     go true true true true x y z w = grind (arith, on_numbers)
     go true true true false x y z w = grind (arith, on_numbers)
     go true true false true x y z w = grind (arith, on_numbers)
@@ -103,10 +102,10 @@ gives pair text e s k = go (sends pair) e.asked e.heard (is_going e) refl refl r
     go false false false true x y z w = grind (arith, on_numbers)
     go false false false false x y z w = grind (arith, on_numbers)
 
-allocates : (pair : Pair) (m : ℕ) (b : ℕ) (full : Bool) (e : End) → SoundAt pair (Some e) → InLimitsAt pair (Some e) → InLimitsAt pair (happens pair (all.Allocates m b full) (Some e)).after
+allocates : (pair : Pair) (m : ℕ) (b : ℕ) (full : Bool) (e : End) → SoundAt pair (Some e) → InLimitsAt pair (Some e) → InLimitsAt pair (happens pair (Happening.Allocates m b full) (Some e)).after
 allocates pair m b full e s k = go (sends pair) e.asked e.heard (is_going e) refl refl refl refl
   where
-    go : (f g h i : Bool) → sends pair ≡ f → e.asked ≡ g → e.heard ≡ h → is_going e ≡ i → InLimitsAt pair (happens pair (all.Allocates m b full) (Some e)).after
+    go : (f g h i : Bool) → sends pair ≡ f → e.asked ≡ g → e.heard ≡ h → is_going e ≡ i → InLimitsAt pair (happens pair (Happening.Allocates m b full) (Some e)).after
     go true true true true x y z w = grind (arith, on_numbers)
     go true true true false x y z w = grind (arith, on_numbers)
     go true true false true x y z w = grind (arith, on_numbers)
@@ -124,10 +123,10 @@ allocates pair m b full e s k = go (sends pair) e.asked e.heard (is_going e) ref
     go false false false true x y z w = grind (arith, on_numbers)
     go false false false false x y z w = grind (arith, on_numbers)
 
-calls_back : (pair : Pair) (m : ℕ) (b : ℕ) (full : Bool) (e : End) → SoundAt pair (Some e) → InLimitsAt pair (Some e) → InLimitsAt pair (happens pair (all.Calls_back m b full) (Some e)).after
+calls_back : (pair : Pair) (m : ℕ) (b : ℕ) (full : Bool) (e : End) → SoundAt pair (Some e) → InLimitsAt pair (Some e) → InLimitsAt pair (happens pair (Happening.Calls_back m b full) (Some e)).after
 calls_back pair m b full e s k = go (sends pair) e.asked e.heard (is_going e) refl refl refl refl
   where
-    go : (f g h i : Bool) → sends pair ≡ f → e.asked ≡ g → e.heard ≡ h → is_going e ≡ i → InLimitsAt pair (happens pair (all.Calls_back m b full) (Some e)).after
+    go : (f g h i : Bool) → sends pair ≡ f → e.asked ≡ g → e.heard ≡ h → is_going e ≡ i → InLimitsAt pair (happens pair (Happening.Calls_back m b full) (Some e)).after
     go true true true true x y z w = grind (arith, on_numbers)
     go true true true false x y z w = grind (arith, on_numbers)
     go true true false true x y z w = grind (arith, on_numbers)
@@ -145,10 +144,10 @@ calls_back pair m b full e s k = go (sends pair) e.asked e.heard (is_going e) re
     go false false false true x y z w = grind (arith, on_numbers)
     go false false false false x y z w = grind (arith, on_numbers)
 
-interrupts : (pair : Pair) (full : Bool) (e : End) → SoundAt pair (Some e) → InLimitsAt pair (Some e) → InLimitsAt pair (happens pair (all.Interrupts full) (Some e)).after
+interrupts : (pair : Pair) (full : Bool) (e : End) → SoundAt pair (Some e) → InLimitsAt pair (Some e) → InLimitsAt pair (happens pair (Happening.Interrupts full) (Some e)).after
 interrupts pair full e s k = go (sends pair) e.asked e.heard (is_going e) refl refl refl refl
   where
-    go : (f g h i : Bool) → sends pair ≡ f → e.asked ≡ g → e.heard ≡ h → is_going e ≡ i → InLimitsAt pair (happens pair (all.Interrupts full) (Some e)).after
+    go : (f g h i : Bool) → sends pair ≡ f → e.asked ≡ g → e.heard ≡ h → is_going e ≡ i → InLimitsAt pair (happens pair (Happening.Interrupts full) (Some e)).after
     go true true true true x y z w = grind (arith, on_numbers)
     go true true true false x y z w = grind (arith, on_numbers)
     go true true false true x y z w = grind (arith, on_numbers)
@@ -167,47 +166,47 @@ interrupts pair full e s k = go (sends pair) e.asked e.heard (is_going e) refl r
     go false false false false x y z w = grind (arith, on_numbers)
 
 pub limits-after : (pair : Pair) (what : Happening) (before : Option End) → suits pair what ≡ true → SoundAt pair before → InLimitsAt pair before → InLimitsAt pair (happens pair what before).after
-limits-after pair (all.Asks_to_send of_size with_room own full) None u s k = grind (arith, on_numbers)
-limits-after pair (all.Asks_to_send of_size with_room own full) (Some e) u s k = asks_send pair of_size with_room own full e s k
-limits-after pair (all.Asks_to_receive with_room on own full) None u s k = grind (arith, on_numbers)
-limits-after pair (all.Asks_to_receive with_room on own full) (Some e) u s k = asks_receive pair with_room on own full e s k
-limits-after pair (all.Closes full) None u s k = tt
-limits-after pair (all.Closes full) (Some e) u s k = closes pair full e s k
-limits-after pair (all.Gives text) None u s k = tt
-limits-after pair (all.Gives text) (Some e) u s k = gives pair text e s k
-limits-after pair (all.Takes bytes) None u s k = tt
-limits-after pair (all.Takes bytes) (Some e) u s k = grind (arith, on_numbers)
-limits-after pair (all.Allocates m b full) None u s k = tt
-limits-after pair (all.Allocates m b full) (Some e) u s k = allocates pair m b full e s k
-limits-after pair (all.Calls_back m b full) None u s k = tt
-limits-after pair (all.Calls_back m b full) (Some e) u s k = calls_back pair m b full e s k
-limits-after pair (all.Interrupts full) None u s k = tt
-limits-after pair (all.Interrupts full) (Some e) u s k = interrupts pair full e s k
-limits-after pair (all.Rts_comes on taken by_peer) None u s k = grind (arith, on_numbers)
-limits-after pair (all.Rts_comes on taken by_peer) (Some e) u s k = grind (arith, on_numbers)
-limits-after pair (all.Str_comes of_size by_peer) None u s k = grind (arith, on_numbers)
-limits-after pair (all.Str_comes of_size by_peer) (Some e) u s k = grind (arith, on_numbers)
-limits-after pair all.Cls_comes None u s k = grind (arith, on_numbers)
-limits-after pair all.Cls_comes (Some e) u s k = grind (arith, on_numbers)
-limits-after pair (all.All_comes on m b) None u s k = tt
-limits-after pair (all.All_comes on m b) (Some e) u s k = grind (arith, on_numbers)
-limits-after pair (all.Gvb_comes on m b) None u s k = tt
-limits-after pair (all.Gvb_comes on m b) (Some e) u s k = grind (arith, on_numbers)
-limits-after pair (all.Ret_comes on m b) None u s k = tt
-limits-after pair (all.Ret_comes on m b) (Some e) u s k = grind (arith, on_numbers)
-limits-after pair (all.Inr_comes on) None u s k = tt
-limits-after pair (all.Inr_comes on) (Some e) u s k = grind (arith, on_numbers)
-limits-after pair (all.Ins_comes on) None u s k = tt
-limits-after pair (all.Ins_comes on) (Some e) u s k = grind (arith, on_numbers)
-limits-after pair (all.Text_comes head of_size text) None u s k = tt
-limits-after pair (all.Text_comes head of_size text) (Some e) u s k = grind (arith, on_numbers)
-limits-after pair all.Text_goes_out None u s k = tt
-limits-after pair all.Text_goes_out (Some e) u s k = grind (arith, on_numbers)
-limits-after pair (all.Is_answered Rfnm) None u s k = tt
-limits-after pair (all.Is_answered Rfnm) (Some e) u s k = grind (arith, on_numbers)
-limits-after pair (all.Is_answered Incomplete) before u s k = k
-limits-after pair (all.Is_answered Dead) before u s k = k
-limits-after pair all.Is_cleared before u s k = tt
+limits-after pair (Happening.Asks_to_send of_size with_room own full) None u s k = grind (arith, on_numbers)
+limits-after pair (Happening.Asks_to_send of_size with_room own full) (Some e) u s k = asks_send pair of_size with_room own full e s k
+limits-after pair (Happening.Asks_to_receive with_room on own full) None u s k = grind (arith, on_numbers)
+limits-after pair (Happening.Asks_to_receive with_room on own full) (Some e) u s k = asks_receive pair with_room on own full e s k
+limits-after pair (Happening.Closes full) None u s k = tt
+limits-after pair (Happening.Closes full) (Some e) u s k = closes pair full e s k
+limits-after pair (Happening.Gives text) None u s k = tt
+limits-after pair (Happening.Gives text) (Some e) u s k = gives pair text e s k
+limits-after pair (Happening.Takes bytes) None u s k = tt
+limits-after pair (Happening.Takes bytes) (Some e) u s k = grind (arith, on_numbers)
+limits-after pair (Happening.Allocates m b full) None u s k = tt
+limits-after pair (Happening.Allocates m b full) (Some e) u s k = allocates pair m b full e s k
+limits-after pair (Happening.Calls_back m b full) None u s k = tt
+limits-after pair (Happening.Calls_back m b full) (Some e) u s k = calls_back pair m b full e s k
+limits-after pair (Happening.Interrupts full) None u s k = tt
+limits-after pair (Happening.Interrupts full) (Some e) u s k = interrupts pair full e s k
+limits-after pair (Happening.Rts_comes on taken by_peer) None u s k = grind (arith, on_numbers)
+limits-after pair (Happening.Rts_comes on taken by_peer) (Some e) u s k = grind (arith, on_numbers)
+limits-after pair (Happening.Str_comes of_size by_peer) None u s k = grind (arith, on_numbers)
+limits-after pair (Happening.Str_comes of_size by_peer) (Some e) u s k = grind (arith, on_numbers)
+limits-after pair Happening.Cls_comes None u s k = grind (arith, on_numbers)
+limits-after pair Happening.Cls_comes (Some e) u s k = grind (arith, on_numbers)
+limits-after pair (Happening.All_comes on m b) None u s k = tt
+limits-after pair (Happening.All_comes on m b) (Some e) u s k = grind (arith, on_numbers)
+limits-after pair (Happening.Gvb_comes on m b) None u s k = tt
+limits-after pair (Happening.Gvb_comes on m b) (Some e) u s k = grind (arith, on_numbers)
+limits-after pair (Happening.Ret_comes on m b) None u s k = tt
+limits-after pair (Happening.Ret_comes on m b) (Some e) u s k = grind (arith, on_numbers)
+limits-after pair (Happening.Inr_comes on) None u s k = tt
+limits-after pair (Happening.Inr_comes on) (Some e) u s k = grind (arith, on_numbers)
+limits-after pair (Happening.Ins_comes on) None u s k = tt
+limits-after pair (Happening.Ins_comes on) (Some e) u s k = grind (arith, on_numbers)
+limits-after pair (Happening.Text_comes head of_size text) None u s k = tt
+limits-after pair (Happening.Text_comes head of_size text) (Some e) u s k = grind (arith, on_numbers)
+limits-after pair Happening.Text_goes_out None u s k = tt
+limits-after pair Happening.Text_goes_out (Some e) u s k = grind (arith, on_numbers)
+limits-after pair (Happening.Is_answered Rfnm) None u s k = tt
+limits-after pair (Happening.Is_answered Rfnm) (Some e) u s k = grind (arith, on_numbers)
+limits-after pair (Happening.Is_answered Incomplete) before u s k = k
+limits-after pair (Happening.Is_answered Dead) before u s k = k
+limits-after pair Happening.Is_cleared before u s k = tt
 
 limits-from : (pair : Pair) (whats : List Happening) (before : Option End) → Suit pair whats → SoundAt pair before → InLimitsAt pair before → InLimitsAt pair (end_from pair whats before)
 limits-from pair [] before u s k = k

@@ -9,25 +9,24 @@ use Rattle.ncp_model.specs.End.{End}
 use Rattle.ncp_model.specs.Ends.{hears_link, uses_link}
 use Rattle.ncp_model.specs.Texts.{Rfnm, Incomplete, Dead}
 use Rattle.ncp_model.specs.Happenings.{Happening, happens}
-use Rattle.ncp_model.specs.Happenings as all
 use Rattle.ncp_model.specs.Leading.{passes}
 use Rattle.ncp_proof_watch.specs.Sound.{SoundAt}
 
 -- the peer's request, or the own one, by which an end comes to be on a link
 abbrev pub brings_link : ℕ → Happening → Bool
-brings_link l (all.Rts_comes on taken by_peer) = on == l && not taken
+brings_link l (Happening.Rts_comes on taken by_peer) = on == l && not taken
 brings_link l what = false
 
 abbrev pub takes_link : ℕ → Happening → Bool
-takes_link l (all.Asks_to_receive with_room on own full) = on == l && not (nat_le MAX_OWN own)
+takes_link l (Happening.Asks_to_receive with_room on own full) = on == l && not (nat_le MAX_OWN own)
 takes_link l what = false
 
 -- Own requests, by whether the store, the table and the queue have place.
 
-heard-by-send-new : (l : ℕ) (pair : Pair) (of_size with_room own : ℕ) (full : Bool) → SoundAt pair None → passes (hears_link l) pair (happens pair (all.Asks_to_send of_size with_room own full) None).after ≡ true → (passes (hears_link l) pair None || brings_link l (all.Asks_to_send of_size with_room own full)) ≡ true
+heard-by-send-new : (l : ℕ) (pair : Pair) (of_size with_room own : ℕ) (full : Bool) → SoundAt pair None → passes (hears_link l) pair (happens pair (Happening.Asks_to_send of_size with_room own full) None).after ≡ true → (passes (hears_link l) pair None || brings_link l (Happening.Asks_to_send of_size with_room own full)) ≡ true
 heard-by-send-new l pair of_size with_room own full s k = go (is_room with_room) (nat_le MAX_OWN own) full refl refl refl
   where
-    go : (a b c : Bool) → is_room with_room ≡ a → nat_le MAX_OWN own ≡ b → full ≡ c → (passes (hears_link l) pair None || brings_link l (all.Asks_to_send of_size with_room own full)) ≡ true
+    go : (a b c : Bool) → is_room with_room ≡ a → nat_le MAX_OWN own ≡ b → full ≡ c → (passes (hears_link l) pair None || brings_link l (Happening.Asks_to_send of_size with_room own full)) ≡ true
     go true true true p q r = grind arith
     go true true false p q r = grind arith
     go true false true p q r = grind arith
@@ -37,10 +36,10 @@ heard-by-send-new l pair of_size with_room own full s k = go (is_room with_room)
     go false false true p q r = grind arith
     go false false false p q r = grind arith
 
-heard-by-send-there : (l : ℕ) (pair : Pair) (of_size with_room own : ℕ) (full : Bool) (e : End) → SoundAt pair (Some e) → passes (hears_link l) pair (happens pair (all.Asks_to_send of_size with_room own full) (Some e)).after ≡ true → (passes (hears_link l) pair (Some e) || brings_link l (all.Asks_to_send of_size with_room own full)) ≡ true
+heard-by-send-there : (l : ℕ) (pair : Pair) (of_size with_room own : ℕ) (full : Bool) (e : End) → SoundAt pair (Some e) → passes (hears_link l) pair (happens pair (Happening.Asks_to_send of_size with_room own full) (Some e)).after ≡ true → (passes (hears_link l) pair (Some e) || brings_link l (Happening.Asks_to_send of_size with_room own full)) ≡ true
 heard-by-send-there l pair of_size with_room own full e s k = go (is_room with_room) (nat_le MAX_OWN own) full refl refl refl
   where
-    go : (a b c : Bool) → is_room with_room ≡ a → nat_le MAX_OWN own ≡ b → full ≡ c → (passes (hears_link l) pair (Some e) || brings_link l (all.Asks_to_send of_size with_room own full)) ≡ true
+    go : (a b c : Bool) → is_room with_room ≡ a → nat_le MAX_OWN own ≡ b → full ≡ c → (passes (hears_link l) pair (Some e) || brings_link l (Happening.Asks_to_send of_size with_room own full)) ≡ true
     go true true true p q r = grind arith
     go true true false p q r = grind arith
     go true false true p q r = grind arith
@@ -50,10 +49,10 @@ heard-by-send-there l pair of_size with_room own full e s k = go (is_room with_r
     go false false true p q r = grind arith
     go false false false p q r = grind arith
 
-heard-by-receive-new : (l : ℕ) (pair : Pair) (with_room on own : ℕ) (full : Bool) → SoundAt pair None → passes (hears_link l) pair (happens pair (all.Asks_to_receive with_room on own full) None).after ≡ true → (passes (hears_link l) pair None || brings_link l (all.Asks_to_receive with_room on own full)) ≡ true
+heard-by-receive-new : (l : ℕ) (pair : Pair) (with_room on own : ℕ) (full : Bool) → SoundAt pair None → passes (hears_link l) pair (happens pair (Happening.Asks_to_receive with_room on own full) None).after ≡ true → (passes (hears_link l) pair None || brings_link l (Happening.Asks_to_receive with_room on own full)) ≡ true
 heard-by-receive-new l pair with_room on own full s k = go (is_room with_room) (nat_le MAX_OWN own) full refl refl refl
   where
-    go : (a b c : Bool) → is_room with_room ≡ a → nat_le MAX_OWN own ≡ b → full ≡ c → (passes (hears_link l) pair None || brings_link l (all.Asks_to_receive with_room on own full)) ≡ true
+    go : (a b c : Bool) → is_room with_room ≡ a → nat_le MAX_OWN own ≡ b → full ≡ c → (passes (hears_link l) pair None || brings_link l (Happening.Asks_to_receive with_room on own full)) ≡ true
     go true true true p q r = grind arith
     go true true false p q r = grind arith
     go true false true p q r = grind arith
@@ -63,10 +62,10 @@ heard-by-receive-new l pair with_room on own full s k = go (is_room with_room) (
     go false false true p q r = grind arith
     go false false false p q r = grind arith
 
-heard-by-receive-there : (l : ℕ) (pair : Pair) (with_room on own : ℕ) (full : Bool) (e : End) → SoundAt pair (Some e) → passes (hears_link l) pair (happens pair (all.Asks_to_receive with_room on own full) (Some e)).after ≡ true → (passes (hears_link l) pair (Some e) || brings_link l (all.Asks_to_receive with_room on own full)) ≡ true
+heard-by-receive-there : (l : ℕ) (pair : Pair) (with_room on own : ℕ) (full : Bool) (e : End) → SoundAt pair (Some e) → passes (hears_link l) pair (happens pair (Happening.Asks_to_receive with_room on own full) (Some e)).after ≡ true → (passes (hears_link l) pair (Some e) || brings_link l (Happening.Asks_to_receive with_room on own full)) ≡ true
 heard-by-receive-there l pair with_room on own full e s k = go (is_room with_room) (nat_le MAX_OWN own) full refl refl refl
   where
-    go : (a b c : Bool) → is_room with_room ≡ a → nat_le MAX_OWN own ≡ b → full ≡ c → (passes (hears_link l) pair (Some e) || brings_link l (all.Asks_to_receive with_room on own full)) ≡ true
+    go : (a b c : Bool) → is_room with_room ≡ a → nat_le MAX_OWN own ≡ b → full ≡ c → (passes (hears_link l) pair (Some e) || brings_link l (Happening.Asks_to_receive with_room on own full)) ≡ true
     go true true true p q r = grind arith
     go true true false p q r = grind arith
     go true false true p q r = grind arith
@@ -76,10 +75,10 @@ heard-by-receive-there l pair with_room on own full e s k = go (is_room with_roo
     go false false true p q r = grind arith
     go false false false p q r = grind arith
 
-asked-by-send-new : (l : ℕ) (pair : Pair) (of_size with_room own : ℕ) (full : Bool) → SoundAt pair None → passes (uses_link l) pair (happens pair (all.Asks_to_send of_size with_room own full) None).after ≡ true → (passes (uses_link l) pair None || takes_link l (all.Asks_to_send of_size with_room own full)) ≡ true
+asked-by-send-new : (l : ℕ) (pair : Pair) (of_size with_room own : ℕ) (full : Bool) → SoundAt pair None → passes (uses_link l) pair (happens pair (Happening.Asks_to_send of_size with_room own full) None).after ≡ true → (passes (uses_link l) pair None || takes_link l (Happening.Asks_to_send of_size with_room own full)) ≡ true
 asked-by-send-new l pair of_size with_room own full s k = go (is_room with_room) (nat_le MAX_OWN own) full refl refl refl
   where
-    go : (a b c : Bool) → is_room with_room ≡ a → nat_le MAX_OWN own ≡ b → full ≡ c → (passes (uses_link l) pair None || takes_link l (all.Asks_to_send of_size with_room own full)) ≡ true
+    go : (a b c : Bool) → is_room with_room ≡ a → nat_le MAX_OWN own ≡ b → full ≡ c → (passes (uses_link l) pair None || takes_link l (Happening.Asks_to_send of_size with_room own full)) ≡ true
     go true true true p q r = grind arith
     go true true false p q r = grind arith
     go true false true p q r = grind arith
@@ -89,10 +88,10 @@ asked-by-send-new l pair of_size with_room own full s k = go (is_room with_room)
     go false false true p q r = grind arith
     go false false false p q r = grind arith
 
-asked-by-send-there : (l : ℕ) (pair : Pair) (of_size with_room own : ℕ) (full : Bool) (e : End) → SoundAt pair (Some e) → passes (uses_link l) pair (happens pair (all.Asks_to_send of_size with_room own full) (Some e)).after ≡ true → (passes (uses_link l) pair (Some e) || takes_link l (all.Asks_to_send of_size with_room own full)) ≡ true
+asked-by-send-there : (l : ℕ) (pair : Pair) (of_size with_room own : ℕ) (full : Bool) (e : End) → SoundAt pair (Some e) → passes (uses_link l) pair (happens pair (Happening.Asks_to_send of_size with_room own full) (Some e)).after ≡ true → (passes (uses_link l) pair (Some e) || takes_link l (Happening.Asks_to_send of_size with_room own full)) ≡ true
 asked-by-send-there l pair of_size with_room own full e s k = go (is_room with_room) (nat_le MAX_OWN own) full refl refl refl
   where
-    go : (a b c : Bool) → is_room with_room ≡ a → nat_le MAX_OWN own ≡ b → full ≡ c → (passes (uses_link l) pair (Some e) || takes_link l (all.Asks_to_send of_size with_room own full)) ≡ true
+    go : (a b c : Bool) → is_room with_room ≡ a → nat_le MAX_OWN own ≡ b → full ≡ c → (passes (uses_link l) pair (Some e) || takes_link l (Happening.Asks_to_send of_size with_room own full)) ≡ true
     go true true true p q r = grind arith
     go true true false p q r = grind arith
     go true false true p q r = grind arith
@@ -102,10 +101,10 @@ asked-by-send-there l pair of_size with_room own full e s k = go (is_room with_r
     go false false true p q r = grind arith
     go false false false p q r = grind arith
 
-asked-by-receive-new : (l : ℕ) (pair : Pair) (with_room on own : ℕ) (full : Bool) → SoundAt pair None → passes (uses_link l) pair (happens pair (all.Asks_to_receive with_room on own full) None).after ≡ true → (passes (uses_link l) pair None || takes_link l (all.Asks_to_receive with_room on own full)) ≡ true
+asked-by-receive-new : (l : ℕ) (pair : Pair) (with_room on own : ℕ) (full : Bool) → SoundAt pair None → passes (uses_link l) pair (happens pair (Happening.Asks_to_receive with_room on own full) None).after ≡ true → (passes (uses_link l) pair None || takes_link l (Happening.Asks_to_receive with_room on own full)) ≡ true
 asked-by-receive-new l pair with_room on own full s k = go (is_room with_room) (nat_le MAX_OWN own) full refl refl refl
   where
-    go : (a b c : Bool) → is_room with_room ≡ a → nat_le MAX_OWN own ≡ b → full ≡ c → (passes (uses_link l) pair None || takes_link l (all.Asks_to_receive with_room on own full)) ≡ true
+    go : (a b c : Bool) → is_room with_room ≡ a → nat_le MAX_OWN own ≡ b → full ≡ c → (passes (uses_link l) pair None || takes_link l (Happening.Asks_to_receive with_room on own full)) ≡ true
     go true true true p q r = grind arith
     go true true false p q r = grind arith
     go true false true p q r = grind arith
@@ -115,10 +114,10 @@ asked-by-receive-new l pair with_room on own full s k = go (is_room with_room) (
     go false false true p q r = grind arith
     go false false false p q r = grind arith
 
-asked-by-receive-there : (l : ℕ) (pair : Pair) (with_room on own : ℕ) (full : Bool) (e : End) → SoundAt pair (Some e) → passes (uses_link l) pair (happens pair (all.Asks_to_receive with_room on own full) (Some e)).after ≡ true → (passes (uses_link l) pair (Some e) || takes_link l (all.Asks_to_receive with_room on own full)) ≡ true
+asked-by-receive-there : (l : ℕ) (pair : Pair) (with_room on own : ℕ) (full : Bool) (e : End) → SoundAt pair (Some e) → passes (uses_link l) pair (happens pair (Happening.Asks_to_receive with_room on own full) (Some e)).after ≡ true → (passes (uses_link l) pair (Some e) || takes_link l (Happening.Asks_to_receive with_room on own full)) ≡ true
 asked-by-receive-there l pair with_room on own full e s k = go (is_room with_room) (nat_le MAX_OWN own) full refl refl refl
   where
-    go : (a b c : Bool) → is_room with_room ≡ a → nat_le MAX_OWN own ≡ b → full ≡ c → (passes (uses_link l) pair (Some e) || takes_link l (all.Asks_to_receive with_room on own full)) ≡ true
+    go : (a b c : Bool) → is_room with_room ≡ a → nat_le MAX_OWN own ≡ b → full ≡ c → (passes (uses_link l) pair (Some e) || takes_link l (Happening.Asks_to_receive with_room on own full)) ≡ true
     go true true true p q r = grind arith
     go true true false p q r = grind arith
     go true false true p q r = grind arith
@@ -130,87 +129,87 @@ asked-by-receive-there l pair with_room on own full e s k = go (is_room with_roo
 
 -- an end that hears a link afterwards heard it before, or hears it now
 pub heard-by : (l : ℕ) (pair : Pair) (what : Happening) (before : Option End) → SoundAt pair before → passes (hears_link l) pair (happens pair what before).after ≡ true → (passes (hears_link l) pair before || brings_link l what) ≡ true
-heard-by l pair (all.Asks_to_send of_size with_room own full) None s k = heard-by-send-new l pair of_size with_room own full s k
-heard-by l pair (all.Asks_to_send of_size with_room own full) (Some e) s k = heard-by-send-there l pair of_size with_room own full e s k
-heard-by l pair (all.Asks_to_receive with_room on own full) None s k = heard-by-receive-new l pair with_room on own full s k
-heard-by l pair (all.Asks_to_receive with_room on own full) (Some e) s k = heard-by-receive-there l pair with_room on own full e s k
-heard-by l pair (all.Closes full) None s k = absurd (cc k)
-heard-by l pair (all.Closes full) (Some e) s k = grind arith
-heard-by l pair (all.Gives text) None s k = absurd (cc k)
-heard-by l pair (all.Gives text) (Some e) s k = grind arith
-heard-by l pair (all.Takes bytes) None s k = absurd (cc k)
-heard-by l pair (all.Takes bytes) (Some e) s k = grind arith
-heard-by l pair (all.Allocates m b full) None s k = absurd (cc k)
-heard-by l pair (all.Allocates m b full) (Some e) s k = grind arith
-heard-by l pair (all.Calls_back m b full) None s k = absurd (cc k)
-heard-by l pair (all.Calls_back m b full) (Some e) s k = grind arith
-heard-by l pair (all.Interrupts full) None s k = absurd (cc k)
-heard-by l pair (all.Interrupts full) (Some e) s k = grind arith
-heard-by l pair (all.Rts_comes on taken by_peer) None s k = grind arith
-heard-by l pair (all.Rts_comes on taken by_peer) (Some e) s k = grind arith
-heard-by l pair (all.Str_comes of_size by_peer) None s k = grind arith
-heard-by l pair (all.Str_comes of_size by_peer) (Some e) s k = grind arith
-heard-by l pair all.Cls_comes None s k = grind arith
-heard-by l pair all.Cls_comes (Some e) s k = grind arith
-heard-by l pair (all.All_comes on m b) None s k = absurd (cc k)
-heard-by l pair (all.All_comes on m b) (Some e) s k = grind arith
-heard-by l pair (all.Gvb_comes on m b) None s k = absurd (cc k)
-heard-by l pair (all.Gvb_comes on m b) (Some e) s k = grind arith
-heard-by l pair (all.Ret_comes on m b) None s k = absurd (cc k)
-heard-by l pair (all.Ret_comes on m b) (Some e) s k = grind arith
-heard-by l pair (all.Inr_comes on) None s k = absurd (cc k)
-heard-by l pair (all.Inr_comes on) (Some e) s k = grind arith
-heard-by l pair (all.Ins_comes on) None s k = absurd (cc k)
-heard-by l pair (all.Ins_comes on) (Some e) s k = grind arith
-heard-by l pair (all.Text_comes head of_size text) None s k = absurd (cc k)
-heard-by l pair (all.Text_comes head of_size text) (Some e) s k = grind arith
-heard-by l pair all.Text_goes_out None s k = absurd (cc k)
-heard-by l pair all.Text_goes_out (Some e) s k = grind arith
-heard-by l pair (all.Is_answered Rfnm) None s k = absurd (cc k)
-heard-by l pair (all.Is_answered Rfnm) (Some e) s k = grind arith
-heard-by l pair (all.Is_answered Incomplete) before s k = grind arith
-heard-by l pair (all.Is_answered Dead) before s k = grind arith
-heard-by l pair all.Is_cleared before s k = absurd (cc k)
+heard-by l pair (Happening.Asks_to_send of_size with_room own full) None s k = heard-by-send-new l pair of_size with_room own full s k
+heard-by l pair (Happening.Asks_to_send of_size with_room own full) (Some e) s k = heard-by-send-there l pair of_size with_room own full e s k
+heard-by l pair (Happening.Asks_to_receive with_room on own full) None s k = heard-by-receive-new l pair with_room on own full s k
+heard-by l pair (Happening.Asks_to_receive with_room on own full) (Some e) s k = heard-by-receive-there l pair with_room on own full e s k
+heard-by l pair (Happening.Closes full) None s k = absurd (cc k)
+heard-by l pair (Happening.Closes full) (Some e) s k = grind arith
+heard-by l pair (Happening.Gives text) None s k = absurd (cc k)
+heard-by l pair (Happening.Gives text) (Some e) s k = grind arith
+heard-by l pair (Happening.Takes bytes) None s k = absurd (cc k)
+heard-by l pair (Happening.Takes bytes) (Some e) s k = grind arith
+heard-by l pair (Happening.Allocates m b full) None s k = absurd (cc k)
+heard-by l pair (Happening.Allocates m b full) (Some e) s k = grind arith
+heard-by l pair (Happening.Calls_back m b full) None s k = absurd (cc k)
+heard-by l pair (Happening.Calls_back m b full) (Some e) s k = grind arith
+heard-by l pair (Happening.Interrupts full) None s k = absurd (cc k)
+heard-by l pair (Happening.Interrupts full) (Some e) s k = grind arith
+heard-by l pair (Happening.Rts_comes on taken by_peer) None s k = grind arith
+heard-by l pair (Happening.Rts_comes on taken by_peer) (Some e) s k = grind arith
+heard-by l pair (Happening.Str_comes of_size by_peer) None s k = grind arith
+heard-by l pair (Happening.Str_comes of_size by_peer) (Some e) s k = grind arith
+heard-by l pair Happening.Cls_comes None s k = grind arith
+heard-by l pair Happening.Cls_comes (Some e) s k = grind arith
+heard-by l pair (Happening.All_comes on m b) None s k = absurd (cc k)
+heard-by l pair (Happening.All_comes on m b) (Some e) s k = grind arith
+heard-by l pair (Happening.Gvb_comes on m b) None s k = absurd (cc k)
+heard-by l pair (Happening.Gvb_comes on m b) (Some e) s k = grind arith
+heard-by l pair (Happening.Ret_comes on m b) None s k = absurd (cc k)
+heard-by l pair (Happening.Ret_comes on m b) (Some e) s k = grind arith
+heard-by l pair (Happening.Inr_comes on) None s k = absurd (cc k)
+heard-by l pair (Happening.Inr_comes on) (Some e) s k = grind arith
+heard-by l pair (Happening.Ins_comes on) None s k = absurd (cc k)
+heard-by l pair (Happening.Ins_comes on) (Some e) s k = grind arith
+heard-by l pair (Happening.Text_comes head of_size text) None s k = absurd (cc k)
+heard-by l pair (Happening.Text_comes head of_size text) (Some e) s k = grind arith
+heard-by l pair Happening.Text_goes_out None s k = absurd (cc k)
+heard-by l pair Happening.Text_goes_out (Some e) s k = grind arith
+heard-by l pair (Happening.Is_answered Rfnm) None s k = absurd (cc k)
+heard-by l pair (Happening.Is_answered Rfnm) (Some e) s k = grind arith
+heard-by l pair (Happening.Is_answered Incomplete) before s k = grind arith
+heard-by l pair (Happening.Is_answered Dead) before s k = grind arith
+heard-by l pair Happening.Is_cleared before s k = absurd (cc k)
 
 pub asked-by : (l : ℕ) (pair : Pair) (what : Happening) (before : Option End) → SoundAt pair before → passes (uses_link l) pair (happens pair what before).after ≡ true → (passes (uses_link l) pair before || takes_link l what) ≡ true
-asked-by l pair (all.Asks_to_send of_size with_room own full) None s k = asked-by-send-new l pair of_size with_room own full s k
-asked-by l pair (all.Asks_to_send of_size with_room own full) (Some e) s k = asked-by-send-there l pair of_size with_room own full e s k
-asked-by l pair (all.Asks_to_receive with_room on own full) None s k = asked-by-receive-new l pair with_room on own full s k
-asked-by l pair (all.Asks_to_receive with_room on own full) (Some e) s k = asked-by-receive-there l pair with_room on own full e s k
-asked-by l pair (all.Closes full) None s k = absurd (cc k)
-asked-by l pair (all.Closes full) (Some e) s k = grind arith
-asked-by l pair (all.Gives text) None s k = absurd (cc k)
-asked-by l pair (all.Gives text) (Some e) s k = grind arith
-asked-by l pair (all.Takes bytes) None s k = absurd (cc k)
-asked-by l pair (all.Takes bytes) (Some e) s k = grind arith
-asked-by l pair (all.Allocates m b full) None s k = absurd (cc k)
-asked-by l pair (all.Allocates m b full) (Some e) s k = grind arith
-asked-by l pair (all.Calls_back m b full) None s k = absurd (cc k)
-asked-by l pair (all.Calls_back m b full) (Some e) s k = grind arith
-asked-by l pair (all.Interrupts full) None s k = absurd (cc k)
-asked-by l pair (all.Interrupts full) (Some e) s k = grind arith
-asked-by l pair (all.Rts_comes on taken by_peer) None s k = grind arith
-asked-by l pair (all.Rts_comes on taken by_peer) (Some e) s k = grind arith
-asked-by l pair (all.Str_comes of_size by_peer) None s k = grind arith
-asked-by l pair (all.Str_comes of_size by_peer) (Some e) s k = grind arith
-asked-by l pair all.Cls_comes None s k = grind arith
-asked-by l pair all.Cls_comes (Some e) s k = grind arith
-asked-by l pair (all.All_comes on m b) None s k = absurd (cc k)
-asked-by l pair (all.All_comes on m b) (Some e) s k = grind arith
-asked-by l pair (all.Gvb_comes on m b) None s k = absurd (cc k)
-asked-by l pair (all.Gvb_comes on m b) (Some e) s k = grind arith
-asked-by l pair (all.Ret_comes on m b) None s k = absurd (cc k)
-asked-by l pair (all.Ret_comes on m b) (Some e) s k = grind arith
-asked-by l pair (all.Inr_comes on) None s k = absurd (cc k)
-asked-by l pair (all.Inr_comes on) (Some e) s k = grind arith
-asked-by l pair (all.Ins_comes on) None s k = absurd (cc k)
-asked-by l pair (all.Ins_comes on) (Some e) s k = grind arith
-asked-by l pair (all.Text_comes head of_size text) None s k = absurd (cc k)
-asked-by l pair (all.Text_comes head of_size text) (Some e) s k = grind arith
-asked-by l pair all.Text_goes_out None s k = absurd (cc k)
-asked-by l pair all.Text_goes_out (Some e) s k = grind arith
-asked-by l pair (all.Is_answered Rfnm) None s k = absurd (cc k)
-asked-by l pair (all.Is_answered Rfnm) (Some e) s k = grind arith
-asked-by l pair (all.Is_answered Incomplete) before s k = grind arith
-asked-by l pair (all.Is_answered Dead) before s k = grind arith
-asked-by l pair all.Is_cleared before s k = absurd (cc k)
+asked-by l pair (Happening.Asks_to_send of_size with_room own full) None s k = asked-by-send-new l pair of_size with_room own full s k
+asked-by l pair (Happening.Asks_to_send of_size with_room own full) (Some e) s k = asked-by-send-there l pair of_size with_room own full e s k
+asked-by l pair (Happening.Asks_to_receive with_room on own full) None s k = asked-by-receive-new l pair with_room on own full s k
+asked-by l pair (Happening.Asks_to_receive with_room on own full) (Some e) s k = asked-by-receive-there l pair with_room on own full e s k
+asked-by l pair (Happening.Closes full) None s k = absurd (cc k)
+asked-by l pair (Happening.Closes full) (Some e) s k = grind arith
+asked-by l pair (Happening.Gives text) None s k = absurd (cc k)
+asked-by l pair (Happening.Gives text) (Some e) s k = grind arith
+asked-by l pair (Happening.Takes bytes) None s k = absurd (cc k)
+asked-by l pair (Happening.Takes bytes) (Some e) s k = grind arith
+asked-by l pair (Happening.Allocates m b full) None s k = absurd (cc k)
+asked-by l pair (Happening.Allocates m b full) (Some e) s k = grind arith
+asked-by l pair (Happening.Calls_back m b full) None s k = absurd (cc k)
+asked-by l pair (Happening.Calls_back m b full) (Some e) s k = grind arith
+asked-by l pair (Happening.Interrupts full) None s k = absurd (cc k)
+asked-by l pair (Happening.Interrupts full) (Some e) s k = grind arith
+asked-by l pair (Happening.Rts_comes on taken by_peer) None s k = grind arith
+asked-by l pair (Happening.Rts_comes on taken by_peer) (Some e) s k = grind arith
+asked-by l pair (Happening.Str_comes of_size by_peer) None s k = grind arith
+asked-by l pair (Happening.Str_comes of_size by_peer) (Some e) s k = grind arith
+asked-by l pair Happening.Cls_comes None s k = grind arith
+asked-by l pair Happening.Cls_comes (Some e) s k = grind arith
+asked-by l pair (Happening.All_comes on m b) None s k = absurd (cc k)
+asked-by l pair (Happening.All_comes on m b) (Some e) s k = grind arith
+asked-by l pair (Happening.Gvb_comes on m b) None s k = absurd (cc k)
+asked-by l pair (Happening.Gvb_comes on m b) (Some e) s k = grind arith
+asked-by l pair (Happening.Ret_comes on m b) None s k = absurd (cc k)
+asked-by l pair (Happening.Ret_comes on m b) (Some e) s k = grind arith
+asked-by l pair (Happening.Inr_comes on) None s k = absurd (cc k)
+asked-by l pair (Happening.Inr_comes on) (Some e) s k = grind arith
+asked-by l pair (Happening.Ins_comes on) None s k = absurd (cc k)
+asked-by l pair (Happening.Ins_comes on) (Some e) s k = grind arith
+asked-by l pair (Happening.Text_comes head of_size text) None s k = absurd (cc k)
+asked-by l pair (Happening.Text_comes head of_size text) (Some e) s k = grind arith
+asked-by l pair Happening.Text_goes_out None s k = absurd (cc k)
+asked-by l pair Happening.Text_goes_out (Some e) s k = grind arith
+asked-by l pair (Happening.Is_answered Rfnm) None s k = absurd (cc k)
+asked-by l pair (Happening.Is_answered Rfnm) (Some e) s k = grind arith
+asked-by l pair (Happening.Is_answered Incomplete) before s k = grind arith
+asked-by l pair (Happening.Is_answered Dead) before s k = grind arith
+asked-by l pair Happening.Is_cleared before s k = absurd (cc k)

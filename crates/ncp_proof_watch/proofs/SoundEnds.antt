@@ -7,73 +7,72 @@ use Rattle.ncp_model.specs.Pairs.{sends, receives}
 use Rattle.ncp_model.specs.End.{End}
 use Rattle.ncp_model.specs.Texts.{Rfnm, Incomplete, Dead}
 use Rattle.ncp_model.specs.Happenings.{Happening, happens, end_from}
-use Rattle.ncp_model.specs.Happenings as all
 use Rattle.ncp_proof_watch.specs.Sound.{SoundAt}
 
 pub one_way : (pair : Pair) → receives pair ≡ true → sends pair ≡ false
 one_way pair h = grind arith
 
 -- an own request on an end that is there: by whether it is asked and heard
-asks-send : (pair : Pair) (of_size with_room own : ℕ) (full : Bool) (e : End) → SoundAt pair (Some e) → SoundAt pair (happens pair (all.Asks_to_send of_size with_room own full) (Some e)).after
+asks-send : (pair : Pair) (of_size with_room own : ℕ) (full : Bool) (e : End) → SoundAt pair (Some e) → SoundAt pair (happens pair (Happening.Asks_to_send of_size with_room own full) (Some e)).after
 asks-send pair of_size with_room own full e s = go e.asked e.heard refl refl
   where
-    go : (a h : Bool) → e.asked ≡ a → e.heard ≡ h → SoundAt pair (happens pair (all.Asks_to_send of_size with_room own full) (Some e)).after
+    go : (a h : Bool) → e.asked ≡ a → e.heard ≡ h → SoundAt pair (happens pair (Happening.Asks_to_send of_size with_room own full) (Some e)).after
     go true true p q = grind arith
     go true false p q = grind arith
     go false true p q = grind arith
     go false false p q = grind arith
 
-asks-receive : (pair : Pair) (with_room on own : ℕ) (full : Bool) (e : End) → SoundAt pair (Some e) → SoundAt pair (happens pair (all.Asks_to_receive with_room on own full) (Some e)).after
+asks-receive : (pair : Pair) (with_room on own : ℕ) (full : Bool) (e : End) → SoundAt pair (Some e) → SoundAt pair (happens pair (Happening.Asks_to_receive with_room on own full) (Some e)).after
 asks-receive pair with_room on own full e s = go e.asked e.heard refl refl
   where
-    go : (a h : Bool) → e.asked ≡ a → e.heard ≡ h → SoundAt pair (happens pair (all.Asks_to_receive with_room on own full) (Some e)).after
+    go : (a h : Bool) → e.asked ≡ a → e.heard ≡ h → SoundAt pair (happens pair (Happening.Asks_to_receive with_room on own full) (Some e)).after
     go true true p q = grind arith
     go true false p q = grind arith
     go false true p q = grind arith
     go false false p q = grind arith
 
 pub sound-after : (pair : Pair) (what : Happening) (before : Option End) → SoundAt pair before → SoundAt pair (happens pair what before).after
-sound-after pair (all.Asks_to_send of_size with_room own full) None s = grind arith
-sound-after pair (all.Asks_to_send of_size with_room own full) (Some e) s = asks-send pair of_size with_room own full e s
-sound-after pair (all.Asks_to_receive with_room on own full) None s = grind arith
-sound-after pair (all.Asks_to_receive with_room on own full) (Some e) s = asks-receive pair with_room on own full e s
-sound-after pair (all.Closes full) None s = s
-sound-after pair (all.Closes full) (Some e) s = grind arith
-sound-after pair (all.Gives text) None s = s
-sound-after pair (all.Gives text) (Some e) s = grind arith
-sound-after pair (all.Takes bytes) None s = s
-sound-after pair (all.Takes bytes) (Some e) s = grind arith
-sound-after pair (all.Allocates m b full) None s = s
-sound-after pair (all.Allocates m b full) (Some e) s = grind arith
-sound-after pair (all.Calls_back m b full) None s = s
-sound-after pair (all.Calls_back m b full) (Some e) s = grind arith
-sound-after pair (all.Interrupts full) None s = s
-sound-after pair (all.Interrupts full) (Some e) s = grind arith
-sound-after pair (all.Rts_comes on taken by_peer) None s = grind arith
-sound-after pair (all.Rts_comes on taken by_peer) (Some e) s = grind arith
-sound-after pair (all.Str_comes of_size by_peer) None s = grind arith
-sound-after pair (all.Str_comes of_size by_peer) (Some e) s = grind arith
-sound-after pair all.Cls_comes None s = grind arith
-sound-after pair all.Cls_comes (Some e) s = grind arith
-sound-after pair (all.All_comes on m b) None s = s
-sound-after pair (all.All_comes on m b) (Some e) s = grind arith
-sound-after pair (all.Gvb_comes on m b) None s = s
-sound-after pair (all.Gvb_comes on m b) (Some e) s = grind arith
-sound-after pair (all.Ret_comes on m b) None s = s
-sound-after pair (all.Ret_comes on m b) (Some e) s = grind arith
-sound-after pair (all.Inr_comes on) None s = s
-sound-after pair (all.Inr_comes on) (Some e) s = grind arith
-sound-after pair (all.Ins_comes on) None s = s
-sound-after pair (all.Ins_comes on) (Some e) s = grind arith
-sound-after pair (all.Text_comes head of_size text) None s = s
-sound-after pair (all.Text_comes head of_size text) (Some e) s = grind arith
-sound-after pair all.Text_goes_out None s = s
-sound-after pair all.Text_goes_out (Some e) s = grind arith
-sound-after pair (all.Is_answered Rfnm) None s = s
-sound-after pair (all.Is_answered Rfnm) (Some e) s = grind arith
-sound-after pair (all.Is_answered Incomplete) before s = s
-sound-after pair (all.Is_answered Dead) before s = s
-sound-after pair all.Is_cleared before s = tt
+sound-after pair (Happening.Asks_to_send of_size with_room own full) None s = grind arith
+sound-after pair (Happening.Asks_to_send of_size with_room own full) (Some e) s = asks-send pair of_size with_room own full e s
+sound-after pair (Happening.Asks_to_receive with_room on own full) None s = grind arith
+sound-after pair (Happening.Asks_to_receive with_room on own full) (Some e) s = asks-receive pair with_room on own full e s
+sound-after pair (Happening.Closes full) None s = s
+sound-after pair (Happening.Closes full) (Some e) s = grind arith
+sound-after pair (Happening.Gives text) None s = s
+sound-after pair (Happening.Gives text) (Some e) s = grind arith
+sound-after pair (Happening.Takes bytes) None s = s
+sound-after pair (Happening.Takes bytes) (Some e) s = grind arith
+sound-after pair (Happening.Allocates m b full) None s = s
+sound-after pair (Happening.Allocates m b full) (Some e) s = grind arith
+sound-after pair (Happening.Calls_back m b full) None s = s
+sound-after pair (Happening.Calls_back m b full) (Some e) s = grind arith
+sound-after pair (Happening.Interrupts full) None s = s
+sound-after pair (Happening.Interrupts full) (Some e) s = grind arith
+sound-after pair (Happening.Rts_comes on taken by_peer) None s = grind arith
+sound-after pair (Happening.Rts_comes on taken by_peer) (Some e) s = grind arith
+sound-after pair (Happening.Str_comes of_size by_peer) None s = grind arith
+sound-after pair (Happening.Str_comes of_size by_peer) (Some e) s = grind arith
+sound-after pair Happening.Cls_comes None s = grind arith
+sound-after pair Happening.Cls_comes (Some e) s = grind arith
+sound-after pair (Happening.All_comes on m b) None s = s
+sound-after pair (Happening.All_comes on m b) (Some e) s = grind arith
+sound-after pair (Happening.Gvb_comes on m b) None s = s
+sound-after pair (Happening.Gvb_comes on m b) (Some e) s = grind arith
+sound-after pair (Happening.Ret_comes on m b) None s = s
+sound-after pair (Happening.Ret_comes on m b) (Some e) s = grind arith
+sound-after pair (Happening.Inr_comes on) None s = s
+sound-after pair (Happening.Inr_comes on) (Some e) s = grind arith
+sound-after pair (Happening.Ins_comes on) None s = s
+sound-after pair (Happening.Ins_comes on) (Some e) s = grind arith
+sound-after pair (Happening.Text_comes head of_size text) None s = s
+sound-after pair (Happening.Text_comes head of_size text) (Some e) s = grind arith
+sound-after pair Happening.Text_goes_out None s = s
+sound-after pair Happening.Text_goes_out (Some e) s = grind arith
+sound-after pair (Happening.Is_answered Rfnm) None s = s
+sound-after pair (Happening.Is_answered Rfnm) (Some e) s = grind arith
+sound-after pair (Happening.Is_answered Incomplete) before s = s
+sound-after pair (Happening.Is_answered Dead) before s = s
+sound-after pair Happening.Is_cleared before s = tt
 
 pub sound-from : (pair : Pair) (whats : List Happening) (before : Option End) → SoundAt pair before → SoundAt pair (end_from pair whats before)
 sound-from pair [] before s = s

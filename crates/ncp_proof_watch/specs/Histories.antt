@@ -4,7 +4,6 @@ use Rattle.std.specs.Prelude.{ℕ, ◌+◌, Bool, true, false, not, ◌&&◌, if
 use Rattle.ncp_model.specs.declared.pair.Pair.{Pair}
 use Rattle.ncp_model.specs.End.{End, is_live}
 use Rattle.ncp_model.specs.Happenings.{Happening, Outcome, Happened, happens}
-use Rattle.ncp_model.specs.Happenings as all
 
 -- each since the last opening, which it outlives: a clearing or an end leaves it as it is. What was taken begins anew
 -- where a receiver asks too, so that nothing was before its connection opens
@@ -21,28 +20,28 @@ pub record Past : Type 0 where
 abbrev pub no_past : Past
 no_past = record { given = []; got = []; taken = []; granted_messages = 0; granted_bits = 0; returned_messages = 0; returned_bits = 0; used_messages = 0 }
 
-abbrev pub is_accepted : Outcome → Bool
-is_accepted all.Accepted = true
-is_accepted outcome = false
+abbrev pub is_outcome_accepted : Outcome → Bool
+is_outcome_accepted Outcome.Accepted = true
+is_outcome_accepted outcome = false
 
 abbrev pub is_admitted : Outcome → Bool
-is_admitted all.Admitted = true
+is_admitted Outcome.Admitted = true
 is_admitted outcome = false
 
 abbrev pub taken_out : Outcome → List Bool
-taken_out (all.Took_out text) = text
+taken_out (Outcome.Took_out text) = text
 taken_out outcome = []
 
 -- what a happening with its outcome adds
 abbrev pub adds : Happening → Outcome → Past → Past
-adds (all.Asks_to_receive with_room on own full) o past = record past { taken = if is_accepted o then [] else past.taken }
-adds (all.Gives text) o past = record past { given = past.given ++ (if is_accepted o then text else []) }
-adds (all.Takes bytes) o past = record past { taken = past.taken ++ taken_out o }
-adds (all.Allocates m b full) o past =
-    record past { granted_messages = past.granted_messages + (if is_accepted o then m else 0); granted_bits = past.granted_bits + (if is_accepted o then b else 0) }
-adds (all.Ret_comes on m b) o past =
-    record past { returned_messages = past.returned_messages + (if is_accepted o then m else 0); returned_bits = past.returned_bits + (if is_accepted o then b else 0) }
-adds (all.Text_comes head of_size text) o past =
+adds (Happening.Asks_to_receive with_room on own full) o past = record past { taken = if is_outcome_accepted o then [] else past.taken }
+adds (Happening.Gives text) o past = record past { given = past.given ++ (if is_outcome_accepted o then text else []) }
+adds (Happening.Takes bytes) o past = record past { taken = past.taken ++ taken_out o }
+adds (Happening.Allocates m b full) o past =
+    record past { granted_messages = past.granted_messages + (if is_outcome_accepted o then m else 0); granted_bits = past.granted_bits + (if is_outcome_accepted o then b else 0) }
+adds (Happening.Ret_comes on m b) o past =
+    record past { returned_messages = past.returned_messages + (if is_outcome_accepted o then m else 0); returned_bits = past.returned_bits + (if is_outcome_accepted o then b else 0) }
+adds (Happening.Text_comes head of_size text) o past =
     record past { got = past.got ++ (if is_admitted o then text else []); used_messages = past.used_messages + (if is_admitted o then 1 else 0) }
 adds what o past = past
 

@@ -4,8 +4,8 @@ use Rattle.ncp_model.specs.declared.pair.Pair.{Pair}
 use Rattle.ncp_model.specs.Pairs.{sends}
 use Rattle.ncp_model.specs.End.{End, is_open, is_over}
 
-abbrev pub Sound : Pair → End → Type 0
-Sound pair e = record {
+abbrev pub SoundEnd : Pair → End → Type 0
+SoundEnd pair e = record {
   -- it opened where both requests are there and no CLS is due or made, and nowhere else
   opens : is_open e ≡ true → e.opened ≡ true;
   asked : e.opened ≡ true → e.asked ≡ true;
@@ -31,4 +31,4 @@ Sound pair e = record {
 
 abbrev pub SoundAt : Pair → Option End → Type 0
 SoundAt pair None = Unit {0}
-SoundAt pair (Some e) = Sound pair e
+SoundAt pair (Some e) = SoundEnd pair e

@@ -13,7 +13,7 @@ use Rattle.std.proofs.Math.ListN.{get_or-eq_default}
 use Rattle.ncp_slot.specs.declared.slot.Slot.TheVariants.{Empty, Ready, Travelling, Held}
 use Rattle.ncp_slot.specs.declared.slots.TheConstants.{FIRST_DATA_LINK, DATA_LINKS, SLOTS}
 use Rattle.ncp_slot.specs.Slot.{is_empty, is_ready}
-use Rattle.ncp_slot.specs.Slots.{LinkSlot, LinkSlots, IsQuiet, is_quiet, no_slots, slot_at, with_slot, OthersStay, link_at, with_links, slots_in}
+use Rattle.ncp_slot.specs.Slots.{LinkSlot, LinkSlots, IsQuiet, is_quiet, no_slots, slot_at, with_slot, OtherSlotsStay, link_of_place, with_links, slots_in}
 
 same : (a b : ℕ) → a ≡ b → eq_by_cmp nat_cmp a b ≡ true
 same a b e = unsigned_tied a b ∙ eq-eqb a b e
@@ -21,7 +21,7 @@ same a b e = unsigned_tied a b ∙ eq-eqb a b e
 apart : (a b : ℕ) → a ≢ b → eq_by_cmp nat_cmp a b ≡ false
 apart a b ne = unsigned_tied a b ∙ ne_eqb a b ne
 
-link_at-cases : (place : ℕ) → ((place ≡ 0) × (link_at place ≡ 0)) ⊎ ((0 < place) × (link_at place ≡ place + 1))
+link_at-cases : (place : ℕ) → ((place ≡ 0) × (link_of_place place ≡ 0)) ⊎ ((0 < place) × (link_of_place place ≡ place + 1))
 link_at-cases zero = inl (refl, refl)
 link_at-cases (suc place) = inr (omega arith, rw (ne_eqb (suc place) 0 (omega arith)) refl)
 
@@ -31,24 +31,24 @@ find-with_links [] place link has from = refl
 find-with_links (slot ∷ slots) place link has from =
     go (link - 1 - place) refl (find-with_links slots (place + 1) link has)
   where
-    go : (d : ℕ) → link - 1 - place ≡ d → (place + 1 ≤ link - 1 → find nat_cmp link (with_links (place + 1) slots) ≡ slice_get slots (link - 1 - (place + 1))) → cond (eq_by_cmp nat_cmp link (link_at place)) (Some slot) (find nat_cmp link (with_links (place + 1) slots)) ≡ slice_get (slot ∷ slots) d
+    go : (d : ℕ) → link - 1 - place ≡ d → (place + 1 ≤ link - 1 → find nat_cmp link (with_links (place + 1) slots) ≡ slice_get slots (link - 1 - (place + 1))) → cond (eq_by_cmp nat_cmp link (link_of_place place)) (Some slot) (find nat_cmp link (with_links (place + 1) slots)) ≡ slice_get (slot ∷ slots) d
     go zero e rest = elim (link_at-cases place) [
-      | inl h ↦ rw (same link (link_at place) (let k : link ≡ 0 = omega arith in k ∙ sym h.1)) refl
-      | inr h ↦ rw (same link (link_at place) (let k : link ≡ place + 1 = omega arith in k ∙ sym h.1)) refl
+      | inl h ↦ rw (same link (link_of_place place) (let k : link ≡ 0 = omega arith in k ∙ sym h.1)) refl
+      | inr h ↦ rw (same link (link_of_place place) (let k : link ≡ place + 1 = omega arith in k ∙ sym h.1)) refl
     ]
     go (suc d) e rest =
         let before : slice_get slots (link - 1 - (place + 1)) ≡ slice_get slots d = ap (slice_get slots) (omega arith) in
         elim (link_at-cases place) [
-          | inl h ↦ rw (apart link (link_at place) (λ k. let j : link ≡ 0 = k ∙ h.1 in absurd (omega arith))) (rest (omega arith) ∙ before)
-          | inr h ↦ rw (apart link (link_at place) (λ k. let j : link ≡ place + 1 = k ∙ h.1 in absurd (omega arith))) (rest (omega arith) ∙ before)
+          | inl h ↦ rw (apart link (link_of_place place) (λ k. let j : link ≡ 0 = k ∙ h.1 in absurd (omega arith))) (rest (omega arith) ∙ before)
+          | inr h ↦ rw (apart link (link_of_place place) (λ k. let j : link ≡ place + 1 = k ∙ h.1 in absurd (omega arith))) (rest (omega arith) ∙ before)
         ]
 
 -- no slot is beside the link that has none
 find-with_links-none : (slots : List LinkSlot) (place : ℕ) → find nat_cmp 1 (with_links place slots) ≡ None
 find-with_links-none [] place = refl
 find-with_links-none (slot ∷ slots) place = elim (link_at-cases place) [
-  | inl h ↦ rw (apart 1 (link_at place) (λ k. let j : 1 ≡ 0 = k ∙ h.1 in absurd (omega arith))) (find-with_links-none slots (place + 1))
-  | inr h ↦ rw (apart 1 (link_at place) (λ k. let j : 1 ≡ place + 1 = k ∙ h.1 in absurd (omega arith))) (find-with_links-none slots (place + 1))
+  | inl h ↦ rw (apart 1 (link_of_place place) (λ k. let j : 1 ≡ 0 = k ∙ h.1 in absurd (omega arith))) (find-with_links-none slots (place + 1))
+  | inr h ↦ rw (apart 1 (link_of_place place) (λ k. let j : 1 ≡ place + 1 = k ∙ h.1 in absurd (omega arith))) (find-with_links-none slots (place + 1))
 ]
 
 slice_get-set_same : (slots : List LinkSlot) (place : ℕ) (slot : LinkSlot) → place < length slots → slice_get (slice_set slots place slot) place ≡ Some slot
@@ -100,7 +100,7 @@ slot_at-with_slot_same slots link slot =
     let e : get (insert slots link slot) link ≡ Some slot = get-insert nat_cmp_total slots link slot link ∙ rw (same link link refl) refl in
     ap (λ o. unwrap_or o Empty) e
 
-pub slot_at-with_slot_other : (slots : LinkSlots) (link : ℕ) (slot : LinkSlot) → OthersStay slots (with_slot slots link slot) link
+pub slot_at-with_slot_other : (slots : LinkSlots) (link : ℕ) (slot : LinkSlot) → OtherSlotsStay slots (with_slot slots link slot) link
 unfolding slot_at with_slot
 slot_at-with_slot_other slots link slot other ne =
     let e : get (insert slots link slot) other ≡ get slots other = get-insert nat_cmp_total slots link slot other ∙ rw (apart other link ne) refl in
@@ -148,7 +148,7 @@ slots_in-place slots all link place slot is has there inside =
 pub slot_at-changed : (new all : LinkSlots) (link : ℕ) (slot : LinkSlot) → new ≡ with_slot all link slot → slot_at new link ≡ slot
 slot_at-changed new all link slot is = ap (λ (s : LinkSlots). slot_at s link) is ∙ slot_at-with_slot_same all link slot
 
-pub OthersStay-changed : (new all : LinkSlots) (link : ℕ) (slot : LinkSlot) → new ≡ with_slot all link slot → OthersStay all new link
+pub OthersStay-changed : (new all : LinkSlots) (link : ℕ) (slot : LinkSlot) → new ≡ with_slot all link slot → OtherSlotsStay all new link
 OthersStay-changed new all link slot is other ne = ap (λ (s : LinkSlots). slot_at s other) is ∙ slot_at-with_slot_other all link slot other ne
 
 -- a link without a slot
@@ -158,20 +158,20 @@ slot_at-past slots all link is past = ap (λ (s : LinkSlots). slot_at s link) (s
   | inr has ↦ slot_at-slots_in slots link has.1 ∙ get_or-eq_default slots Empty (past has.1)
 ]
 
-pub link_at-has : (place : ℕ) → link_at place ≢ 1
+pub link_at-has : (place : ℕ) → link_of_place place ≢ 1
 link_at-has place e = elim (link_at-cases place) [
   | inl h ↦ absurd (omega (arith, h.1, e))
   | inr h ↦ absurd (omega (arith, h.1, e))
 ]
 
-pub place-link_at : (place : ℕ) → place ≡ link_at place - 1
+pub place-link_at : (place : ℕ) → place ≡ link_of_place place - 1
 place-link_at place = elim (link_at-cases place) [
   | inl h ↦ rw h.1 (omega arith)
   | inr h ↦ rw h.1 (omega arith)
 ]
 
 -- no slot before a place is ready
-pub none_ready-below : (slots : List LinkSlot) (all : LinkSlots) (place : ℕ) → slots_in slots ≡ all → ((k : ℕ) → k < place → is_ready (get_or slots k Empty) ≡ false) → (lower : ℕ) → lower < link_at place → is_ready (slot_at all lower) ≡ false
+pub none_ready-below : (slots : List LinkSlot) (all : LinkSlots) (place : ℕ) → slots_in slots ≡ all → ((k : ℕ) → k < place → is_ready (get_or slots k Empty) ≡ false) → (lower : ℕ) → lower < link_of_place place → is_ready (slot_at all lower) ≡ false
 none_ready-below slots all place is none lower below = ap (λ (s : LinkSlots). is_ready (slot_at s lower)) (sym is) ∙ elim (eqb_tells lower 1) [
   | inl one ↦ rw (one.1, slot_at-slots_in-none slots) refl
   | inr has ↦ ap is_ready (slot_at-slots_in slots lower has.1) ∙ none (lower - 1) (elim (link_at-cases place) [

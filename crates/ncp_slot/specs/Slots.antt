@@ -35,8 +35,8 @@ unfoldable pub all_woken : LinkSlots → LinkSlots
 all_woken slots = from_entries (map (λ (entry : ℕ × LinkSlot). (entry.0, woken entry.1)) (entries slots))
 
 -- no call changes the slot of another link
-abbrev pub OthersStay : LinkSlots → LinkSlots → ℕ → Type 0
-OthersStay old new link = (other : ℕ) → other ≢ link → slot_at new other ≡ slot_at old other
+abbrev pub OtherSlotsStay : LinkSlots → LinkSlots → ℕ → Type 0
+OtherSlotsStay old new link = (other : ℕ) → other ≢ link → slot_at new other ≡ slot_at old other
 
 -- a link that had an empty slot still has one
 abbrev pub OthersStayEmpty : LinkSlots → LinkSlots → ℕ → Type 0
@@ -67,13 +67,13 @@ unfoldable pub is_quiet : LinkSlots → Bool
 is_quiet slots = list_all (λ link. is_empty (slot_at slots link)) data_links
 
 -- the link of the slot at a place: links 0, 2, 3 and so on
-abbrev pub link_at : ℕ → ℕ
-link_at place = if nat_eq place 0 then 0 else place + 1
+abbrev pub link_of_place : ℕ → ℕ
+link_of_place place = if nat_eq place 0 then 0 else place + 1
 
 -- slots in a row from a place on, each beside its link
 abbrev pub with_links : ℕ → List LinkSlot → List (ℕ × LinkSlot)
 with_links place [] = []
-with_links place (slot ∷ slots) = (link_at place, slot) ∷ with_links (place + 1) slots
+with_links place (slot ∷ slots) = (link_of_place place, slot) ∷ with_links (place + 1) slots
 
 -- the slots in a row, in the order of their links
 unfoldable pub slots_in : List LinkSlot → LinkSlots

@@ -7,7 +7,7 @@ ghost use Rattle.ncp_slot.specs.declared.slot.Busy.{Busy};
 ghost use Rattle.ncp_slot.specs.declared.slot.Stray.{Stray};
 ghost use Rattle.ncp_slot.specs.Slot.{put_in, handed_out, answered, woken, ready_message, kept_message, is_empty, is_ready, is_travelling, is_held};
 ghost use Rattle.ncp_slot.specs.Links.{HasItsLinks};
-ghost use Rattle.ncp_slot.specs.Slots.{HasSlot, all_woken, LinkSlot, LinkSlots, no_slots, slot_at, with_slot, OthersStay, OthersStayEmpty, IsQuiet, is_quiet};
+ghost use Rattle.ncp_slot.specs.Slots.{HasSlot, all_woken, LinkSlot, LinkSlots, no_slots, slot_at, with_slot, OtherSlotsStay, OthersStayEmpty, IsQuiet, is_quiet};
 ghost use Rattle.ncp_slot.specs.Deeds.{history_of, deeds_of};
 ghost use Rattle.ncp_slot.specs.Laws.{AreNotesOf, OneAnswerBetween, SameAfterFailure, OthersInOrder, PutsTold, AnswersTold, HandsTold, slot_told};
 ghost use Rattle.ncp_slot.specs.declared.slots.TheConstants.{UNUSED_LINK, FIRST_DATA_LINK, LAST_LINK, DATA_LINKS, SLOTS};
@@ -100,7 +100,7 @@ pub fn run_link(
 /// The slots of different links are apart.
 pub fn slots_are_apart()
     ensures same { (slots : LinkSlots) (link : ℕ) (slot : LinkSlot) → slot_at (with_slot slots link slot) link ≡ slot }
-    ensures others { (slots : LinkSlots) (link : ℕ) (slot : LinkSlot) → OthersStay slots (with_slot slots link slot) link }
+    ensures others { (slots : LinkSlots) (link : ℕ) (slot : LinkSlot) → OtherSlotsStay slots (with_slot slots link slot) link }
     ensures none { (link : ℕ) → slot_at no_slots link ≡ Slot.Empty }
     ensures twice { (slots : LinkSlots) (link : ℕ) (first last : LinkSlot) → with_slot (with_slot slots link first) link last ≡ with_slot slots link last }
 {}

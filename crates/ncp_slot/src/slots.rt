@@ -6,7 +6,7 @@ ghost use Rattle.std.specs.Borrow.{sem};
 ghost use Rattle.ncp_slot.specs.Slot.{put_in, handed_out, answered, woken, ready_message, kept_message, is_empty, is_ready, is_travelling, is_held};
 ghost use Rattle.ncp_slot.specs.Links.{HasItsLinks};
 ghost use Rattle.ncp_slot.specs.Lends.{LendsMessage};
-ghost use Rattle.ncp_slot.specs.Slots.{HasSlot, no_slots, slot_at, with_slot, all_woken, OthersStay, IsReady, IsHeld, IsFirstReady, IsQuiet, is_quiet, link_at};
+ghost use Rattle.ncp_slot.specs.Slots.{HasSlot, no_slots, slot_at, with_slot, all_woken, OtherSlotsStay, IsReady, IsHeld, IsFirstReady, IsQuiet, is_quiet, link_of_place};
 
 use crate::place::{Place, write_over};
 use crate::slot::{Busy, Slot, Stray};
@@ -50,7 +50,7 @@ fn place_of(link: u8) -> usize
 // The link of the slot at a place.
 fn link_of(place: usize) -> u8
     requires { place < SLOTS }
-    ensures { result ≡ link_at place }
+    ensures { result ≡ link_of_place place }
 {
     if place == 0 { 0 } else { place as u8 + 1 }
 }
@@ -128,7 +128,7 @@ impl Slots {
         requires { HasSlot link }
         ensures variant { IsOk result ↔ (slot_at self.old link ≡ Slot.Empty) }
         ensures slot { slot_at self.new link ≡ put_in bits.now (slot_at self.old link) }
-        ensures others { OthersStay self.old self.new link }
+        ensures others { OtherSlotsStay self.old self.new link }
         ensures ok { OnOk result (self.new ≡ with_slot self.old link (Slot.Ready bits.now)) }
         ensures err { OnErr result (self.new ≡ self.old) }
     {
@@ -142,7 +142,7 @@ impl Slots {
         requires { HasSlot link }
         ensures handed { result ≡ ready_message (slot_at self.old link) }
         ensures slot { slot_at self.new link ≡ handed_out (slot_at self.old link) }
-        ensures others { OthersStay self.old self.new link }
+        ensures others { OtherSlotsStay self.old self.new link }
         ensures some { IfSome result (λ message. self.new ≡ with_slot self.old link (Slot.Travelling message)) }
         ensures none { IfNone result (self.new ≡ self.old) }
     {
@@ -155,7 +155,7 @@ impl Slots {
         requires { HasSlot link }
         ensures ready { IsTrue result ↔ IsReady self.old link }
         ensures slot { slot_at self.new link ≡ handed_out (slot_at self.old link) }
-        ensures others { OthersStay self.old self.new link }
+        ensures others { OtherSlotsStay self.old self.new link }
         ensures slots { self.new ≡ with_slot self.old link (handed_out (slot_at self.old link)) }
         ensures none { result ≡ false → self.new ≡ self.old }
     {
@@ -192,7 +192,7 @@ impl Slots {
         ensures variant { IsOk result ↔ IsTrue (is_travelling (slot_at self.old link)) }
         ensures elsewhere { ¬ HasSlot link → IsErr result }
         ensures slot { slot_at self.new link ≡ answered answer (slot_at self.old link) }
-        ensures others { OthersStay self.old self.new link }
+        ensures others { OtherSlotsStay self.old self.new link }
         ensures ok { OnOk result (self.new ≡ with_slot self.old link (answered answer (slot_at self.old link))) }
         ensures err { OnErr result (self.new ≡ self.old) }
     {

@@ -29,31 +29,31 @@ asks_send = notes.Called A (of_host.Done (calls.AskSend 2 1 2 8 64))
 abbrev pub asks_receive : Note
 asks_receive = notes.Called B (of_host.Done (calls.AskReceive 1 2 1 64))
 
-abbrev pub allocates : ℕ → Note
-allocates bits = notes.Called B (of_host.Done (calls.Allocate 1 in_pair 1 bits))
+abbrev pub noted_allocate : ℕ → Note
+noted_allocate bits = notes.Called B (of_host.Done (calls.Allocate 1 in_pair 1 bits))
 
-abbrev pub gives : List Bool → Note
-gives text = notes.Called A (of_host.Done (calls.Give 2 out_pair text))
+abbrev pub noted_give : List Bool → Note
+noted_give text = notes.Called A (of_host.Done (calls.Give 2 out_pair text))
 
 abbrev pub refused : List Bool → Note
 refused text = notes.Called A (of_host.Refused (calls.Give 2 out_pair text) TooMuch)
 
-abbrev pub takes : List Bool → Note
-takes text = notes.Called B (of_host.Took 1 in_pair 1 text)
+abbrev pub noted_take : List Bool → Note
+noted_take text = notes.Called B (of_host.Took 1 in_pair 1 text)
 
 -- Messages of A, on the link of a message.
 
-abbrev pub goes_out : List Bool → Note
-goes_out m = notes.Out A (of_host.Out m)
+abbrev pub noted_out : List Bool → Note
+noted_out m = notes.Out A (of_host.Out m)
 
-abbrev pub comes : List Bool → List Bool → Received → Note
-comes m as_bits told = notes.Came A (link_in m) (of_host.In as_bits told)
+abbrev pub noted_in : List Bool → List Bool → Received → Note
+noted_in m as_bits told = notes.Came A (link_in m) (of_host.In as_bits told)
 
 abbrev pub is_lost : List Bool → Note
 is_lost m = notes.Lost A (link_in m)
 
-abbrev pub is_answered : List Bool → Answer → Received → Note
-is_answered m how told = notes.Answered A (link_in m) (of_host.Answered 2 (link_in m) how told)
+abbrev pub noted_answer : List Bool → Answer → Received → Note
+noted_answer m how told = notes.Answered A (link_in m) (of_host.Answered 2 (link_in m) how told)
 
 -- the subnet has no message there to which this may happen
 abbrev pub had_none : List Bool → Move → Note

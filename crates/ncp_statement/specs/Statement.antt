@@ -31,7 +31,7 @@ use Rattle.ncp_transcript_two.specs.declared.note.Move.{Move}
 use Rattle.ncp_transcript_two.specs.declared.note.Note.{Note}
 use Rattle.ncp_transcript_two.specs.declared.note.Note.TheVariants as notes
 use Rattle.ncp_transcript_two.specs.Between.{other}
-use Rattle.ncp_transcript_two.specs.Honest.{Deed, Sent, Comes, Other, Clear, answer_deed, if_on, HonestFrom, sent_from, coming, IsBeginning}
+use Rattle.ncp_transcript_two.specs.Honest.{MessageDeed, Sent, Comes, Other, Clear, answer_deed, if_on, HonestFrom, sent_from, messages_coming, IsBeginningWithin}
 use Rattle.ncp_transcript_two.specs.Underway.{commands_of}
 use Rattle.ncp_transcript_two.specs.Vain.{CannotBe}
 
@@ -117,15 +117,15 @@ WithinAllowance ns = (side : Side) (pair : Pair) → length (taken side pair ns)
 
 -- 2. What the notes say of the messages of one side on one link.
 
-abbrev pub deed_of : Side → ℕ → Note → Deed
-deed_of side on (notes.Out by (of_host.Out m)) = if_on (is_same side by && link_in m == on) (Sent m)
-deed_of side on (notes.Came by link (of_host.In m told)) = if_on (is_same side by && link == on) (Comes m)
-deed_of side on (notes.Answered by link (of_host.Answered peer l how told)) = if_on (is_same side by && link == on) (answer_deed how)
-deed_of side on n = Other
+abbrev pub deed_noted : Side → ℕ → Note → MessageDeed
+deed_noted side on (notes.Out by (of_host.Out m)) = if_on (is_same side by && link_in m == on) (Sent m)
+deed_noted side on (notes.Came by link (of_host.In m told)) = if_on (is_same side by && link == on) (Comes m)
+deed_noted side on (notes.Answered by link (of_host.Answered peer l how told)) = if_on (is_same side by && link == on) (answer_deed how)
+deed_noted side on n = Other
 
-abbrev pub deeds : Side → ℕ → List Note → List Deed
-deeds side on [] = []
-deeds side on (n ∷ ns) = deed_of side on n ∷ deeds side on ns
+abbrev pub deeds_noted : Side → ℕ → List Note → List MessageDeed
+deeds_noted side on [] = []
+deeds_noted side on (n ∷ ns) = deed_noted side on n ∷ deeds_noted side on ns
 
 -- the number of the host of a side
 abbrev pub number : ℕ → ℕ → Side → ℕ
@@ -134,11 +134,11 @@ number a b B = b
 
 -- Each message came once, whole, before its RFNM, or did not come and had none.
 abbrev pub Delivers : ℕ → ℕ → List Note → Type 0
-Delivers a b ns = (side : Side) (on : ℕ) → HonestFrom (number a b side) Clear (deeds side on ns)
+Delivers a b ns = (side : Side) (on : ℕ) → HonestFrom (number a b side) Clear (deeds_noted side on ns)
 
 -- What came on a link is a beginning of what went out there, each once, shorter by at most one.
 abbrev pub InOrder : ℕ → ℕ → List Note → Type 0
-InOrder a b ns = (side : Side) (on : ℕ) → IsBeginning 1 (coming (deeds side on ns)) (sent_from (number a b side) true (deeds side on ns))
+InOrder a b ns = (side : Side) (on : ℕ) → IsBeginningWithin 1 (messages_coming (deeds_noted side on ns)) (sent_from (number a b side) true (deeds_noted side on ns))
 
 -- What the subnet has on a link: the last message that went out there, till it comes, is lost, or finds no host; and
 -- then what became of it, till it is answered.

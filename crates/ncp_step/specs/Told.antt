@@ -7,9 +7,9 @@ use Rattle.ncp_transcript.specs.declared.note.HostNote.{HostNote}
 use Rattle.ncp_transcript.specs.Noting.{note_of_bits}
 use Rattle.ncp_transcript.specs.After.{after_note}
 
-abbrev pub told : Option (List Bool) → Host → Option HostNote
-told None h = None
-told (Some bits) h = Some (note_of_bits bits h)
+abbrev pub note_if_any : Option (List Bool) → Host → Option HostNote
+note_if_any None h = None
+note_if_any (Some bits) h = Some (note_of_bits bits h)
 
 abbrev pub after_told : Option HostNote → Host → Host
 after_told None h = h

@@ -7,8 +7,8 @@ ghost use Rattle.ncp_host.specs.Host.{are_peers, new_host};
 ghost use Rattle.ncp_transcript.specs.Noting.{CallNoted, note_of_output};
 ghost use Rattle.ncp_transcript.specs.After.{after_note};
 ghost use Rattle.ncp_transcript_two.specs.Seen.{CallFits};
-ghost use Rattle.ncp_transcript_two.specs.Between.{after_out};
-ghost use Rattle.ncp_step.specs.Told.{told, after_told, put_told};
+ghost use Rattle.ncp_transcript_two.specs.Between.{subnet_after_out};
+ghost use Rattle.ncp_step.specs.Told.{note_if_any, after_told, put_told};
 
 use crate::fitting::numbers_fit;
 use ncp_bits::BitStore;
@@ -47,7 +47,7 @@ pub fn calls<S: BitStore>(
 
 // The subnet takes what a host noted that goes out.
 fn pass_on(subnet: &mut Subnet, from: u8, note: &HostNote)
-    ensures { subnet.new ≡ after_out from note.now subnet.old }
+    ensures { subnet.new ≡ subnet_after_out from note.now subnet.old }
 {
     if let HostNote::Out { message } = note {
         let _taken = subnet.accept(from, &message.to_bits());
@@ -64,7 +64,7 @@ pub fn sends<S: BitStore>(
 ) -> Result<HostNote, AllocError>
     ensures note { IfOk result (λ note. note ≡ note_of_output host.old) }
     ensures host { IfOk result (λ note. host.new ≡ after_note note host.old) }
-    ensures subnet { IfOk result (λ note. subnet.new ≡ after_out from note subnet.old) }
+    ensures subnet { IfOk result (λ note. subnet.new ≡ subnet_after_out from note subnet.old) }
     ensures err { OnErr result (host.new ≡ host.old) }
     ensures kept { OnErr result (subnet.new ≡ subnet.old) }
 {
@@ -84,7 +84,7 @@ pub fn comes<S: BitStore>(
     link: u8,
     host: &mut Host<S>,
 ) -> Result<Option<HostNote>, AllocError>
-    ensures note { IfOk result (λ note. note ≡ told (arriving from (transit_at subnet.old from to link)) host.old) }
+    ensures note { IfOk result (λ note. note ≡ note_if_any (arriving from (transit_at subnet.old from to link)) host.old) }
     ensures host { IfOk result (λ note. host.new ≡ after_told note host.old) }
     ensures subnet { IfOk result (λ note. subnet.new ≡ put_told note from to link Transit.Delivered subnet.old) }
     ensures err { OnErr result (host.new ≡ host.old) }
@@ -111,7 +111,7 @@ pub fn answers<S: BitStore>(
     link: u8,
     host: &mut Host<S>,
 ) -> Result<Option<HostNote>, AllocError>
-    ensures note { IfOk result (λ note. note ≡ told (answer_about to link (transit_at subnet.old from to link)) host.old) }
+    ensures note { IfOk result (λ note. note ≡ note_if_any (answer_about to link (transit_at subnet.old from to link)) host.old) }
     ensures host { IfOk result (λ note. host.new ≡ after_told note host.old) }
     ensures subnet { IfOk result (λ note. subnet.new ≡ put_told note from to link Transit.Free subnet.old) }
     ensures err { OnErr result (host.new ≡ host.old) }

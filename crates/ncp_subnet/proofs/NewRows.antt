@@ -7,8 +7,8 @@ use Rattle.std.proofs.lemmas.Bool.Decides.{eqb_tells}
 use Rattle.std.proofs.lemmas.List.Folds.{list_any-append}
 use Rattle.ncp_subnet.specs.declared.transit.Transit.TheVariants.{Free}
 use Rattle.ncp_subnet.specs.declared.way.TheConstants.{LINKS}
-use Rattle.ncp_subnet.specs.Ways.{OnLink, OneWay, leads, free_way, free_ways, free_ways_from}
-use Rattle.ncp_subnet.specs.Subnet.{Place, place, place_cmp, InTransit, on, put, has_way, is_one_of, are_two_of, transit_at, links_in, ways_in, subnet_in, new_subnet}
+use Rattle.ncp_subnet.specs.Ways.{OnLink, OneWay, way_leads, free_way, free_ways, free_ways_from}
+use Rattle.ncp_subnet.specs.Subnet.{Place, place, place_cmp, InTransit, on, put_in_transit, has_way, is_one_of, are_two_of, transit_at, links_in, ways_in, subnet_in, new_subnet}
 use Rattle.ncp_subnet.proofs.Places.{same_or_apart, get-put_same, get-put_other}
 use Rattle.ncp_subnet.proofs.Rows.{has-leads}
 
@@ -65,17 +65,17 @@ same_tests f t x host e h = let k : x ≡ f = eqb-true x f h in ap (λ (n : ℕ)
 unlike_tests : (f t x host : ℕ) → host ≢ x → (x == f) ≡ true → (host == t) ≡ true → (f == t) ≡ false
 unlike_tests f t x host ne h k = ne_eqb f t (λ e. ne (eqb-true host t k ∙ sym e ∙ sym (eqb-true x f h)))
 
-any-from : (f t x : ℕ) (hosts : List ℕ) → list_any (leads f t) (free_ways_from x hosts) ≡ (x == f && (is_one_of t hosts && not (f == t)))
+any-from : (f t x : ℕ) (hosts : List ℕ) → list_any (way_leads f t) (free_ways_from x hosts) ≡ (x == f && (is_one_of t hosts && not (f == t)))
 any-from f t x [] = nothing (x == f) (not (f == t))
 any-from f t x (host ∷ hosts) = elim (eqb_tells host x) [
   | inl e ↦ rw (eq-eqb host x e.1) (any-from f t x hosts ∙ kept_out (x == f) (host == t) (is_one_of t hosts) (f == t) (same_tests f t x host e.1))
   | inr n ↦ rw (ne_eqb host x n.1) (ap (λ (b : Bool). (x == f && host == t) || b) (any-from f t x hosts) ∙ taken_in (x == f) (host == t) (is_one_of t hosts) (f == t) (unlike_tests f t x host n.1))
 ]
 
-any-each : (f t : ℕ) (all hosts : List ℕ) → list_any (λ x. list_any (leads f t) (free_ways_from x all)) hosts ≡ (is_one_of f hosts && (is_one_of t all && not (f == t)))
+any-each : (f t : ℕ) (all hosts : List ℕ) → list_any (λ x. list_any (way_leads f t) (free_ways_from x all)) hosts ≡ (is_one_of f hosts && (is_one_of t all && not (f == t)))
 any-each f t all [] = refl
 any-each f t all (x ∷ hosts) =
-    ap (λ (b : Bool). b || list_any (λ y. list_any (leads f t) (free_ways_from y all)) hosts) (any-from f t x all)
+    ap (λ (b : Bool). b || list_any (λ y. list_any (way_leads f t) (free_ways_from y all)) hosts) (any-from f t x all)
     ∙ ap (λ (b : Bool). (x == f && (is_one_of t all && not (f == t))) || b) (any-each f t all hosts)
     ∙ spread (x == f) (is_one_of f hosts) (is_one_of t all && not (f == t))
 
@@ -87,7 +87,7 @@ any-flat p g (x ∷ xs) = list_any-append p (g x) (flat_map g xs) ∙ ap (λ (b 
 pub has_way-new : (hosts : List ℕ) (from to : ℕ) → has_way (new_subnet hosts) from to ≡ are_two_of hosts from to
 unfolding new_subnet subnet_in
 has_way-new hosts from to =
-    has-leads (free_ways hosts) from to ∙ any-flat (leads from to) (λ x. free_ways_from x hosts) hosts ∙ any-each from to hosts hosts
+    has-leads (free_ways hosts) from to ∙ any-flat (way_leads from to) (λ x. free_ways_from x hosts) hosts ∙ any-each from to hosts hosts
     ∙ regrouped (is_one_of from hosts) (is_one_of to hosts) (not (from == to))
 
 -- Nothing is in transit.
@@ -95,7 +95,7 @@ has_way-new hosts from to =
 free-links : (from to link many : ℕ) (m : InTransit) (q : Place) → unwrap_or (get m q) Free ≡ Free → unwrap_or (get (links_in from to link (replicate many Free) m) q) Free ≡ Free
 free-links from to link zero m q h = h
 free-links from to link (suc many) m q h = elim (same_or_apart q (place from to link)) [
-  | inl e ↦ ap (λ (k : Place). unwrap_or (get (put (links_in from to (suc link) (replicate many Free) m) from to link Free) k) Free) e
+  | inl e ↦ ap (λ (k : Place). unwrap_or (get (put_in_transit (links_in from to (suc link) (replicate many Free) m) from to link Free) k) Free) e
       ∙ ap (λ (o : Option OnLink). unwrap_or o Free) (get-put_same (links_in from to (suc link) (replicate many Free) m) from to link Free)
   | inr ne ↦ ap (λ (o : Option OnLink). unwrap_or o Free) (get-put_other (links_in from to (suc link) (replicate many Free) m) from to link Free q ne) ∙ free-links from to (suc link) many m q h
 ]

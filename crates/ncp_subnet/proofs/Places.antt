@@ -8,7 +8,7 @@ use Rattle.std.proofs.lemmas.Map.Lookups.{CmpEqualImpliesEq, exact_pairs, exact_
 use Rattle.std.proofs.lemmas.Map.Views.{tells_apart}
 use Rattle.ncp_subnet.specs.declared.transit.Transit.TheVariants.{Free}
 use Rattle.ncp_subnet.specs.Ways.{OnLink}
-use Rattle.ncp_subnet.specs.Subnet.{Place, place, place_cmp, InTransit, Subnet, on, put, transit_at, with_transit, OthersStay, links_in}
+use Rattle.ncp_subnet.specs.Subnet.{Place, place, place_cmp, InTransit, Subnet, on, put_in_transit, transit_at, with_transit, OthersStayInTransit, links_in}
 
 -- The order of places.
 
@@ -40,12 +40,12 @@ same_or_apart a b = elim (test (eq_by_cmp place_cmp a b)) [
 
 -- The map.
 
-pub get-put_same : (m : InTransit) (from to link : ℕ) (transit : OnLink) → get (put m from to link transit) (place from to link) ≡ Some transit
-unfolding put
+pub get-put_same : (m : InTransit) (from to link : ℕ) (transit : OnLink) → get (put_in_transit m from to link transit) (place from to link) ≡ Some transit
+unfolding put_in_transit
 get-put_same m from to link transit = get-insert places_total m (place from to link) transit (place from to link) ∙ rw (same (place from to link) (place from to link) refl) refl
 
-pub get-put_other : (m : InTransit) (from to link : ℕ) (transit : OnLink) (q : Place) → q ≢ place from to link → get (put m from to link transit) q ≡ get m q
-unfolding put
+pub get-put_other : (m : InTransit) (from to link : ℕ) (transit : OnLink) (q : Place) → q ≢ place from to link → get (put_in_transit m from to link transit) q ≡ get m q
+unfolding put_in_transit
 get-put_other m from to link transit q ne = get-insert places_total m (place from to link) transit q ∙ rw (apart q (place from to link) ne) refl
 
 -- two maps that give the same at each place are one
@@ -72,9 +72,9 @@ links-at from to link (suc at) (transit ∷ links) m key e inside =
     ∙ links-at from to (suc link) at links m key (omega arith) (omega arith)
 
 -- what is behind a link
-put-same_behind : (from to link : ℕ) (first : OnLink) (m n : InTransit) (q : Place) → get m q ≡ get n q → get (put m from to link first) q ≡ get (put n from to link first) q
+put-same_behind : (from to link : ℕ) (first : OnLink) (m n : InTransit) (q : Place) → get m q ≡ get n q → get (put_in_transit m from to link first) q ≡ get (put_in_transit n from to link first) q
 put-same_behind from to link first m n q is = elim (same_or_apart q (place from to link)) [
-  | inl e ↦ ap (get (put m from to link first)) e ∙ get-put_same m from to link first ∙ sym (get-put_same n from to link first) ∙ ap (get (put n from to link first)) (sym e)
+  | inl e ↦ ap (get (put_in_transit m from to link first)) e ∙ get-put_same m from to link first ∙ sym (get-put_same n from to link first) ∙ ap (get (put_in_transit n from to link first)) (sym e)
   | inr ne ↦ get-put_other m from to link first q ne ∙ is ∙ sym (get-put_other n from to link first q ne)
 ]
 
@@ -98,7 +98,7 @@ pub transit_at-same : (subnet : Subnet) (from to link : ℕ) (transit : OnLink) 
 unfolding on
 transit_at-same subnet from to link transit = ap (λ (o : Option OnLink). unwrap_or o Free) (get-put_same subnet.in_transit from to link transit)
 
-pub transit_at-others : (subnet : Subnet) (from to link : ℕ) (transit : OnLink) → OthersStay subnet (with_transit subnet from to link transit) from to link
+pub transit_at-others : (subnet : Subnet) (from to link : ℕ) (transit : OnLink) → OthersStayInTransit subnet (with_transit subnet from to link transit) from to link
 unfolding on
 transit_at-others subnet from to link transit sender destination other ne =
     ap (λ (o : Option OnLink). unwrap_or o Free) (get-put_other subnet.in_transit from to link transit (place sender destination other)

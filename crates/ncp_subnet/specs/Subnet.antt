@@ -49,19 +49,19 @@ are_two_of hosts from to = is_one_of from hosts && is_one_of to hosts && not (fr
 unfoldable pub on : InTransit → ℕ → ℕ → ℕ → OnLink
 on in_transit from to link = unwrap_or (get in_transit (place from to link)) Free
 
-unfoldable pub put : InTransit → ℕ → ℕ → ℕ → OnLink → InTransit
-put in_transit from to link transit = insert in_transit (place from to link) transit
+unfoldable pub put_in_transit : InTransit → ℕ → ℕ → ℕ → OnLink → InTransit
+put_in_transit in_transit from to link transit = insert in_transit (place from to link) transit
 
 abbrev pub transit_at : Subnet → ℕ → ℕ → ℕ → OnLink
 transit_at subnet from to link = on subnet.in_transit from to link
 
 -- the subnet with this in transit there
 abbrev pub with_transit : Subnet → ℕ → ℕ → ℕ → OnLink → Subnet
-with_transit subnet from to link transit = record subnet { in_transit = put subnet.in_transit from to link transit }
+with_transit subnet from to link transit = record subnet { in_transit = put_in_transit subnet.in_transit from to link transit }
 
 -- what is in transit elsewhere stays
-abbrev pub OthersStay : Subnet → Subnet → ℕ → ℕ → ℕ → Type 0
-OthersStay old new from to link =
+abbrev pub OthersStayInTransit : Subnet → Subnet → ℕ → ℕ → ℕ → Type 0
+OthersStayInTransit old new from to link =
     (sender destination other : ℕ) → ¬ ((sender ≡ from) × (destination ≡ to) × (other ≡ link))
     → transit_at new sender destination other ≡ transit_at old sender destination other
 
@@ -78,7 +78,7 @@ refusals = NotRegular ∷ NoHost ∷ Occupied ∷ []
 -- ways in a row, as the map that they are
 abbrev pub links_in : ℕ → ℕ → ℕ → List OnLink → InTransit → InTransit
 links_in from to link [] others = others
-links_in from to link (transit ∷ links) others = put (links_in from to (suc link) links others) from to link transit
+links_in from to link (transit ∷ links) others = put_in_transit (links_in from to (suc link) links others) from to link transit
 
 abbrev pub ways_in : List OneWay → InTransit
 ways_in [] = empty

@@ -32,12 +32,12 @@ abbrev pub dead : {M : Type 0} → Transit M → Transit M
 dead transit = if_accepted Dead transit
 
 -- a message that came or will not come is answered, and the next may be accepted
-abbrev pub answered : {M : Type 0} → Transit M → Transit M
-answered Free = Free
-answered (Accepted message) = Accepted message
-answered Delivered = Free
-answered Lost = Free
-answered Dead = Free
+abbrev pub transit_answered : {M : Type 0} → Transit M → Transit M
+transit_answered Free = Free
+transit_answered (Accepted message) = Accepted message
+transit_answered Delivered = Free
+transit_answered Lost = Free
+transit_answered Dead = Free
 
 -- the type of the answer: Ready For Next Message where the message came, Incomplete Transmission where it
 -- was lost, Destination Dead where it found its destination dead; none while it may still come

@@ -14,8 +14,8 @@ pub record OneWay : Type 0 where
   pub to : ℕ
   pub links : List OnLink
 
-abbrev pub leads : ℕ → ℕ → OneWay → Bool
-leads from to way = way.from == from && way.to == to
+abbrev pub way_leads : ℕ → ℕ → OneWay → Bool
+way_leads from to way = way.from == from && way.to == to
 
 -- nothing is in transit
 abbrev pub free_way : ℕ → ℕ → OneWay

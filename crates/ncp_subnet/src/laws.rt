@@ -3,9 +3,9 @@ ghost use Rattle.std.specs.Prelude.{◌≡◌, ◌≢◌, ℕ, [], ◌∷◌, So
 ghost use Rattle.ncp_numbers.specs.Bytes.{bits_of_bytes};
 ghost use Rattle.ncp_subnet.specs.Messages.{from_host, answer_bits};
 ghost use Rattle.ncp_subnet.specs.declared.transit.Transit.{Transit};
-ghost use Rattle.ncp_subnet.specs.Transit.{accepted, delivered, lost, dead, answered, answer_kind, accepted_message};
+ghost use Rattle.ncp_subnet.specs.Transit.{accepted, delivered, lost, dead, transit_answered, answer_kind, accepted_message};
 ghost use Rattle.ncp_subnet.specs.Ways.{OnLink};
-ghost use Rattle.ncp_subnet.specs.Subnet.{Subnet, transit_at, with_transit, OthersStay};
+ghost use Rattle.ncp_subnet.specs.Subnet.{Subnet, transit_at, with_transit, OthersStayInTransit};
 
 use ncp_leader::{DESTINATION_DEAD, INCOMPLETE, RFNM};
 
@@ -20,7 +20,7 @@ pub fn messages_are_addressed_so()
 /// What is in transit at different places is apart.
 pub fn places_are_apart()
     ensures same { (subnet : Subnet) (from to link : ℕ) (transit : OnLink) → transit_at (with_transit subnet from to link transit) from to link ≡ transit }
-    ensures others { (subnet : Subnet) (from to link : ℕ) (transit : OnLink) → OthersStay subnet (with_transit subnet from to link transit) from to link }
+    ensures others { (subnet : Subnet) (from to link : ℕ) (transit : OnLink) → OthersStayInTransit subnet (with_transit subnet from to link transit) from to link }
 {}
 
 /// A message is delivered at most once, and answered once: by Ready For Next Message where it came,
@@ -37,6 +37,6 @@ pub fn each_message_is_answered_once<M>()
     ensures never { (message : M) → accepted_message (lost (Transit.Accepted message)) ≡ None }
     ensures never_dead { (message : M) → accepted_message (dead (Transit.Accepted message)) ≡ None }
     ensures over { (transit : Transit M) → accepted_message transit ≡ None → (delivered transit ≡ transit) × (lost transit ≡ transit) × (dead transit ≡ transit) }
-    ensures answered { (transit : Transit M) (kind : ℕ) → answer_kind transit ≡ Some kind → answered transit ≡ Transit.Free }
-    ensures kept { (transit : Transit M) → answer_kind transit ≡ None → answered transit ≡ transit }
+    ensures answered { (transit : Transit M) (kind : ℕ) → answer_kind transit ≡ Some kind → transit_answered transit ≡ Transit.Free }
+    ensures kept { (transit : Transit M) → answer_kind transit ≡ None → transit_answered transit ≡ transit }
 {}

@@ -4,11 +4,11 @@ ghost use Rattle.std.specs.Option.{is_some};
 ghost use Rattle.std.specs.List.{position};
 ghost use Rattle.std.specs.Bool.{OnTrue, OnFalse};
 ghost use Rattle.ncp_bits.specs.Reasons.{IsFirst, NoneHolds};
-ghost use Rattle.ncp_subnet.specs.Transit.{is_accepted, is_delivered, answer_kind, delivered, lost, dead, answered};
+ghost use Rattle.ncp_subnet.specs.Transit.{is_accepted, is_delivered, answer_kind, delivered, lost, dead, transit_answered};
 ghost use Rattle.ncp_subnet.specs.declared.transit.Transit.{Transit};
 ghost use Rattle.ncp_subnet.specs.Messages.{host_in, link_in, arriving, answer_about};
-ghost use Rattle.ncp_subnet.specs.Ways.{leads, free_ways_from};
-ghost use Rattle.ncp_subnet.specs.Subnet.{are_two_of, has_way, transit_at, with_transit, OthersStay, new_subnet, refusals, Refuses};
+ghost use Rattle.ncp_subnet.specs.Ways.{way_leads, free_ways_from};
+ghost use Rattle.ncp_subnet.specs.Subnet.{are_two_of, has_way, transit_at, with_transit, OthersStayInTransit, new_subnet, refusals, Refuses};
 
 use crate::addressed::regular_leader;
 use crate::fault::SubnetFault;
@@ -41,7 +41,7 @@ impl Model for Subnet {
 
 // Where the way from one host to another is.
 fn way_between(ways: &[Way], from: u8, to: u8) -> Option<usize>
-    ensures { result ≡ position (leads from to) ways.now }
+    ensures { result ≡ position (way_leads from to) ways.now }
 {
     ways.iter().position(|way| way.leads(from, to))
 }
@@ -123,7 +123,7 @@ impl Subnet {
         ensures some { IfSome result (λ _. self.new ≡ with_transit self.old from to link Transit.Delivered) }
         ensures none { IfNone result (self.new ≡ self.old) }
         ensures transit { transit_at self.new from to link ≡ delivered (transit_at self.old from to link) }
-        ensures others { OthersStay self.old self.new from to link }
+        ensures others { OthersStayInTransit self.old self.new from to link }
     {
         let place = way_between(&self.ways, from, to)?;
         self.ways[place].deliver(link)
@@ -136,7 +136,7 @@ impl Subnet {
         ensures lost { OnTrue result (self.new ≡ with_transit self.old from to link Transit.Lost) }
         ensures none { OnFalse result (self.new ≡ self.old) }
         ensures transit { transit_at self.new from to link ≡ lost (transit_at self.old from to link) }
-        ensures others { OthersStay self.old self.new from to link }
+        ensures others { OthersStayInTransit self.old self.new from to link }
     {
         match way_between(&self.ways, from, to) {
             Some(place) => self.ways[place].lose(link),
@@ -151,7 +151,7 @@ impl Subnet {
         ensures dead { OnTrue result (self.new ≡ with_transit self.old from to link Transit.Dead) }
         ensures none { OnFalse result (self.new ≡ self.old) }
         ensures transit { transit_at self.new from to link ≡ dead (transit_at self.old from to link) }
-        ensures others { OthersStay self.old self.new from to link }
+        ensures others { OthersStayInTransit self.old self.new from to link }
     {
         match way_between(&self.ways, from, to) {
             Some(place) => self.ways[place].dead(link),
@@ -169,8 +169,8 @@ impl Subnet {
         ensures answer { result ≡ answer_about to link (transit_at self.old from to link) }
         ensures some { IfSome result (λ _. self.new ≡ with_transit self.old from to link Transit.Free) }
         ensures none { IfNone result (self.new ≡ self.old) }
-        ensures transit { transit_at self.new from to link ≡ answered (transit_at self.old from to link) }
-        ensures others { OthersStay self.old self.new from to link }
+        ensures transit { transit_at self.new from to link ≡ transit_answered (transit_at self.old from to link) }
+        ensures others { OthersStayInTransit self.old self.new from to link }
     {
         let place = way_between(&self.ways, from, to)?;
         self.ways[place].answer(link)

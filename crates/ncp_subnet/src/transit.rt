@@ -1,6 +1,6 @@
 //! `Transit`.
 ghost use Rattle.std.specs.Prelude.{◌≡◌, ◌↔◌, IsTrue};
-ghost use Rattle.ncp_subnet.specs.Transit.{accepted, delivered, lost, dead, answered, accepted_message, answer_kind, is_free, is_accepted, is_delivered};
+ghost use Rattle.ncp_subnet.specs.Transit.{accepted, delivered, lost, dead, transit_answered, accepted_message, answer_kind, is_free, is_accepted, is_delivered};
 
 use ncp_leader::{DESTINATION_DEAD, INCOMPLETE, RFNM};
 use std::mem;
@@ -107,7 +107,7 @@ impl<M: Drop> Transit<M> {
     /// Has done with a message that came or will not come, and gives the type of its answer.
     pub(crate) fn answer(&mut self) -> Option<u8>
         ensures kind { result ≡ answer_kind self.old }
-        ensures transit { self.new ≡ answered self.old }
+        ensures transit { self.new ≡ transit_answered self.old }
     {
         let kind = self.answer_kind();
         if kind.is_some() {

@@ -2,7 +2,7 @@
 ghost use Rattle.std.specs.Prelude.{◌≡◌, ◌≤◌, ◌<◌, ◌==◌, ◌&&◌, length, IfOk};
 ghost use Rattle.std.specs.Option.{is_some};
 ghost use Rattle.ncp_subnet.specs.Transit.{answer_kind, is_accepted, is_delivered, is_free};
-ghost use Rattle.ncp_subnet.specs.Ways.{OneWay, free_way, on_link, with_link, leads};
+ghost use Rattle.ncp_subnet.specs.Ways.{OneWay, free_way, on_link, with_link, way_leads};
 ghost use Rattle.ncp_subnet.specs.Transit as transit;
 ghost use Rattle.ncp_subnet.specs.Messages.{arriving, answer_about};
 ghost use Rattle.ncp_leader.specs.declared.leader.TheConstants.{LEADER_BITS};
@@ -56,7 +56,7 @@ impl Way {
 
     /// Whether it is the way from one host to another.
     pub(crate) fn leads(&self, from: u8, to: u8) -> bool
-        ensures { result ≡ leads from to self.now }
+        ensures { result ≡ way_leads from to self.now }
     {
         self.from == from && self.to == to
     }
@@ -134,7 +134,7 @@ impl Way {
     /// it.
     pub(crate) fn answer(&mut self, link: u8) -> Option<Bits>
         ensures answer { result ≡ answer_about self.old.to link (on_link self.old link) }
-        ensures way { self.new ≡ with_link self.old link (transit.answered (on_link self.old link)) }
+        ensures way { self.new ≡ with_link self.old link (transit.transit_answered (on_link self.old link)) }
         ensures inside { link < length self.old.links }
     {
         let kind = self.links[usize::from(link)].answer()?;

@@ -4,7 +4,7 @@ use Rattle.ncp_leader.specs.declared.leader.Leader.{Leader}
 use Rattle.ncp_leader.specs.declared.leader.Short.{Short}
 use Rattle.ncp_leader.specs.Leader.{leader_in}
 use Rattle.ncp_model.specs.Peers.{Ask_to_send, Ask_to_receive, Close, Give, Take, Allocate, Call_back, Interrupt}
-use Rattle.ncp_host.specs.PeerState.{PeerState, new_state, calls as calls_pair, calls_echo, calls_reset, calls_wake, answer_comes}
+use Rattle.ncp_host.specs.PeerState.{PeerState, new_state, state_calls as calls_pair, state_calls_echo, state_calls_reset, state_calls_wake, answer_comes}
 use Rattle.ncp_host.specs.Output.{next_of}
 use Rattle.ncp_host.specs.Host.{Host, numbers_of, at_peer, changed, is_one_of, new_host, state_of}
 use Rattle.ncp_host.specs.Hearing.{is_kind, after_bits}
@@ -16,13 +16,13 @@ use Rattle.ncp_transcript.specs.declared.call.Call.TheVariants as calls
 use Rattle.ncp_transcript.specs.declared.note.HostNote.{HostNote}
 use Rattle.ncp_transcript.specs.declared.note.HostNote.TheVariants as notes
 use Rattle.ncp_transcript.specs.After.{after_call, after_note}
-use Rattle.ncp_transcript.specs.Runs.{began}
+use Rattle.ncp_transcript.specs.Runs.{host_began}
 
 pub numbers_new : (ns : List ℕ) → numbers_of (map (λ n. (n, new_state)) ns) ≡ ns
 numbers_new [] = refl
 numbers_new (n ∷ ns) = ap (λ (ms : List ℕ). n ∷ ms) (numbers_new ns)
 
-pub began_new : (me : ℕ) (ns : List ℕ) → began (new_host me ns) ≡ new_host me ns
+pub began_new : (me : ℕ) (ns : List ℕ) → host_began (new_host me ns) ≡ new_host me ns
 began_new me ns = ap (new_host me) (numbers_new ns)
 
 numbers_at : (ps : List (ℕ × PeerState)) (n : ℕ) (f : PeerState → PeerState) → numbers_of (at_peer n f ps) ≡ numbers_of ps
@@ -42,23 +42,23 @@ numbers_turn (p ∷ ps) = go (next_of p.0 p.1) (numbers_turn ps)
     go None rest = ap (λ (ns : List ℕ). p.0 ∷ ns) rest
     go (Some out) rest = refl
 
-began_changed : (n : ℕ) (f : PeerState → PeerState) (h : Host) → began (changed n f h) ≡ began h
+began_changed : (n : ℕ) (f : PeerState → PeerState) (h : Host) → host_began (changed n f h) ≡ host_began h
 began_changed n f h = ap (new_host h.me) (numbers_at h.peers n f)
 
-began_heard : (bits : List Bool) (h : Host) → began (after_received bits h) ≡ began h
+began_heard : (bits : List Bool) (h : Host) → host_began (after_received bits h) ≡ host_began h
 began_heard bits h = go (leader_in bits)
   where
-    from : (leader : Leader) (b : Bool) (o : Option PeerState) → began (if b then after_from o leader bits h else one_other h) ≡ began h
+    from : (leader : Leader) (b : Bool) (o : Option PeerState) → host_began (if b then after_from o leader bits h else one_other h) ≡ host_began h
     from leader true (Some s) = began_changed leader.host (after_bits leader bits) h
     from leader true None = refl
     from leader false o = refl
 
-    go : (r : Result Leader Short) → began (after_with r bits h) ≡ began h
+    go : (r : Result Leader Short) → host_began (after_with r bits h) ≡ host_began h
     go (Err short) = refl
     go (Ok leader) = from leader (is_kind leader.kind) (state_of h leader.host)
 
-began_called : (call : Call) (h : Host) → began (after_call call h) ≡ began h
-began_called (calls.Reset peer) h = began_changed peer calls_reset h
+began_called : (call : Call) (h : Host) → host_began (after_call call h) ≡ host_began h
+began_called (calls.Reset peer) h = began_changed peer state_calls_reset h
 began_called (calls.AskSend peer local remote size room) h = began_changed peer (calls_pair (sockets local remote) (Ask_to_send size room)) h
 began_called (calls.AskReceive peer local remote room) h = began_changed peer (calls_pair (sockets local remote) (Ask_to_receive room)) h
 began_called (calls.Give peer pair text) h = began_changed peer (calls_pair pair (Give text)) h
@@ -66,9 +66,9 @@ began_called (calls.Take peer pair bytes) h = began_changed peer (calls_pair pai
 began_called (calls.Allocate peer pair messages bits) h = began_changed peer (calls_pair pair (Allocate messages bits)) h
 began_called (calls.CallBack peer pair fm fb) h = began_changed peer (calls_pair pair (Call_back fm fb)) h
 began_called (calls.Interrupt peer pair) h = began_changed peer (calls_pair pair Interrupt) h
-began_called (calls.Echo peer byte) h = began_changed peer (calls_echo byte) h
+began_called (calls.Echo peer byte) h = began_changed peer (state_calls_echo byte) h
 began_called (calls.Close peer pair) h = began_changed peer (calls_pair pair Close) h
-began_called (calls.Wake peer) h = began_changed peer calls_wake h
+began_called (calls.Wake peer) h = began_changed peer state_calls_wake h
 began_called (calls.State peer pair) h = refl
 began_called (calls.Phase peer) h = refl
 began_called (calls.Echoed peer) h = refl
@@ -78,7 +78,7 @@ began_called (calls.Waiting peer place) h = refl
 began_called (calls.Kept peer link) h = refl
 began_called calls.Ignored h = refl
 
-pub began_noted : (note : HostNote) (h : Host) → began (after_note note h) ≡ began h
+pub began_noted : (note : HostNote) (h : Host) → host_began (after_note note h) ≡ host_began h
 began_noted (notes.Done call) h = began_called call h
 began_noted (notes.Took peer pair bytes text) h = began_changed peer (calls_pair pair (Take bytes)) h
 began_noted (notes.Out message) h = ap (new_host h.me) (numbers_turn h.peers)
@@ -97,10 +97,10 @@ began_noted notes.Nothing h = refl
 
 -- what has begun as another host has its number and its peers
 
-pub same_me : (h after : Host) → began after ≡ began h → after.me ≡ h.me
+pub same_me : (h after : Host) → host_began after ≡ host_began h → after.me ≡ h.me
 same_me h after e = ap (λ (x : Host). x.me) e
 
-pub same_peers : (h after : Host) → began after ≡ began h → numbers_of after.peers ≡ numbers_of h.peers
+pub same_peers : (h after : Host) → host_began after ≡ host_began h → numbers_of after.peers ≡ numbers_of h.peers
 same_peers h after e = sym (numbers_new (numbers_of after.peers)) ∙ ap (λ (x : Host). numbers_of x.peers) e ∙ numbers_new (numbers_of h.peers)
 
 same_number : (m n : ℕ) → (m == n) ≡ true → m ≡ n

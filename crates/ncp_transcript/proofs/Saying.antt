@@ -15,20 +15,20 @@ use Rattle.ncp_transcript.specs.declared.note.HostNote.{HostNote}
 use Rattle.ncp_transcript.specs.declared.note.HostNote.TheVariants as notes
 use Rattle.ncp_transcript.specs.Notes.{done_or_refused, told_or_refused}
 use Rattle.ncp_transcript.specs.Answers.{answer_to}
-use Rattle.ncp_transcript.specs.Noting.{IsWant, answer_in, note_as, note_of_message, Noted}
-use Rattle.ncp_transcript.specs.Runs.{IsSaid}
+use Rattle.ncp_transcript.specs.Noting.{IsWant, answer_in, note_as, note_of_message, HostNoted}
+use Rattle.ncp_transcript.specs.Runs.{IsHostSaid}
 use Rattle.ncp_transcript.proofs.Arriving.{told_answer}
 
-done_said : (call : Call) (reply : Result (Unit {0}) CallFault) (h : Host) → answer_to call h ≡ done_or_refused call reply → IsSaid (done_or_refused call reply) h
+done_said : (call : Call) (reply : Result (Unit {0}) CallFault) (h : Host) → answer_to call h ≡ done_or_refused call reply → IsHostSaid (done_or_refused call reply) h
 done_said call (Ok done) h e = e
 done_said call (Err fault) h e = inl e
 
 told_said : {A : Type 0} (call : Call) (told : A → HostNote) (reply : Result A CallFault) (h : Host)
-    → ((a : A) → answer_to call h ≡ told a → IsSaid (told a) h) → answer_to call h ≡ told_or_refused call told reply → IsSaid (told_or_refused call told reply) h
+    → ((a : A) → answer_to call h ≡ told a → IsHostSaid (told a) h) → answer_to call h ≡ told_or_refused call told reply → IsHostSaid (told_or_refused call told reply) h
 told_said call told (Ok a) h says e = says a e
 told_said call told (Err fault) h says e = inl e
 
-answer_said : (call : Call) (h : Host) → IsSaid (answer_to call h) h
+answer_said : (call : Call) (h : Host) → IsHostSaid (answer_to call h) h
 answer_said (calls.Reset peer) h = done_said (calls.Reset peer) (reset_reply peer h) h refl
 answer_said (calls.AskSend peer local remote size room) h = done_said (calls.AskSend peer local remote size room) (call_reply peer (sockets local remote) (Ask_to_send size room) h) h refl
 answer_said (calls.AskReceive peer local remote room) h = done_said (calls.AskReceive peer local remote room) (call_reply peer (sockets local remote) (Ask_to_receive room) h) h refl
@@ -49,19 +49,19 @@ answer_said (calls.Waiting peer place) h = refl
 answer_said (calls.Kept peer link) h = refl
 answer_said calls.Ignored h = refl
 
-want_said : (call : Call) (note : HostNote) (h : Host) → IsWant call note h → IsSaid note h
-want_said call note h w = subst (λ (n : HostNote). IsSaid n h) (sym w.said) (inr (record { takes = w.takes; good = w.good; said = refl }))
+want_said : (call : Call) (note : HostNote) (h : Host) → IsWant call note h → IsHostSaid note h
+want_said call note h w = subst (λ (n : HostNote). IsHostSaid n h) (sym w.said) (inr (record { takes = w.takes; good = w.good; said = refl }))
 
-bits_said : (bits : List Bool) (h : Host) (o : Option Leader) → answer_in bits h ≡ o → IsSaid (note_as o bits (received_in bits h)) h
+bits_said : (bits : List Bool) (h : Host) (o : Option Leader) → answer_in bits h ≡ o → IsHostSaid (note_as o bits (received_in bits h)) h
 bits_said bits h None e = (e, refl)
 bits_said bits h (Some leader) e = told_answer bits h leader e
 
-output_said : (h : Host) (o : Option (List Bool)) → next_output h ≡ o → IsSaid (note_of_message o) h
+output_said : (h : Host) (o : Option (List Bool)) → next_output h ≡ o → IsHostSaid (note_of_message o) h
 output_said h None e = e
 output_said h (Some message) e = e
 
-pub noted_said : (input : Input) (note : HostNote) (h : Host) → Noted input note h → IsSaid note h
-noted_said (inputs.Call call) note h (inl e) = subst (λ (n : HostNote). IsSaid n h) (sym e) (answer_said call h)
+pub noted_said : (input : Input) (note : HostNote) (h : Host) → HostNoted input note h → IsHostSaid note h
+noted_said (inputs.Call call) note h (inl e) = subst (λ (n : HostNote). IsHostSaid n h) (sym e) (answer_said call h)
 noted_said (inputs.Call call) note h (inr w) = want_said call note h w
-noted_said (inputs.In bits) note h e = subst (λ (n : HostNote). IsSaid n h) (sym e) (bits_said bits h (answer_in bits h) refl)
-noted_said inputs.Out note h e = subst (λ (n : HostNote). IsSaid n h) (sym e) (output_said h (next_output h) refl)
+noted_said (inputs.In bits) note h e = subst (λ (n : HostNote). IsHostSaid n h) (sym e) (bits_said bits h (answer_in bits h) refl)
+noted_said inputs.Out note h e = subst (λ (n : HostNote). IsHostSaid n h) (sym e) (output_said h (next_output h) refl)

@@ -4,7 +4,7 @@ use Rattle.ncp_leader.specs.declared.leader.Leader.{Leader}
 use Rattle.ncp_leader.specs.declared.leader.Short.{Short}
 use Rattle.ncp_leader.specs.Leader.{leader_in}
 use Rattle.ncp_model.specs.Peers.{Ask_to_send, Ask_to_receive, Close, Give, Take, Allocate, Call_back, Interrupt}
-use Rattle.ncp_host.specs.PeerState.{PeerState, calls as calls_pair, calls_echo, calls_reset, calls_wake, answer_comes}
+use Rattle.ncp_host.specs.PeerState.{PeerState, state_calls as calls_pair, state_calls_echo, state_calls_reset, state_calls_wake, answer_comes}
 use Rattle.ncp_host.specs.Output.{next_of, after_output}
 use Rattle.ncp_host.specs.Host.{Host, state_in, state_of, at_peer}
 use Rattle.ncp_host.specs.Hearing.{is_kind, after_bits}
@@ -16,7 +16,7 @@ use Rattle.ncp_transcript.specs.declared.call.Call.TheVariants as calls
 use Rattle.ncp_transcript.specs.declared.note.HostNote.{HostNote}
 use Rattle.ncp_transcript.specs.declared.note.HostNote.TheVariants as notes
 use Rattle.ncp_transcript.specs.After.{after_call, after_note}
-use Rattle.ncp_transcript.specs.Touching.{named, sender_of, first_peer, next_peer, touched}
+use Rattle.ncp_transcript.specs.Touching.{peer_touched, sender_of, first_peer, next_peer, touched}
 
 apart : (a other : ℕ) → ◌≢◌ {A = Option ℕ} (Some a) (Some other) → (a == other) ≡ false
 apart a other d = go (a == other) refl
@@ -63,8 +63,8 @@ heard bits h other d = go (leader_in bits) d
     go (Err short) d = refl
     go (Ok leader) d = from leader (is_kind leader.kind) (state_of h leader.host) d
 
-called : (call : Call) (h : Host) (other : ℕ) → named call ≢ Some other → state_of (after_call call h) other ≡ state_of h other
-called (calls.Reset peer) h other d = at_other h.peers peer other calls_reset d
+called : (call : Call) (h : Host) (other : ℕ) → peer_touched call ≢ Some other → state_of (after_call call h) other ≡ state_of h other
+called (calls.Reset peer) h other d = at_other h.peers peer other state_calls_reset d
 called (calls.AskSend peer local remote size room) h other d = at_other h.peers peer other (calls_pair (sockets local remote) (Ask_to_send size room)) d
 called (calls.AskReceive peer local remote room) h other d = at_other h.peers peer other (calls_pair (sockets local remote) (Ask_to_receive room)) d
 called (calls.Give peer pair text) h other d = at_other h.peers peer other (calls_pair pair (Give text)) d
@@ -72,9 +72,9 @@ called (calls.Take peer pair bytes) h other d = at_other h.peers peer other (cal
 called (calls.Allocate peer pair messages bits) h other d = at_other h.peers peer other (calls_pair pair (Allocate messages bits)) d
 called (calls.CallBack peer pair fm fb) h other d = at_other h.peers peer other (calls_pair pair (Call_back fm fb)) d
 called (calls.Interrupt peer pair) h other d = at_other h.peers peer other (calls_pair pair Interrupt) d
-called (calls.Echo peer byte) h other d = at_other h.peers peer other (calls_echo byte) d
+called (calls.Echo peer byte) h other d = at_other h.peers peer other (state_calls_echo byte) d
 called (calls.Close peer pair) h other d = at_other h.peers peer other (calls_pair pair Close) d
-called (calls.Wake peer) h other d = at_other h.peers peer other calls_wake d
+called (calls.Wake peer) h other d = at_other h.peers peer other state_calls_wake d
 called (calls.State peer pair) h other d = refl
 called (calls.Phase peer) h other d = refl
 called (calls.Echoed peer) h other d = refl

@@ -4,7 +4,7 @@ use Rattle.std.specs.Prelude.{List, [], ◌∷◌}
 use Rattle.ncp_model.specs.Peers.{Ask_to_send, Ask_to_receive, Close, Give, Take, Allocate, Call_back, Interrupt}
 use Rattle.ncp_host.specs.PeerState.{answer_comes}
 use Rattle.ncp_host.specs.Host.{Host, changed}
-use Rattle.ncp_host.specs.Calls.{after_call as after_pair_call, after_reset, after_echo, after_wake, sockets}
+use Rattle.ncp_host.specs.Calls.{after_call_to as after_pair_call, after_reset, after_echo, after_wake, sockets}
 use Rattle.ncp_host.specs.Arrivals.{after_received}
 use Rattle.ncp_host.specs.Turns.{after_next_output}
 use Rattle.ncp_transcript.specs.declared.call.Call.{Call}

@@ -4,18 +4,18 @@ use Rattle.ncp_host.specs.Host.{Host}
 use Rattle.ncp_transcript.specs.declared.input.Input.{Input}
 use Rattle.ncp_transcript.specs.declared.note.HostNote.{HostNote}
 use Rattle.ncp_transcript.specs.After.{after_note}
-use Rattle.ncp_transcript.specs.Noting.{Noted}
+use Rattle.ncp_transcript.specs.Noting.{HostNoted}
 
 pub record Alone : Type 0 where
   pub host : Host
   pub notes : List HostNote
 
 -- one input: one note behind the others, which says what the rules say, and the host as it is then
-abbrev pub IsStep : Input → Alone → Alone → Type 0
-IsStep input before now =
-    (note : HostNote) × Noted input note before.host × (now.notes ≡ before.notes ++ note ∷ []) × (now.host ≡ after_note note before.host)
+abbrev pub IsHostStep : Input → Alone → Alone → Type 0
+IsHostStep input before now =
+    (note : HostNote) × HostNoted input note before.host × (now.notes ≡ before.notes ++ note ∷ []) × (now.host ≡ after_note note before.host)
 
 -- inputs one after the other
-abbrev pub AreSteps : List Input → Alone → Alone → Type 0
-AreSteps [] before now = now ≡ before
-AreSteps (input ∷ inputs) before now = (next : Alone) × IsStep input before next × AreSteps inputs next now
+abbrev pub AreHostSteps : List Input → Alone → Alone → Type 0
+AreHostSteps [] before now = now ≡ before
+AreHostSteps (input ∷ inputs) before now = (next : Alone) × IsHostStep input before next × AreHostSteps inputs next now

@@ -62,7 +62,7 @@ note_of_message (Some message) = Out message
 abbrev pub note_of_output : Host → HostNote
 note_of_output h = note_of_message (next_output h)
 
-abbrev pub Noted : Input → HostNote → Host → Type 0
-Noted (inputs.Call call) note h = CallNoted call note h
-Noted (inputs.In bits) note h = note ≡ note_of_bits bits h
-Noted inputs.Out note h = note ≡ note_of_output h
+abbrev pub HostNoted : Input → HostNote → Host → Type 0
+HostNoted (inputs.Call call) note h = CallNoted call note h
+HostNoted (inputs.In bits) note h = note ≡ note_of_bits bits h
+HostNoted inputs.Out note h = note ≡ note_of_output h

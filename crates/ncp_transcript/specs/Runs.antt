@@ -12,7 +12,7 @@ use Rattle.ncp_transcript.specs.declared.note.HostNote.{HostNote}
 use Rattle.ncp_transcript.specs.declared.note.HostNote.TheVariants as notes
 use Rattle.ncp_transcript.specs.Answers.{answer_to}
 use Rattle.ncp_transcript.specs.After.{after_note, after_notes}
-use Rattle.ncp_transcript.specs.Noting.{IsWant, answer_in, Noted}
+use Rattle.ncp_transcript.specs.Noting.{IsWant, answer_in, HostNoted}
 
 -- what is received where an answer comes from a peer, if the host has that peer
 abbrev pub answer_told : Option PeerState → ℕ → Option Received
@@ -20,41 +20,41 @@ answer_told None link = None
 answer_told (Some s) link = Some (answer_received link s)
 
 -- what one note says of the state before it
-abbrev pub IsSaid : HostNote → Host → Type 0
-IsSaid (notes.Refused call fault) h = (answer_to call h ≡ notes.Refused call fault) ⊎ IsWant call (notes.Refused call fault) h
-IsSaid (notes.Done call) h = answer_to call h ≡ notes.Done call
-IsSaid (notes.Took peer pair bytes text) h = answer_to (calls.Take peer pair bytes) h ≡ notes.Took peer pair bytes text
-IsSaid (notes.State peer pair r) h = answer_to (calls.State peer pair) h ≡ notes.State peer pair r
-IsSaid (notes.Phase peer flags) h = answer_to (calls.Phase peer) h ≡ notes.Phase peer flags
-IsSaid (notes.Echoed peer byte) h = answer_to (calls.Echoed peer) h ≡ notes.Echoed peer byte
-IsSaid (notes.Errors peer errors) h = answer_to (calls.Errors peer) h ≡ notes.Errors peer errors
-IsSaid (notes.Counts peer counts) h = answer_to (calls.Counts peer) h ≡ notes.Counts peer counts
-IsSaid (notes.Waiting peer place command) h = answer_to (calls.Waiting peer place) h ≡ notes.Waiting peer place command
-IsSaid (notes.Kept peer link message) h = answer_to (calls.Kept peer link) h ≡ notes.Kept peer link message
-IsSaid (notes.Ignored ignored) h = answer_to calls.Ignored h ≡ notes.Ignored ignored
-IsSaid (notes.Out message) h = next_output h ≡ Some message
-IsSaid notes.Nothing h = next_output h ≡ None
-IsSaid (notes.In message received) h = (answer_in message h ≡ None) × (received_in message h ≡ received)
-IsSaid (notes.Answered peer link answer received) h = answer_told (state_of h peer) link ≡ Some received
+abbrev pub IsHostSaid : HostNote → Host → Type 0
+IsHostSaid (notes.Refused call fault) h = (answer_to call h ≡ notes.Refused call fault) ⊎ IsWant call (notes.Refused call fault) h
+IsHostSaid (notes.Done call) h = answer_to call h ≡ notes.Done call
+IsHostSaid (notes.Took peer pair bytes text) h = answer_to (calls.Take peer pair bytes) h ≡ notes.Took peer pair bytes text
+IsHostSaid (notes.State peer pair r) h = answer_to (calls.State peer pair) h ≡ notes.State peer pair r
+IsHostSaid (notes.Phase peer flags) h = answer_to (calls.Phase peer) h ≡ notes.Phase peer flags
+IsHostSaid (notes.Echoed peer byte) h = answer_to (calls.Echoed peer) h ≡ notes.Echoed peer byte
+IsHostSaid (notes.Errors peer errors) h = answer_to (calls.Errors peer) h ≡ notes.Errors peer errors
+IsHostSaid (notes.Counts peer counts) h = answer_to (calls.Counts peer) h ≡ notes.Counts peer counts
+IsHostSaid (notes.Waiting peer place command) h = answer_to (calls.Waiting peer place) h ≡ notes.Waiting peer place command
+IsHostSaid (notes.Kept peer link message) h = answer_to (calls.Kept peer link) h ≡ notes.Kept peer link message
+IsHostSaid (notes.Ignored ignored) h = answer_to calls.Ignored h ≡ notes.Ignored ignored
+IsHostSaid (notes.Out message) h = next_output h ≡ Some message
+IsHostSaid notes.Nothing h = next_output h ≡ None
+IsHostSaid (notes.In message received) h = (answer_in message h ≡ None) × (received_in message h ≡ received)
+IsHostSaid (notes.Answered peer link answer received) h = answer_told (state_of h peer) link ≡ Some received
 
-abbrev pub IsRun : List HostNote → Host → Type 0
-IsRun [] h = Unit {0}
-IsRun (note ∷ rest) h = IsSaid note h × IsRun rest (after_note note h)
+abbrev pub IsHostRun : List HostNote → Host → Type 0
+IsHostRun [] h = Unit {0}
+IsHostRun (note ∷ rest) h = IsHostSaid note h × IsHostRun rest (after_note note h)
 
 -- the notes of inputs, one for each, in order
-abbrev pub AreNotes : List Input → List HostNote → Host → Type 0
-AreNotes [] [] h = Unit {0}
-AreNotes (input ∷ inputs) (note ∷ rest) h = Noted input note h × AreNotes inputs rest (after_note note h)
-AreNotes inputs rest h = ⊥
+abbrev pub AreHostNotes : List Input → List HostNote → Host → Type 0
+AreHostNotes [] [] h = Unit {0}
+AreHostNotes (input ∷ inputs) (note ∷ rest) h = HostNoted input note h × AreHostNotes inputs rest (after_note note h)
+AreHostNotes inputs rest h = ⊥
 
 -- the host as it was when it began: of its number, with its peers
-abbrev pub began : Host → Host
-began h = new_host h.me (numbers_of h.peers)
+abbrev pub host_began : Host → Host
+host_began h = new_host h.me (numbers_of h.peers)
 
 -- a transcript: a host can have these peers, and each number has a place in a leader; it is a run from the
 -- beginning, and has led to the host as it is now
-pub record IsTranscript (notes : List HostNote) (now : Host) : Type 0 where
+pub record IsHostTranscript (notes : List HostNote) (now : Host) : Type 0 where
   pub peers : are_peers now.me (numbers_of now.peers) ≡ true
   pub fits : (n : ℕ) → is_one_of n (numbers_of now.peers) ≡ true → n < 256
-  pub run : IsRun notes (began now)
-  pub state : now ≡ after_notes notes (began now)
+  pub run : IsHostRun notes (host_began now)
+  pub state : now ≡ after_notes notes (host_began now)

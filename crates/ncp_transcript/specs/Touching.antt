@@ -12,19 +12,19 @@ use Rattle.ncp_transcript.specs.declared.note.HostNote.{HostNote}
 use Rattle.ncp_transcript.specs.declared.note.HostNote.TheVariants as notes
 
 -- the peer that a call names which changes something
-abbrev pub named : Call → Option ℕ
-named (calls.Reset peer) = Some peer
-named (calls.AskSend peer local remote size room) = Some peer
-named (calls.AskReceive peer local remote room) = Some peer
-named (calls.Give peer pair text) = Some peer
-named (calls.Take peer pair bytes) = Some peer
-named (calls.Allocate peer pair messages bits) = Some peer
-named (calls.CallBack peer pair fm fb) = Some peer
-named (calls.Interrupt peer pair) = Some peer
-named (calls.Echo peer byte) = Some peer
-named (calls.Close peer pair) = Some peer
-named (calls.Wake peer) = Some peer
-named reading = None
+abbrev pub peer_touched : Call → Option ℕ
+peer_touched (calls.Reset peer) = Some peer
+peer_touched (calls.AskSend peer local remote size room) = Some peer
+peer_touched (calls.AskReceive peer local remote room) = Some peer
+peer_touched (calls.Give peer pair text) = Some peer
+peer_touched (calls.Take peer pair bytes) = Some peer
+peer_touched (calls.Allocate peer pair messages bits) = Some peer
+peer_touched (calls.CallBack peer pair fm fb) = Some peer
+peer_touched (calls.Interrupt peer pair) = Some peer
+peer_touched (calls.Echo peer byte) = Some peer
+peer_touched (calls.Close peer pair) = Some peer
+peer_touched (calls.Wake peer) = Some peer
+peer_touched reading = None
 
 -- the host that a leader names
 abbrev pub sender_of : Result Leader Short → Option ℕ
@@ -41,7 +41,7 @@ next_peer [] = None
 next_peer (p ∷ ps) = first_peer (next_of p.0 p.1) p.0 (next_peer ps)
 
 abbrev pub touched : HostNote → Host → Option ℕ
-touched (notes.Done call) h = named call
+touched (notes.Done call) h = peer_touched call
 touched (notes.Took peer pair bytes text) h = Some peer
 touched (notes.Out message) h = next_peer h.peers
 touched (notes.In message received) h = sender_of (leader_in message)

@@ -1,8 +1,8 @@
 //! `Alone`.
 ghost use Rattle.std.specs.Prelude.{◌≡◌, true, false, [], IfOk, IfErr, OnOk, OnErr, Err};
 ghost use Rattle.ncp_host.specs.Host.{new_host, are_peers};
-ghost use Rattle.ncp_transcript.specs.Runs.{IsTranscript};
-ghost use Rattle.ncp_transcript.specs.Alone.{IsStep};
+ghost use Rattle.ncp_transcript.specs.Runs.{IsHostTranscript};
+ghost use Rattle.ncp_transcript.specs.Alone.{IsHostStep};
 
 use crate::input::Input;
 use crate::note::HostNote;
@@ -27,7 +27,7 @@ impl<S: BitStore> Model for Alone<S> {
     ghost use Rattle.std.specs.Coded.{codes};
     ghost use Rattle.ncp_slot.specs.Slots.{coded_slots};
     ghost use Rattle.ncp_host.specs.Codes.{coded_ends};
-    ghost use Rattle.ncp_transcript.specs.Runs.{IsTranscript};
+    ghost use Rattle.ncp_transcript.specs.Runs.{IsHostTranscript};
     ghost use Rattle.ncp_transcript.specs.Alone.{Alone as Seen};
 
     ghost Value = { Seen };
@@ -36,7 +36,7 @@ impl<S: BitStore> Model for Alone<S> {
 
     ghost view = { λ a. record { host = a.host; notes = a.notes } };
 
-    ghost invariant = { λ a. IsTranscript a.notes a.host };
+    ghost invariant = { λ a. IsHostTranscript a.notes a.host };
 }
 
 impl<S: BitStore> Alone<S> {
@@ -46,7 +46,7 @@ impl<S: BitStore> Alone<S> {
     pub fn new(alloc: Global, me: u8, peers: &[u8]) -> Result<Alone<S>, HostFault>
         ensures host { IfOk result (λ alone. alone.host ≡ new_host me peers.now) }
         ensures notes { IfOk result (λ alone. alone.notes ≡ []) }
-        ensures run { IfOk result (λ alone. IsTranscript alone.notes alone.host) }
+        ensures run { IfOk result (λ alone. IsHostTranscript alone.notes alone.host) }
         ensures ok { IfOk result (λ alone. are_peers me peers.now ≡ true) }
         ensures bad { are_peers me peers.now ≡ false → result ≡ Err HostFault.BadPeers }
         ensures full { are_peers me peers.now ≡ true → IfErr result (λ fault. fault ≡ HostFault.OutOfMemory) }
@@ -65,9 +65,9 @@ impl<S: BitStore> Alone<S> {
     ///
     /// Either way the notes are a transcript of the host (`run`).
     pub fn step(&mut self, input: &Input) -> Result<(), AllocError>
-        ensures step { OnOk result (IsStep input.now self.old self.new) }
+        ensures step { OnOk result (IsHostStep input.now self.old self.new) }
         ensures err { OnErr result (self.new ≡ self.old) }
-        ensures run { IsTranscript self.new.notes self.new.host }
+        ensures run { IsHostTranscript self.new.notes self.new.host }
     {
         self.notes.note(&mut self.host, input)
     }
@@ -75,7 +75,7 @@ impl<S: BitStore> Alone<S> {
     /// The notes of all inputs, the first input's first.
     pub fn transcript(&self) -> &[HostNote]
         ensures notes { result.now ≡ self.now.notes }
-        ensures run { IsTranscript self.now.notes self.now.host }
+        ensures run { IsHostTranscript self.now.notes self.now.host }
     {
         self.notes.as_slice()
     }

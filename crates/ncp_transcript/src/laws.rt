@@ -8,17 +8,17 @@ ghost use Rattle.ncp_transcript.specs.declared.note.HostNote.{HostNote};
 ghost use Rattle.ncp_transcript.specs.Answers.{takes_memory};
 ghost use Rattle.ncp_transcript.specs.Noting.{is_answer};
 ghost use Rattle.ncp_transcript.specs.After.{after_note, after_notes};
-ghost use Rattle.ncp_transcript.specs.Runs.{AreNotes, IsRun};
+ghost use Rattle.ncp_transcript.specs.Runs.{AreHostNotes, IsHostRun};
 ghost use Rattle.ncp_transcript.specs.Touching.{touched};
-ghost use Rattle.ncp_transcript.specs.Alone.{Alone, AreSteps};
+ghost use Rattle.ncp_transcript.specs.Alone.{Alone, AreHostSteps};
 
 /// Inputs one after the other, however many and whatever they are, add their notes to the
 /// transcript, one for each and in order, and leave the host as the notes say. These notes are a run:
 /// each says what the rules say at the state before it.
 pub fn every_list_of_inputs_is_a_run()
-    ensures steps { (inputs : List Input) (before now : Alone) → AreSteps inputs before now → (notes : List HostNote) × AreNotes inputs notes before.host × (now.notes ≡ before.notes ++ notes) × (now.host ≡ after_notes notes before.host) }
-    ensures many { (inputs : List Input) (notes : List HostNote) (h : Host) → AreNotes inputs notes h → length notes ≡ length inputs }
-    ensures run { (inputs : List Input) (notes : List HostNote) (h : Host) → AreNotes inputs notes h → IsRun notes h }
+    ensures steps { (inputs : List Input) (before now : Alone) → AreHostSteps inputs before now → (notes : List HostNote) × AreHostNotes inputs notes before.host × (now.notes ≡ before.notes ++ notes) × (now.host ≡ after_notes notes before.host) }
+    ensures many { (inputs : List Input) (notes : List HostNote) (h : Host) → AreHostNotes inputs notes h → length notes ≡ length inputs }
+    ensures run { (inputs : List Input) (notes : List HostNote) (h : Host) → AreHostNotes inputs notes h → IsHostRun notes h }
 {}
 
 /// What is noted changes what the host has for one peer at most: the one that a call names, that bits

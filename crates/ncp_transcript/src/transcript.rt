@@ -1,8 +1,8 @@
 //! `Transcript`.
 ghost use Rattle.std.specs.Prelude.{◌≡◌, [], IfOk, OnOk, OnErr};
 ghost use Rattle.ncp_transcript.specs.After.{after_note};
-ghost use Rattle.ncp_transcript.specs.Noting.{Noted};
-ghost use Rattle.ncp_transcript.specs.Alone.{IsStep};
+ghost use Rattle.ncp_transcript.specs.Noting.{HostNoted};
+ghost use Rattle.ncp_transcript.specs.Alone.{IsHostStep};
 
 use crate::arrivals::hear;
 use crate::calls::perform;
@@ -39,7 +39,7 @@ fn note_of<S: BitStore>(
     host: &mut Host<S>,
     input: &Input,
 ) -> Result<HostNote, AllocError>
-    ensures note { IfOk result (λ note. Noted input.now note host.old) }
+    ensures note { IfOk result (λ note. HostNoted input.now note host.old) }
     ensures host { IfOk result (λ note. host.new ≡ after_note note host.old) }
     ensures err { OnErr result (host.new ≡ host.old) }
 {
@@ -74,7 +74,7 @@ impl Transcript {
         host: &mut Host<S>,
         input: &Input,
     ) -> Result<(), AllocError>
-        ensures step { OnOk result (IsStep input.now (record { host = host.old; notes = self.old }) (record { host = host.new; notes = self.new })) }
+        ensures step { OnOk result (IsHostStep input.now (record { host = host.old; notes = self.old }) (record { host = host.new; notes = self.new })) }
         ensures err { OnErr result ((self.new ≡ self.old) × (host.new ≡ host.old)) }
     {
         self.notes.reserve(1)?;

@@ -26,7 +26,7 @@ pub record Fine (m : Crowd) : Type 0 where
   pub own : (k : ℕ) → is_there k m ≡ true → (ns : List ℕ) × Holds ns (host_at k m)
   pub in_place : AllInPlace m.subnet
 
-pub fine-noted : (m : Crowd) (k : ℕ) (n : HostNote) → Fine m → is_there k m ≡ true → runs.IsSaid n (host_at k m) → Fine (host_notes k n m)
+pub fine-noted : (m : Crowd) (k : ℕ) (n : HostNote) → Fine m → is_there k m ≡ true → runs.IsHostSaid n (host_at k m) → Fine (host_notes k n m)
 fine-noted m k n f there said = record { fits = λ j e. f.fits j (sym (noted-there k j n m) ∙ e); own = own; in_place = f.in_place }
   where
     own : (j : ℕ) → is_there j (host_notes k n m) ≡ true → (ns : List ℕ) × Holds ns (host_at j (host_notes k n m))
@@ -78,7 +78,7 @@ agrees-turned m w g = record {
 }
 
 -- side A notes the same in both
-pub agrees-noted : (m : Crowd) (w : Hosts) (n : HostNote) → Fine m → Agrees m w → runs.IsSaid n (host_at w.number_a m) → runs.IsSaid n w.a
+pub agrees-noted : (m : Crowd) (w : Hosts) (n : HostNote) → Fine m → Agrees m w → runs.IsHostSaid n (host_at w.number_a m) → runs.IsHostSaid n w.a
     → Agrees (host_notes w.number_a n m) (record w { a = transcripts.after_note n w.a })
 agrees-noted m w n f g in_many in_two = record {
   differ = g.differ;
@@ -104,7 +104,7 @@ agrees-noted m w n f g in_many in_two = record {
     own = f.own w.number_a g.there_a
 
 -- a host notes what is not of these two
-pub agrees-others : (m : Crowd) (w : Hosts) (k : ℕ) (n : HostNote) → Fine m → Agrees m w → is_there k m ≡ true → runs.IsSaid n (host_at k m)
+pub agrees-others : (m : Crowd) (w : Hosts) (k : ℕ) (n : HostNote) → Fine m → Agrees m w → is_there k m ≡ true → runs.IsHostSaid n (host_at k m)
     → (k ≡ w.number_a → names w.number_b n ≡ false) → (k ≡ w.number_b → names w.number_a n ≡ false) → Agrees (host_notes k n m) w
 agrees-others m w k n f g is_here said not_b not_a = record {
   differ = g.differ;

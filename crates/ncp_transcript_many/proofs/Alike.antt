@@ -23,7 +23,7 @@ use Rattle.ncp_transcript.specs.declared.note.HostNote.TheVariants as notes
 use Rattle.ncp_transcript.specs.Notes.{done_or_refused, told_or_refused}
 use Rattle.ncp_transcript.specs.Answers.{answer_to}
 use Rattle.ncp_transcript.specs.Noting.{CallNoted, is_answer, if_peer, answer_with, note_as, note_of_bits}
-use Rattle.ncp_proof_runs.specs.Peers.{peer_of_call, peer_of_leader, peer_of, is_number, names}
+use Rattle.ncp_proof_runs.specs.Peers.{peer_of_call, peer_of_leader, peer_of_note, is_this_number, names}
 use Rattle.ncp_transcript_two.proofs.OnePeer.{noted-message}
 use Rattle.ncp_transcript_two.proofs.Written.{answer_leader, answer-led}
 
@@ -67,15 +67,15 @@ module _ (h k : Host) where
 
 -- its note names whom it names
 
-done-names : (call : Call) (r : Result (Unit {0}) CallFault) → peer_of (done_or_refused call r) ≡ peer_of_call call
+done-names : (call : Call) (r : Result (Unit {0}) CallFault) → peer_of_note (done_or_refused call r) ≡ peer_of_call call
 done-names call (Ok u) = refl
 done-names call (Err fault) = refl
 
-told-names : {A : Type 0} (call : Call) (told : A → HostNote) (r : Result A CallFault) → ((x : A) → peer_of (told x) ≡ peer_of_call call) → peer_of (told_or_refused call told r) ≡ peer_of_call call
+told-names : {A : Type 0} (call : Call) (told : A → HostNote) (r : Result A CallFault) → ((x : A) → peer_of_note (told x) ≡ peer_of_call call) → peer_of_note (told_or_refused call told r) ≡ peer_of_call call
 told-names call told (Ok x) is = is x
 told-names call told (Err fault) is = refl
 
-answer-names : (call : Call) (h : Host) → peer_of (answer_to call h) ≡ peer_of_call call
+answer-names : (call : Call) (h : Host) → peer_of_note (answer_to call h) ≡ peer_of_call call
 answer-names (calls.Reset peer) h = done-names (calls.Reset peer) _
 answer-names (calls.AskSend peer local remote size room) h = done-names (calls.AskSend peer local remote size room) _
 answer-names (calls.AskReceive peer local remote room) h = done-names (calls.AskReceive peer local remote room) _
@@ -96,9 +96,9 @@ answer-names (calls.Waiting peer place) h = refl
 answer-names (calls.Kept peer link) h = refl
 answer-names calls.Ignored h = refl
 
-pub call-names : (call : Call) (note : HostNote) (h : Host) → CallNoted call note h → peer_of note ≡ peer_of_call call
-call-names call note h (inl is) = ap peer_of is ∙ answer-names call h
-call-names call note h (inr want) = ap peer_of want.said
+pub call-names : (call : Call) (note : HostNote) (h : Host) → CallNoted call note h → peer_of_note note ≡ peer_of_call call
+call-names call note h (inl is) = ap peer_of_note is ∙ answer-names call h
+call-names call note h (inr want) = ap peer_of_note want.said
 
 -- Bits that come.
 
@@ -112,8 +112,8 @@ bits-alike bits l h k led same =
     ∙ sym (with-leader bits l k led)
 
 -- a message names its sender
-pub message-names : (bits : List Bool) (from on : ℕ) (h : Host) → leader_in bits ≡ Ok (leader_to from on) → peer_of (note_of_bits bits h) ≡ Some from
-message-names bits from on h led = ap peer_of (noted-message h bits (leader_to from on) led refl) ∙ ap peer_of_leader led
+pub message-names : (bits : List Bool) (from on : ℕ) (h : Host) → leader_in bits ≡ Ok (leader_to from on) → peer_of_note (note_of_bits bits h) ≡ Some from
+message-names bits from on h led = ap peer_of_note (noted-message h bits (leader_to from on) led refl) ∙ ap peer_of_leader led
 
 -- an answer names nobody but the host to which the message went
 pub answer-names-one : (kind to on n : ℕ) (h : Host) → IsLeader (answer_leader kind to on) → is_answer kind ≡ true → (kind == regular) ≡ false → (to == n) ≡ false → names n (note_of_bits (answer_bits kind to on) h) ≡ false
@@ -132,5 +132,5 @@ answer-names-one kind to on n h fits is not_regular other =
     led = answer-led kind to on fits
 
     go : (o : Option PeerState) (told : Received) → names n (note_as (if_peer o l) bits told) ≡ false
-    go None told = ap (λ (r : Result Leader Short). is_number n (peer_of_leader r)) led ∙ ap (λ (b : Bool). is_number n (if b then Some to else None)) not_regular
+    go None told = ap (λ (r : Result Leader Short). is_this_number n (peer_of_leader r)) led ∙ ap (λ (b : Bool). is_this_number n (if b then Some to else None)) not_regular
     go (Some s) told = other

@@ -8,7 +8,7 @@ use Rattle.ncp_transcript.specs.declared.note.HostNote.TheVariants as of_host
 use Rattle.ncp_transcript_two.specs.declared.side.Side.TheVariants.{A}
 use Rattle.ncp_transcript_two.specs.declared.note.Move.TheVariants as moves
 use Rattle.ncp_transcript_two.specs.declared.note.Note.TheVariants as notes
-use Rattle.ncp_transcript_two.specs.Happening.{came}
+use Rattle.ncp_transcript_two.specs.Happening.{note_of_coming}
 use Rattle.ncp_transcript_many.specs.declared.many_event.ManyEvent.TheVariants as events
 use Rattle.ncp_transcript_many.specs.declared.many_note.ManyNote.TheVariants as many
 use Rattle.ncp_transcript_many.specs.Crowd.{Crowd, between, after_many}
@@ -39,7 +39,7 @@ was_asked = after_many (many.Called 2 (of_host.Phase 1 (record { down = true; wa
 none-comes : ManyNoted (events.Deliver 1 3 0) (many.Nothing (events.Deliver 1 3 0)) was_asked
 none-comes = record {
   two = notes.Nothing A 0 moves.Deliver;
-  noted = ap (λ (t : OnLink). came A 0 (arriving 1 t) (between 1 3 was_asked)) (sym (transit-new three_hosts 1 3 0));
+  noted = ap (λ (t : OnLink). note_of_coming A 0 (arriving 1 t) (between 1 3 was_asked)) (sym (transit-new three_hosts 1 3 0));
   said = refl;
 }
 

@@ -17,14 +17,14 @@ use Rattle.ncp_proof_runs.specs.Peers.{FromBeginning}
 use Rattle.ncp_transcript_two.specs.declared.side.Side.TheVariants.{A}
 use Rattle.ncp_transcript_two.specs.declared.note.Move.TheVariants as moves
 use Rattle.ncp_transcript_two.specs.declared.note.Note.TheVariants as notes
-use Rattle.ncp_transcript_two.specs.Happening.{came, answered}
+use Rattle.ncp_transcript_two.specs.Happening.{note_of_coming, note_of_answering}
 use Rattle.ncp_transcript_two.proofs.OneSide.{Leads, run_joined, grown}
 use Rattle.ncp_transcript_many.specs.declared.many_event.ManyEvent.{ManyEvent}
 use Rattle.ncp_transcript_many.specs.declared.many_event.ManyEvent.TheVariants as events
 use Rattle.ncp_transcript_many.specs.declared.many_note.ManyNote.{ManyNote}
 use Rattle.ncp_transcript_many.specs.Crowd.{Crowd, numbers_in, is_there, others, host_at, between, host_notes, put_transit, after_many, after_many_notes}
 use Rattle.ncp_transcript_many.specs.ManyHappening.{are_two, by_numbers, IfThere, ManyNoted}
-use Rattle.ncp_transcript_many.specs.ManyTranscript.{IsManyRun, began, IsManyTranscript}
+use Rattle.ncp_transcript_many.specs.ManyTranscript.{IsManyRun, crowd_began, IsManyTranscript}
 use Rattle.ncp_transcript_many.specs.Pairs.{if_at, note_at_host, notes_at_host}
 use Rattle.ncp_transcript_many.proofs.Others.{other-of, others-distinct, others-fit}
 use Rattle.ncp_transcript_many.proofs.Crowds.{many-new, host-here, host-there}
@@ -33,7 +33,7 @@ use Rattle.ncp_transcript_many.proofs.Crowds.{many-new, host-here, host-there}
 abbrev pub LeadsAtHost : ℕ → ManyNote → Crowd → Type 0
 LeadsAtHost k note m = Leads (note_at_host k note) (host_at k m) (host_at k (after_many note m))
 
-at-host : (k host : ℕ) (note : HostNote) (m : Crowd) → is_there host m ≡ true → runs.IsSaid note (host_at host m) → Leads (if_at k host note) (host_at k m) (host_at k (host_notes host note m))
+at-host : (k host : ℕ) (note : HostNote) (m : Crowd) → is_there host m ≡ true → runs.IsHostSaid note (host_at host m) → Leads (if_at k host note) (host_at k m) (host_at k (host_notes host note m))
 at-host k host note m there said = go (host == k) refl
   where
     go : (b : Bool) → (host == k) ≡ b → Leads (if b then note ∷ [] else []) (host_at k m) (host_at k (host_notes host note m))
@@ -50,13 +50,13 @@ module _ (k : ℕ) (m : Crowd) where
   abbrev At : ManyNote → Type 0
   At note = LeadsAtHost k note m
 
-  delivered-at : (from to link : ℕ) → is_there to m ≡ true → (o : Option (List Bool)) → At (by_numbers from to (came A link o (between from to m)))
+  delivered-at : (from to link : ℕ) → is_there to m ≡ true → (o : Option (List Bool)) → At (by_numbers from to (note_of_coming A link o (between from to m)))
   delivered-at from to link there None = (tt, refl)
   delivered-at from to link there (Some bits) =
       let note : HostNote = note_of_bits bits (host_at to m) in
       at-host k to note (put_transit from to link Delivered m) there (noted_said (inputs.In bits) note (host_at to m) refl)
 
-  answered-at : (from to link : ℕ) → is_there from m ≡ true → (o : Option (List Bool)) → At (by_numbers from to (answered A link o (between from to m)))
+  answered-at : (from to link : ℕ) → is_there from m ≡ true → (o : Option (List Bool)) → At (by_numbers from to (note_of_answering A link o (between from to m)))
   answered-at from to link there None = (tt, refl)
   answered-at from to link there (Some bits) =
       let note : HostNote = note_of_bits bits (host_at from m) in
@@ -93,17 +93,17 @@ leads-run k [] m r = (tt, refl)
 leads-run k (note ∷ rest) m r =
     let one = said-at k m r.0.0 note r.0.1 in
     let more = leads-run k rest (after_many note m) r.1 in (
-      run_joined (note_at_host k note) (notes_at_host k rest) (host_at k m) one.0 (subst (runs.IsRun (notes_at_host k rest)) one.1 more.0),
+      run_joined (note_at_host k note) (notes_at_host k rest) (host_at k m) one.0 (subst (runs.IsHostRun (notes_at_host k rest)) one.1 more.0),
       more.1 ∙ ap (after.after_notes (notes_at_host k rest)) one.1 ∙ sym (growing.after_append (note_at_host k note) (notes_at_host k rest) (host_at k m)),
     )
 
-pub by-itself : (ns : List ManyNote) (m : Crowd) (k : ℕ) → IsManyTranscript ns m → is_there k m ≡ true → runs.IsTranscript (notes_at_host k ns) (host_at k m)
+pub by-itself : (ns : List ManyNote) (m : Crowd) (k : ℕ) → IsManyTranscript ns m → is_there k m ≡ true → runs.IsHostTranscript (notes_at_host k ns) (host_at k m)
 by-itself ns m k t there =
     let all : List ℕ = numbers_in m in
-    let r = leads-run k ns (began m) t.run in
-    let new : host_at k (began m) ≡ new_host k (others k all) = many-new all k there in
-    let begins : runs.IsTranscript [] (host_at k (began m)) = growing.transcript_new k (others k all) (host_at k (began m)) (others-fit k all t.hosts there) (λ n e. t.fits n (other-of k n all e)) new in
-    subst (runs.IsTranscript (notes_at_host k ns)) (sym (ap (host_at k) t.state ∙ r.1)) (grown (notes_at_host k ns) [] (host_at k (began m)) begins r.0)
+    let r = leads-run k ns (crowd_began m) t.run in
+    let new : host_at k (crowd_began m) ≡ new_host k (others k all) = many-new all k there in
+    let begins : runs.IsHostTranscript [] (host_at k (crowd_began m)) = growing.transcript_new k (others k all) (host_at k (crowd_began m)) (others-fit k all t.hosts there) (λ n e. t.fits n (other-of k n all e)) new in
+    subst (runs.IsHostTranscript (notes_at_host k ns)) (sym (ap (host_at k) t.state ∙ r.1)) (grown (notes_at_host k ns) [] (host_at k (crowd_began m)) begins r.0)
 
 -- Its notes are a run from its beginning, with the others as its peers; and it is what they leave.
 
@@ -113,9 +113,9 @@ host-from ns m k t there =
     record {
       distinct = others-distinct k all (and_parts (nat_le 2 (length all) && nat_le (length all) 8) (are_distinct all) t.hosts).1;
       places = λ n e. t.fits n (other-of k n all e);
-      run = subst (runs.IsRun (notes_at_host k ns)) (many-new all k there) (leads-run k ns (began m) t.run).0;
+      run = subst (runs.IsHostRun (notes_at_host k ns)) (many-new all k there) (leads-run k ns (crowd_began m) t.run).0;
     }
 
 pub host-led : (ns : List ManyNote) (m : Crowd) (k : ℕ) → IsManyTranscript ns m → is_there k m ≡ true → host_at k m ≡ after.after_notes (notes_at_host k ns) (new_host k (others k (numbers_in m)))
 host-led ns m k t there =
-    ap (host_at k) t.state ∙ (leads-run k ns (began m) t.run).1 ∙ ap (after.after_notes (notes_at_host k ns)) (many-new (numbers_in m) k there)
+    ap (host_at k) t.state ∙ (leads-run k ns (crowd_began m) t.run).1 ∙ ap (after.after_notes (notes_at_host k ns)) (many-new (numbers_in m) k there)

@@ -9,7 +9,7 @@ use Rattle.ncp_transcript.specs.After as after
 use Rattle.ncp_transcript_two.specs.declared.side.Side.TheVariants.{A, B}
 use Rattle.ncp_transcript_two.specs.declared.note.Note.{Note}
 use Rattle.ncp_transcript_two.specs.declared.note.Note.TheVariants as notes
-use Rattle.ncp_transcript_two.specs.Between.{Hosts, after_note}
+use Rattle.ncp_transcript_two.specs.Between.{Hosts, hosts_after_note}
 use Rattle.ncp_transcript_many.specs.declared.many_note.ManyNote.{ManyNote}
 use Rattle.ncp_transcript_many.specs.declared.many_note.ManyNote.TheVariants as many
 use Rattle.ncp_transcript_many.specs.Numbered.{thing_in}
@@ -73,7 +73,7 @@ module _ (a b : ℕ) (m : Crowd) (differ : a ≢ b) where
       ap (λ (h : Host). world a b subnet h (host_at b (host_notes b note m))) (host-there b a note m (ne_eqb b a (λ e. differ (sym e))))
       ∙ ap (world a b subnet (host_at a m)) (host-here b note m there)
 
-  pub between-after : (note : Note) → is_there a m ≡ true → is_there b m ≡ true → between a b (after_many (by_numbers a b note) m) ≡ after_note note (between a b m)
+  pub between-after : (note : Note) → is_there a m ≡ true → is_there b m ≡ true → between a b (after_many (by_numbers a b note) m) ≡ hosts_after_note note (between a b m)
   between-after (notes.Called A note) i j = first note _ i
   between-after (notes.Called B note) i j = second note _ j
   between-after (notes.Out A note) i j = first note _ i

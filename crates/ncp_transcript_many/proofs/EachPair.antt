@@ -2,7 +2,7 @@
 use Rattle.std.proofs.Common.{◌≡◌, ◌≢◌, ◌<◌, ◌^◌, ℕ, true, List, [], ◌∷◌, refl, sym, ap, ◌∙◌, subst}
 use Rattle.ncp_transcript_two.specs.World.{World}
 use Rattle.ncp_transcript_two.specs.declared.note.Note.{Note}
-use Rattle.ncp_transcript_two.specs.Between.{Hosts, new_hosts, after_note, after_notes}
+use Rattle.ncp_transcript_two.specs.Between.{Hosts, new_hosts, hosts_after_note, hosts_after_notes}
 use Rattle.ncp_transcript_two.specs.Transcript.{IsRun, began, IsTranscript}
 use Rattle.ncp_transcript_two.specs.Seen.{state_or_new, seen}
 use Rattle.ncp_transcript_two.proofs.Growing.{after_append, run_append, began_noted}
@@ -15,14 +15,14 @@ use Rattle.ncp_transcript_many.proofs.Stepping.{fine-after, paired}
 use Rattle.ncp_transcript_many.proofs.Starting.{new-fine, new-agrees}
 
 -- the numbers of the two stay
-began-all : (ns : List Note) (w : Hosts) → began (after_notes ns w) ≡ began w
+began-all : (ns : List Note) (w : Hosts) → began (hosts_after_notes ns w) ≡ began w
 began-all [] w = refl
-began-all (n ∷ ns) w = began-all ns (after_note n w) ∙ began_noted n w
+began-all (n ∷ ns) w = began-all ns (hosts_after_note n w) ∙ began_noted n w
 
-pub a-stays : (ns : List Note) (w : Hosts) → (after_notes ns w).number_a ≡ w.number_a
+pub a-stays : (ns : List Note) (w : Hosts) → (hosts_after_notes ns w).number_a ≡ w.number_a
 a-stays ns w = ap (λ (x : Hosts). x.number_a) (began-all ns w)
 
-pub b-stays : (ns : List Note) (w : Hosts) → (after_notes ns w).number_b ≡ w.number_b
+pub b-stays : (ns : List Note) (w : Hosts) → (hosts_after_notes ns w).number_b ≡ w.number_b
 b-stays ns w = ap (λ (x : Hosts). x.number_b) (began-all ns w)
 
 -- what is seen of the two among all is what is seen of a world of two
@@ -39,17 +39,17 @@ agrees-seen m w g = λ k. record {
 -- All notes.
 
 abbrev OneFollows : ℕ → ℕ → ManyNote → Crowd → Hosts → Type 0
-OneFollows a b n m w = IsRun (note_between a b n) w × Agrees (after_many n m) (after_notes (note_between a b n) w)
+OneFollows a b n m w = IsRun (note_between a b n) w × Agrees (after_many n m) (hosts_after_notes (note_between a b n) w)
 
 abbrev Follows : ℕ → ℕ → List ManyNote → Crowd → Hosts → Type 0
-Follows a b ns m w = IsRun (notes_between a b ns) w × Agrees (after_many_notes ns m) (after_notes (notes_between a b ns) w)
+Follows a b ns m w = IsRun (notes_between a b ns) w × Agrees (after_many_notes ns m) (hosts_after_notes (notes_between a b ns) w)
 
 follows : (a b : ℕ) (ns : List ManyNote) (m : Crowd) (w : Hosts) → w.number_a ≡ a → w.number_b ≡ b → Fine m → Agrees m w → IsManyRun ns m → Follows a b ns m w
 follows a b [] m w ea eb f g r = (tt, g)
 follows a b (n ∷ ns) m w ea eb f g r =
     let one : List Note = note_between a b n in
     let first : OneFollows a b n m w = step in
-    let more : Follows a b ns (after_many n m) (after_notes one w) = follows a b ns (after_many n m) (after_notes one w) (a-stays one w ∙ ea) (b-stays one w ∙ eb) (fine-after m f r.0.0 n r.0.1) first.1 r.1 in (
+    let more : Follows a b ns (after_many n m) (hosts_after_notes one w) = follows a b ns (after_many n m) (hosts_after_notes one w) (a-stays one w ∙ ea) (b-stays one w ∙ eb) (fine-after m f r.0.0 n r.0.1) first.1 r.1 in (
       run_append one (notes_between a b ns) w first.0 more.0,
       subst (Agrees (after_many_notes ns (after_many n m))) (sym (after_append one (notes_between a b ns) w)) more.1,
     )
@@ -81,7 +81,7 @@ module _ (ns : List ManyNote) (m : Crowd) (t : IsManyTranscript ns m) (a b : ℕ
     fits_a = subst (λ (k : ℕ). k < 2 ^ 8) (sym number-a) (t.fits a i);
     fits_b = subst (λ (k : ℕ). k < 2 ^ 8) (sym number-b) (t.fits b j);
     run = subst (IsRun (notes_between a b ns)) (sym same) all.0;
-    state = ap (after_notes (notes_between a b ns)) (sym same);
+    state = ap (hosts_after_notes (notes_between a b ns)) (sym same);
   }
 
   last : Agrees m now

@@ -2,7 +2,7 @@
 use Rattle.std.proofs.Common.{◌≡◌, ◌≢◌, ◌<◌, ℕ, true, List, map, sym, ap, ◌∙◌, subst}
 use Rattle.ncp_host.specs.Host.{is_one_of}
 use Rattle.ncp_transcript_two.specs.declared.note.Note.{Note}
-use Rattle.ncp_transcript_two.specs.Between.{new_hosts, after_notes}
+use Rattle.ncp_transcript_two.specs.Between.{new_hosts, hosts_after_notes}
 use Rattle.ncp_transcript_two.specs.Transcript.{IsTranscript}
 use Rattle.ncp_transcript_two.specs.Seen.{seen}
 use Rattle.ncp_transcript_many.specs.declared.many_event.ManyEvent.{ManyEvent}
@@ -30,7 +30,7 @@ module _ (events : List ManyEvent) (notes : List ManyNote) (ns : List ℕ) (good
 pub pairs-same : (some more : List ManyNote) (m x : Crowd) (a b : ℕ) → IsManyTranscript some m → IsManyTranscript more x → is_there a m ≡ true → is_there b m ≡ true → is_there a x ≡ true → is_there b x ≡ true → a ≢ b → notes_between a b some ≡ notes_between a b more → seen (between a b m) ≡ seen (between a b x)
 pairs-same some more m x a b t u i j k l differ e =
     sym (pair-seen some m t a b i j differ)
-    ∙ ap (λ (ns : List Note). seen (after_notes ns (new_hosts a b))) e
+    ∙ ap (λ (ns : List Note). seen (hosts_after_notes ns (new_hosts a b))) e
     ∙ pair-seen more x u a b k l differ
 
 pub pair-alone : (notes : List ManyNote) (m : Crowd) (a b : ℕ) → IsManyTranscript notes m → is_there a m ≡ true → is_there b m ≡ true → a ≢ b → IsManyTranscript (map (by_numbers a b) (notes_between a b notes)) (crowd_of (hosts_between a b notes))

@@ -13,7 +13,7 @@ use Rattle.ncp_transcript_many.specs.declared.many_note.ManyNote.{ManyNote}
 use Rattle.ncp_transcript_many.specs.declared.many_note.ManyNote.TheVariants as many
 use Rattle.ncp_transcript_many.specs.Crowd.{Crowd, host_at, between, numbers_in, after_many_notes}
 use Rattle.ncp_transcript_many.specs.ManyHappening.{ends_of, as_of_two, are_there, by_numbers, IfThere, ManyNoted}
-use Rattle.ncp_transcript_many.specs.ManyTranscript.{began, IsManyTranscript}
+use Rattle.ncp_transcript_many.specs.ManyTranscript.{crowd_began, IsManyTranscript}
 use Rattle.ncp_transcript_many.specs.ManyVain.{CannotHappen}
 use Rattle.ncp_transcript_many.proofs.Crowds.{new-numbers, numbers-after-all}
 use Rattle.ncp_transcript_many.proofs.ManyRuns.{said-in}
@@ -69,20 +69,20 @@ there-alike (events.Dead from to link) m x e = rw e refl
 there-alike (events.Answer from to link) m x e = rw e refl
 
 module _ (before after : List ManyNote) (m : Crowd) where
-  at : (note : ManyNote) → IsManyTranscript (before ++ note ∷ after) m → ManyVain note (after_many_notes before (began m))
-  at note t = let s = said-in before after note (began m) t.run in vain s.0 note (after_many_notes before (began m)) s.1
+  at : (note : ManyNote) → IsManyTranscript (before ++ note ∷ after) m → ManyVain note (after_many_notes before (crowd_began m))
+  at note t = let s = said-in before after note (crowd_began m) t.run in vain s.0 note (after_many_notes before (crowd_began m)) s.1
 
-  pub nothing-vain : (event : ManyEvent) → IsManyTranscript (before ++ many.Nothing event ∷ after) m → (are_there event m ≡ false) ⊎ CannotHappen event (after_many_notes before (began m))
+  pub nothing-vain : (event : ManyEvent) → IsManyTranscript (before ++ many.Nothing event ∷ after) m → (are_there event m ≡ false) ⊎ CannotHappen event (after_many_notes before (crowd_began m))
   nothing-vain event t = go (at (many.Nothing event) t)
     where
-      same : are_there event (after_many_notes before (began m)) ≡ are_there event m
-      same = there-alike event m (after_many_notes before (began m)) (numbers-after-all before (began m) ∙ new-numbers (numbers_in m))
+      same : are_there event (after_many_notes before (crowd_began m)) ≡ are_there event m
+      same = there-alike event m (after_many_notes before (crowd_began m)) (numbers-after-all before (crowd_began m) ∙ new-numbers (numbers_in m))
 
-      go : (are_there event (after_many_notes before (began m)) ≡ false) ⊎ CannotHappen event (after_many_notes before (began m)) → (are_there event m ≡ false) ⊎ CannotHappen event (after_many_notes before (began m))
+      go : (are_there event (after_many_notes before (crowd_began m)) ≡ false) ⊎ CannotHappen event (after_many_notes before (crowd_began m)) → (are_there event m ≡ false) ⊎ CannotHappen event (after_many_notes before (crowd_began m))
       go (inl e) = inl (sym same ∙ e)
       go (inr v) = inr v
 
-  pub out-vain : (host : ℕ) → IsManyTranscript (before ++ many.Out host of_host.Nothing ∷ after) m → next_output (host_at host (after_many_notes before (began m))) ≡ None
+  pub out-vain : (host : ℕ) → IsManyTranscript (before ++ many.Out host of_host.Nothing ∷ after) m → next_output (host_at host (after_many_notes before (crowd_began m))) ≡ None
   out-vain host t = at (many.Out host of_host.Nothing) t refl
 
   pub called-vain : (host : ℕ) → IsManyTranscript (before ++ many.Called host of_host.Nothing ∷ after) m → ⊥

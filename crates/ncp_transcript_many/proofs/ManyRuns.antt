@@ -5,7 +5,7 @@ use Rattle.ncp_host.specs.Host.{is_one_of}
 use Rattle.ncp_transcript_many.specs.declared.many_event.ManyEvent.{ManyEvent}
 use Rattle.ncp_transcript_many.specs.declared.many_note.ManyNote.{ManyNote}
 use Rattle.ncp_transcript_many.specs.Crowd.{Crowd, numbers_in, are_hosts, new_crowd, after_many, after_many_notes}
-use Rattle.ncp_transcript_many.specs.ManyTranscript.{IsManySaid, IsManyRun, AreManyNotes, began, IsManyTranscript, Noted_many, new_many, IsManyStep, AreManySteps}
+use Rattle.ncp_transcript_many.specs.ManyTranscript.{IsManySaid, IsManyRun, AreManyNotes, crowd_began, IsManyTranscript, Noted_many, new_many, IsManyStep, AreManySteps}
 use Rattle.ncp_transcript_many.proofs.Crowds.{new-numbers, numbers-after, numbers-after-all}
 
 pub after-append : (some more : List ManyNote) (m : Crowd) → after_many_notes (some ++ more) m ≡ after_many_notes more (after_many_notes some m)
@@ -50,12 +50,12 @@ transcript-new ns m good fits e =
 pub transcript-grows : (some now : List ManyNote) (note : ManyNote) (m after : Crowd) → IsManyTranscript some m → IsManySaid note m → now ≡ some ++ note ∷ [] → after ≡ after_many note m → IsManyTranscript now after
 transcript-grows some now note m after t said e is =
     let numbers : numbers_in after ≡ numbers_in m = ap numbers_in is ∙ numbers-after note m in
-    let same : began after ≡ began m = ap new_crowd numbers in
+    let same : crowd_began after ≡ crowd_began m = ap new_crowd numbers in
     record {
       hosts = ap are_hosts numbers ∙ t.hosts;
       fits = subst (λ (ks : List ℕ). (n : ℕ) → is_one_of n ks ≡ true → n < 256) (sym numbers) t.fits;
-      run = subst (λ (ns : List ManyNote). IsManyRun ns (began after)) (sym e) (subst (IsManyRun (some ++ note ∷ [])) (sym same) (run-append some (note ∷ []) (began m) t.run (subst (IsManySaid note) t.state said, tt)));
-      state = is ∙ ap (after_many note) t.state ∙ sym (after-append some (note ∷ []) (began m)) ∙ ap (after_many_notes (some ++ note ∷ [])) (sym same) ∙ ap (λ (ns : List ManyNote). after_many_notes ns (began after)) (sym e);
+      run = subst (λ (ns : List ManyNote). IsManyRun ns (crowd_began after)) (sym e) (subst (IsManyRun (some ++ note ∷ [])) (sym same) (run-append some (note ∷ []) (crowd_began m) t.run (subst (IsManySaid note) t.state said, tt)));
+      state = is ∙ ap (after_many note) t.state ∙ sym (after-append some (note ∷ []) (crowd_began m)) ∙ ap (after_many_notes (some ++ note ∷ [])) (sym same) ∙ ap (λ (ns : List ManyNote). after_many_notes ns (crowd_began after)) (sym e);
     }
 
 -- one event after the other
@@ -120,15 +120,15 @@ run-begins [] after m r = tt
 run-begins (n ∷ ns) after m r = (r.0, run-begins ns after (after_many n m) r.1)
 
 -- the hosts that are there then are those of the beginning, and of the end
-pub numbers-then : (before : List ManyNote) (m : Crowd) → numbers_in (after_many_notes before (began m)) ≡ numbers_in m
-numbers-then before m = numbers-after-all before (began m) ∙ new-numbers (numbers_in m)
+pub numbers-then : (before : List ManyNote) (m : Crowd) → numbers_in (after_many_notes before (crowd_began m)) ≡ numbers_in m
+numbers-then before m = numbers-after-all before (crowd_began m) ∙ new-numbers (numbers_in m)
 
-pub many-begins : (before after : List ManyNote) (m : Crowd) → IsManyTranscript (before ++ after) m → IsManyTranscript before (after_many_notes before (began m))
+pub many-begins : (before after : List ManyNote) (m : Crowd) → IsManyTranscript (before ++ after) m → IsManyTranscript before (after_many_notes before (crowd_began m))
 many-begins before after m t =
-    let same : numbers_in (after_many_notes before (began m)) ≡ numbers_in m = numbers-then before m in
+    let same : numbers_in (after_many_notes before (crowd_began m)) ≡ numbers_in m = numbers-then before m in
     record {
       hosts = ap are_hosts same ∙ t.hosts;
       fits = subst (λ (ks : List ℕ). (n : ℕ) → is_one_of n ks ≡ true → n < 256) (sym same) t.fits;
-      run = subst (λ (ks : List ℕ). IsManyRun before (new_crowd ks)) (sym same) (run-begins before after (began m) t.run);
+      run = subst (λ (ks : List ℕ). IsManyRun before (new_crowd ks)) (sym same) (run-begins before after (crowd_began m) t.run);
       state = ap (λ (ks : List ℕ). after_many_notes before (new_crowd ks)) (sym same);
     }

@@ -14,7 +14,7 @@ use Rattle.ncp_transcript_two.specs.declared.side.Side.TheVariants.{A}
 use Rattle.ncp_transcript_two.specs.declared.note.Move.TheVariants as moves
 use Rattle.ncp_transcript_two.specs.declared.note.Note.TheVariants as notes
 use Rattle.ncp_transcript_two.specs.Seen.{CallFits}
-use Rattle.ncp_transcript_two.specs.Happening.{came, answered}
+use Rattle.ncp_transcript_two.specs.Happening.{note_of_coming, note_of_answering}
 use Rattle.ncp_transcript_many.specs.declared.many_event.ManyEvent.{ManyEvent}
 use Rattle.ncp_transcript_many.specs.declared.many_event.ManyEvent.TheVariants as events
 use Rattle.ncp_transcript_many.specs.declared.many_note.ManyNote.{ManyNote}
@@ -57,7 +57,7 @@ module _ (m : Crowd) (P : ManyNote → Type 0) (k : Kinds m P) where
       go false e s = subst P (sym s) (k.absent (events.Out host) e)
   each-kind (events.Deliver from to link) note s = go (are_two from to m) refl s
     where
-      by_transit : are_two from to m ≡ true → (x : OnLink) → transit_at m.subnet from to link ≡ x → P (by_numbers from to (came A link (arriving from x) (between from to m)))
+      by_transit : are_two from to m ≡ true → (x : OnLink) → transit_at m.subnet from to link ≡ x → P (by_numbers from to (note_of_coming A link (arriving from x) (between from to m)))
       by_transit e Free is = k.never_came from to link e (ap (arriving from) is)
       by_transit e (Accepted message) is = k.came from to link message e is
       by_transit e Delivered is = k.never_came from to link e (ap (arriving from) is)
@@ -87,7 +87,7 @@ module _ (m : Crowd) (P : ManyNote → Type 0) (k : Kinds m P) where
       go false e s = subst P (sym s) (k.absent (events.Dead from to link) e)
   each-kind (events.Answer from to link) note s = go (are_two from to m) refl s
     where
-      by_transit : are_two from to m ≡ true → (o : Option ℕ) → answer_kind (transit_at m.subnet from to link) ≡ o → P (by_numbers from to (answered A link (answering to link o) (between from to m)))
+      by_transit : are_two from to m ≡ true → (o : Option ℕ) → answer_kind (transit_at m.subnet from to link) ≡ o → P (by_numbers from to (note_of_answering A link (answering to link o) (between from to m)))
       by_transit e None is = k.never_answered from to link e is
       by_transit e (Some kind) is = k.answered from to link kind e is
 

@@ -2,7 +2,7 @@
 use Rattle.std.proofs.Common.{◌≡◌, ◌≤◌, ℕ, List, [], ◌∷◌, ◌++◌, length, refl, sym, ap, ◌∙◌, subst, arith}
 use Rattle.ncp_transcript_two.specs.World.{World, Told}
 use Rattle.ncp_transcript_two.specs.declared.note.Note.{Note}
-use Rattle.ncp_transcript_two.specs.Between.{Hosts, new_hosts, after_note, after_notes}
+use Rattle.ncp_transcript_two.specs.Between.{Hosts, new_hosts, hosts_after_note, hosts_after_notes}
 use Rattle.ncp_transcript_two.specs.Transcript as worlds
 use Rattle.ncp_transcript_two.specs.Seen.{seen, as_rules, told_of, side_of}
 use Rattle.ncp_proof_promises.specs.EachNote.{OfTold, OfEachNote}
@@ -24,11 +24,11 @@ module _ (P : Told → World → World → Type 0) (a b : ℕ) where
   abbrev AtNote : List Note → Crowd → Crowd → Type 0
   AtNote one m after = AmongAll P one (seen (between a b m)) (seen (between a b after))
 
-  at-note : (m after : Crowd) (w : Hosts) (one rest : List Note) → length one ≤ 1 → w.number_a ≡ a → w.number_b ≡ b → Agrees m w → Agrees after (after_notes one w)
-      → OfEachNote P (one ++ rest) w → AtNote one m after × OfEachNote P rest (after_notes one w)
+  at-note : (m after : Crowd) (w : Hosts) (one rest : List Note) → length one ≤ 1 → w.number_a ≡ a → w.number_b ≡ b → Agrees m w → Agrees after (hosts_after_notes one w)
+      → OfEachNote P (one ++ rest) w → AtNote one m after × OfEachNote P rest (hosts_after_notes one w)
   at-note m after w [] rest few ea eb g h e = (sym (seen-of after w ea eb h) ∙ seen-of m w ea eb g, e)
   at-note m after w (x ∷ []) rest few ea eb g h e =
-      let next : Hosts = after_note x w in (
+      let next : Hosts = hosts_after_note x w in (
         subst (λ (v : World). OfTold P (as_rules (side_of x)) (told_of x) v (seen (between a b after))) (seen-of m w ea eb g)
             (subst (λ (v : World). OfTold P (as_rules (side_of x)) (told_of x) (seen w) v) (seen-of after next (a-stays (x ∷ []) w ∙ ea) (b-stays (x ∷ []) w ∙ eb) h) e.0),
         e.1,
@@ -39,11 +39,11 @@ module _ (P : Told → World → World → Type 0) (a b : ℕ) where
   all [] m w ea eb f g r e = tt
   all (n ∷ ns) m w ea eb f g r e =
       let one : List Note = note_between a b n in
-      let after : Agrees (after_many n m) (after_notes one w) =
-      subst (λ (j : ℕ). Agrees (after_many n m) (after_notes (note_between j b n) w)) ea
-      (subst (λ (k : ℕ). Agrees (after_many n m) (after_notes (note_between w.number_a k n) w)) eb (paired m f w g r.0.0 n r.0.1).1) in
-      let s : AtNote one m (after_many n m) × OfEachNote P (notes_between a b ns) (after_notes one w) = at-note m (after_many n m) w one (notes_between a b ns) (between-one n a b) ea eb g after e in
-      (s.0, all ns (after_many n m) (after_notes one w) (a-stays one w ∙ ea) (b-stays one w ∙ eb) (fine-after m f r.0.0 n r.0.1) after r.1 s.1)
+      let after : Agrees (after_many n m) (hosts_after_notes one w) =
+      subst (λ (j : ℕ). Agrees (after_many n m) (hosts_after_notes (note_between j b n) w)) ea
+      (subst (λ (k : ℕ). Agrees (after_many n m) (hosts_after_notes (note_between w.number_a k n) w)) eb (paired m f w g r.0.0 n r.0.1).1) in
+      let s : AtNote one m (after_many n m) × OfEachNote P (notes_between a b ns) (hosts_after_notes one w) = at-note m (after_many n m) w one (notes_between a b ns) (between-one n a b) ea eb g after e in
+      (s.0, all ns (after_many n m) (hosts_after_notes one w) (a-stays one w ∙ ea) (b-stays one w ∙ eb) (fine-after m f r.0.0 n r.0.1) after r.1 s.1)
 
 pub each-note : (P : Told → World → World → Type 0) → ((ns : List Note) (w : Hosts) → worlds.IsTranscript ns w → OfEachNote P ns (worlds.began w)) → (ns : List ManyNote) (m : Crowd) → IsManyTranscript ns m → ForEachNoteOfTwo P ns m
 each-note P law ns m t a b i j differ =

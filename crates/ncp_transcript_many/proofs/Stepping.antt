@@ -22,7 +22,7 @@ use Rattle.ncp_transcript.specs.declared.note.HostNote.TheVariants as of_host
 use Rattle.ncp_transcript.specs.Noting.{CallNoted, is_answer, note_of_bits, note_of_message}
 use Rattle.ncp_transcript.specs.Runs as runs
 use Rattle.ncp_transcript.proofs.Saying.{noted_said}
-use Rattle.ncp_proof_runs.specs.Peers.{peer_of_call, peer_of_leader, peer_of, is_number, names}
+use Rattle.ncp_proof_runs.specs.Peers.{peer_of_call, peer_of_leader, peer_of_note, is_this_number, names}
 use Rattle.ncp_proof_runs.proofs.States.{Turn}
 use Rattle.ncp_proof_runs.proofs.Ready.{first_is, link_small}
 use Rattle.ncp_proof_runs.proofs.HostRuns.{out-turn, out-leader}
@@ -30,7 +30,7 @@ use Rattle.ncp_transcript_two.specs.declared.side.Side.TheVariants.{A, B}
 use Rattle.ncp_transcript_two.specs.declared.note.Note.{Note}
 use Rattle.ncp_transcript_two.specs.declared.note.Note.TheVariants as notes
 use Rattle.ncp_transcript_two.specs.Seen.{CallFits, state_or_new}
-use Rattle.ncp_transcript_two.specs.Between.{Hosts, taken, after_note, after_notes}
+use Rattle.ncp_transcript_two.specs.Between.{Hosts, accepted_from, hosts_after_note, hosts_after_notes}
 use Rattle.ncp_transcript_two.specs.Transcript.{IsRun}
 use Rattle.ncp_transcript_two.proofs.Accepting.{both}
 use Rattle.ncp_transcript_two.proofs.OnePeer.{next-message}
@@ -68,8 +68,8 @@ of-two a b n x y P named forth back none = subst (λ (o : Option (ℕ × ℕ)). 
 of-none : (a b : ℕ) (n : ManyNote) (P : List Note → Type 0) → two_of n ≡ None → P [] → P (note_between a b n)
 of-none a b n P named is = subst (λ (o : Option (ℕ × ℕ)). P (if_side (side_of_pair a b o) n)) (sym named) is
 
-not-named : (number c : ℕ) (n : HostNote) → peer_of n ≡ Some c → (c ≡ number → ⊥) → names number n ≡ false
-not-named number c n e ne = ap (is_number number) e ∙ ne_eqb c number ne
+not-named : (number c : ℕ) (n : HostNote) → peer_of_note n ≡ Some c → (c ≡ number → ⊥) → names number n ≡ false
+not-named number c n e ne = ap (is_this_number number) e ∙ ne_eqb c number ne
 
 -- Which answers there are.
 
@@ -109,10 +109,10 @@ goes-to m f host message there next =
       },
     )
 
-said-goes : (message : List Bool) (h : Host) → next_output h ≡ Some message → runs.IsSaid (of_host.Out message) h
+said-goes : (message : List Bool) (h : Host) → next_output h ≡ Some message → runs.IsHostSaid (of_host.Out message) h
 said-goes message h next = noted_said inputs.Out (of_host.Out message) h (sym (ap note_of_message next))
 
-said-still : (h : Host) → next_output h ≡ None → runs.IsSaid of_host.Nothing h
+said-still : (h : Host) → next_output h ≡ None → runs.IsHostSaid of_host.Nothing h
 said-still h next = noted_said inputs.Out of_host.Nothing h (sym (ap note_of_message next))
 
 -- The many alone stay fine.
@@ -142,7 +142,7 @@ module _ (m : Crowd) (f : Fine m) where
   fine-goes : (host : ℕ) (message : List Bool) → is_there host m ≡ true → next_output (host_at host m) ≡ Some message → StaysFine (many.Out host (of_host.Out message))
   fine-goes host message there next =
       let r = goes-to m f host message there next in
-      fine-subnet (host_notes host (of_host.Out message) m) (taken host message m.subnet)
+      fine-subnet (host_notes host (of_host.Out message) m) (accepted_from host message m.subnet)
       (fine-noted m host (of_host.Out message) f there (said-goes message (host_at host m) next))
       (taken-in-place m.subnet host r.0 r.1 message r.2.led r.2.small f.in_place)
 
@@ -174,18 +174,18 @@ module _ (m : Crowd) (f : Fine m) where
 -- The pair, side A.
 
 module _ (m : Crowd) (f : Fine m) (w : Hosts) (g : Agrees m w) where
-  called-a : (call : Call) (n : HostNote) → CallNoted call n (host_at w.number_a m) → peer_of_call call ≡ Some w.number_b → CallNoted call n w.a × Agrees (after_many (many.Called w.number_a n) m) (after_note (notes.Called A n) w)
+  called-a : (call : Call) (n : HostNote) → CallNoted call n (host_at w.number_a m) → peer_of_call call ≡ Some w.number_b → CallNoted call n w.a × Agrees (after_many (many.Called w.number_a n) m) (hosts_after_note (notes.Called A n) w)
   called-a call n noted p =
       let two : CallNoted call n w.a = noted-alike (host_at w.number_a m) w.a call n w.number_b p g.here noted in
       (two, agrees-noted m w n f g (noted_said (inputs.Call call) n (host_at w.number_a m) noted) (noted_said (inputs.Call call) n w.a two))
 
-  goes-a : (message : List Bool) (on : ℕ) → Goes m message w.number_a w.number_b on → (next_output w.a ≡ Some message) × Agrees (after_many (many.Out w.number_a (of_host.Out message)) m) (after_note (notes.Out A (of_host.Out message)) w)
+  goes-a : (message : List Bool) (on : ℕ) → Goes m message w.number_a w.number_b on → (next_output w.a ≡ Some message) × Agrees (after_many (many.Out w.number_a (of_host.Out message)) m) (hosts_after_note (notes.Out A (of_host.Out message)) w)
   goes-a message on r =
       let had : state_or_new (state_of w.a w.number_b) ≡ r.s = ap state_or_new (sym g.here ∙ r.found) in
       let two : next_output w.a ≡ Some message = next-message w.number_b w.a g.own_a.numbers ∙ ap (λ (s : PeerState). message_on (next_of w.number_b s)) had ∙ ap message_on r.first in
       let noted = agrees-noted m w (of_host.Out message) f g (said-goes message (host_at w.number_a m) r.next) (said-goes message w.a two) in (
         two,
-        agrees-subnets _ _ (taken w.number_a message m.subnet) (taken w.number_a message w.subnet) noted
+        agrees-subnets _ _ (accepted_from w.number_a message m.subnet) (accepted_from w.number_a message w.subnet) noted
             (taken-alike m.subnet w.subnet w.number_a w.number_b w.number_a w.number_b on message r.led g.many_to_b g.two_to_b (g.going on) g.going)
             (taken-alike m.subnet w.subnet w.number_b w.number_a w.number_a w.number_b on message r.led g.many_to_b g.two_to_b (g.going on) g.coming)
             (taken-way m.subnet w.number_a w.number_b w.number_a message ∙ g.many_to_b)
@@ -195,7 +195,7 @@ module _ (m : Crowd) (f : Fine m) (w : Hosts) (g : Agrees m w) where
       )
 
   came-a : (link : ℕ) (y : List Bool) → link < 2 ^ 8 → leader_in (from_host w.number_a y) ≡ Ok (leader_to w.number_a link)
-      → (let n : HostNote = note_of_bits (from_host w.number_a y) (host_at w.number_b m) in (n ≡ note_of_bits (from_host w.number_a y) w.b) × Agrees (after_many (many.Came w.number_a w.number_b link n) m) (after_note (notes.Came A link n) w))
+      → (let n : HostNote = note_of_bits (from_host w.number_a y) (host_at w.number_b m) in (n ≡ note_of_bits (from_host w.number_a y) w.b) × Agrees (after_many (many.Came w.number_a w.number_b link n) m) (hosts_after_note (notes.Came A link n) w))
   came-a link y small led =
       let bits : List Bool = from_host w.number_a y in
       let n : HostNote = note_of_bits bits (host_at w.number_b m) in
@@ -209,7 +209,7 @@ module _ (m : Crowd) (f : Fine m) (w : Hosts) (g : Agrees m w) where
       )
 
   answered-a : (link kind : ℕ) → leader_in (answer_bits kind w.number_b link) ≡ Ok (answer_leader kind w.number_b link)
-      → (let n : HostNote = note_of_bits (answer_bits kind w.number_b link) (host_at w.number_a m) in (n ≡ note_of_bits (answer_bits kind w.number_b link) w.a) × Agrees (after_many (many.Answered w.number_a w.number_b link n) m) (after_note (notes.Answered A link n) w))
+      → (let n : HostNote = note_of_bits (answer_bits kind w.number_b link) (host_at w.number_a m) in (n ≡ note_of_bits (answer_bits kind w.number_b link) w.a) × Agrees (after_many (many.Answered w.number_a w.number_b link n) m) (hosts_after_note (notes.Answered A link n) w))
   answered-a link kind led =
       let bits : List Bool = answer_bits kind w.number_b link in
       let n : HostNote = note_of_bits bits (host_at w.number_a m) in
@@ -230,7 +230,7 @@ Has m link kind from to = (answer_kind (transit_at m.subnet from to link) ≡ So
 
 module _ (m : Crowd) (f : Fine m) (w : Hosts) (g : Agrees m w) where
   abbrev Step : ManyNote → List Note → Type 0
-  Step n ns = IsRun ns w × Agrees (after_many n m) (after_notes ns w)
+  Step n ns = IsRun ns w × Agrees (after_many n m) (hosts_after_notes ns w)
 
   abbrev Paired : ManyNote → Type 0
   Paired n = Step n (note_between w.number_a w.number_b n)
@@ -241,10 +241,10 @@ module _ (m : Crowd) (f : Fine m) (w : Hosts) (g : Agrees m w) where
   step-called : (host : ℕ) (call : Call) (n : HostNote) → is_there host m ≡ true → CallNoted call n (host_at host m) → CallFits call → Paired (many.Called host n)
   step-called host call n there noted fits = go (peer_of_call call) refl
     where
-      of : peer_of n ≡ peer_of_call call
+      of : peer_of_note n ≡ peer_of_call call
       of = call-names call n (host_at host m) noted
 
-      said : runs.IsSaid n (host_at host m)
+      said : runs.IsHostSaid n (host_at host m)
       said = noted_said (inputs.Call call) n (host_at host m) noted
 
       first : (to : ℕ) → peer_of_call call ≡ Some to → host ≡ w.number_a → to ≡ w.number_b → Step (many.Called host n) (notes.Called A n ∷ [])
@@ -260,7 +260,7 @@ module _ (m : Crowd) (f : Fine m) (w : Hosts) (g : Agrees m w) where
       go : (o : Option ℕ) → peer_of_call call ≡ o → Paired (many.Called host n)
       go None e =
           of-none w.number_a w.number_b (many.Called host n) (Step (many.Called host n)) (ap (with_peer host) (of ∙ e))
-          (tt, agrees-others m w host n f g there said (λ k. ap (is_number w.number_b) (of ∙ e)) (λ k. ap (is_number w.number_a) (of ∙ e)))
+          (tt, agrees-others m w host n f g there said (λ k. ap (is_this_number w.number_b) (of ∙ e)) (λ k. ap (is_this_number w.number_a) (of ∙ e)))
       go (Some to) e =
           of-two w.number_a w.number_b (many.Called host n) host to (Step (many.Called host n)) (ap (with_peer host) (of ∙ e)) (first to e) (second to e)
           (λ this that. (tt, agrees-others m w host n f g there said (λ k. not-named w.number_b to n (of ∙ e) (this k)) (λ k. not-named w.number_a to n (of ∙ e) (that k))))
@@ -286,7 +286,7 @@ module _ (m : Crowd) (f : Fine m) (w : Hosts) (g : Agrees m w) where
               (λ is. (let c = goes-a m f (turned w) back message on is in ((said-out B w n (sym (ap note_of_message c.0)), tt), agrees-turned _ _ c.1)))
               (subst (λ (k : ℕ). Goes m message host k on) q r)
 
-          of : peer_of n ≡ Some to
+          of : peer_of_note n ≡ Some to
           of = ap peer_of_leader r.led
 
           at : host_in message ≡ to
@@ -295,7 +295,7 @@ module _ (m : Crowd) (f : Fine m) (w : Hosts) (g : Agrees m w) where
           none : (host ≡ w.number_a → to ≡ w.number_b → ⊥) → (host ≡ w.number_b → to ≡ w.number_a → ⊥) → Step (many.Out host n) []
           none this that = (
             tt,
-            agrees-subnets _ w (taken host message m.subnet) w.subnet
+            agrees-subnets _ w (accepted_from host message m.subnet) w.subnet
                 (agrees-others m w host n f g there (said-goes message (host_at host m) next) (λ k. not-named w.number_b to n of (this k)) (λ k. not-named w.number_a to n of (that k)))
                 (λ link. taken-elsewhere m.subnet w.number_a w.number_b host message (λ x y. this (sym x) (sym at ∙ sym y)) link ∙ g.going link)
                 (λ link. taken-elsewhere m.subnet w.number_b w.number_a host message (λ x y. that (sym x) (sym at ∙ sym y)) link ∙ g.coming link)
@@ -335,7 +335,7 @@ module _ (m : Crowd) (f : Fine m) (w : Hosts) (g : Agrees m w) where
           (λ is. (let c = came-a m f (turned w) back link y front.0 is.1 in ((said-came B w link y _ (sym (g.coming link) ∙ is.0) c.0, tt), agrees-turned _ _ c.1))))
           (there, led)
 
-      of : peer_of n ≡ Some from
+      of : peer_of_note n ≡ Some from
       of = message-names (from_host from y) from link (host_at to m) led
 
       none : (from ≡ w.number_a → to ≡ w.number_b → ⊥) → (from ≡ w.number_b → to ≡ w.number_a → ⊥) → Step (many.Came from to link n) []
@@ -505,5 +505,5 @@ module _ (m : Crowd) (f : Fine m) (w : Hosts) (g : Agrees m w) where
     absent = step-absent;
   }
 
-  pub paired : (event : ManyEvent) (n : ManyNote) → ManyNoted event n m → IsRun (note_between w.number_a w.number_b n) w × Agrees (after_many n m) (after_notes (note_between w.number_a w.number_b n) w)
+  pub paired : (event : ManyEvent) (n : ManyNote) → ManyNoted event n m → IsRun (note_between w.number_a w.number_b n) w × Agrees (after_many n m) (hosts_after_notes (note_between w.number_a w.number_b n) w)
   paired = each-kind m Paired step-kinds

@@ -15,7 +15,7 @@ use Rattle.ncp_subnet.specs.Messages.{host_in, link_in, from_host}
 use Rattle.ncp_subnet.specs.Ways.{OnLink}
 use Rattle.ncp_subnet.specs.Subnet.{Place, place, Subnet, has_way, transit_at, with_transit}
 use Rattle.ncp_subnet.proofs.Places.{same_or_apart, transit_at-same, transit_at-others}
-use Rattle.ncp_transcript_two.specs.Between.{is_regular, is_taken, taken}
+use Rattle.ncp_transcript_two.specs.Between.{is_regular, is_taken, accepted_from}
 use Rattle.ncp_transcript_two.proofs.Accepting.{both, taken_yes, taken_no}
 use Rattle.ncp_transcript_two.proofs.SeenMoves.{leader-parts}
 
@@ -48,7 +48,7 @@ nothing-and true b e = e
 nothing-and false b e = refl
 
 pub taken-as : (s : Subnet) (from to on : ℕ) (m : List Bool) → leader_in m ≡ Ok (leader_to to on) → has_way s from to ≡ true
-    → taken from m s ≡ (if is_free (transit_at s from to on) then with_transit s from to on (Accepted m) else s)
+    → accepted_from from m s ≡ (if is_free (transit_at s from to on) then with_transit s from to on (Accepted m) else s)
 taken-as s from to on m led way = go (is_free (transit_at s from to on)) refl
   where
     parts : (nat_le LEADER_BITS (length m) ≡ true) × (leader_at m ≡ leader_to to on)
@@ -63,12 +63,12 @@ taken-as s from to on m led way = go (is_free (transit_at s from to on)) refl
     free : (b : Bool) → is_free (transit_at s from to on) ≡ b → is_free (transit_at s from (host_in m) (link_in m)) ≡ b
     free b e = ap (λ (l : Leader). is_free (transit_at s from l.host l.link)) parts.1 ∙ e
 
-    go : (b : Bool) → is_free (transit_at s from to on) ≡ b → taken from m s ≡ (if b then with_transit s from to on (Accepted m) else s)
+    go : (b : Bool) → is_free (transit_at s from to on) ≡ b → accepted_from from m s ≡ (if b then with_transit s from to on (Accepted m) else s)
     go true e = taken_yes s from m (both _ _ (both _ _ regular there) (free true e)) ∙ ap (λ (l : Leader). with_transit s from l.host l.link (Accepted m)) parts.1
     go false e = taken_no s from m (nothing-and _ _ (free false e))
 
 pub taken-alike : (s t : Subnet) (a b from to on : ℕ) (m : List Bool) → leader_in m ≡ Ok (leader_to to on) → has_way s from to ≡ true → has_way t from to ≡ true
-    → transit_at s from to on ≡ transit_at t from to on → SameWay s t a b → SameWay (taken from m s) (taken from m t) a b
+    → transit_at s from to on ≡ transit_at t from to on → SameWay s t a b → SameWay (accepted_from from m s) (accepted_from from m t) a b
 taken-alike s t a b from to on m led ways wayt is same at =
     ap (λ (u : Subnet). transit_at u a b at) (taken-as s from to on m led ways)
     ∙ ap (λ (x : OnLink). transit_at (if is_free x then with_transit s from to on (Accepted m) else s) a b at) is
@@ -79,17 +79,17 @@ taken-alike s t a b from to on m led ways wayt is same at =
     go true = put-alike s t a b from to on (Accepted m) same at
     go false = same at
 
-pub taken-elsewhere : (s : Subnet) (a b from : ℕ) (m : List Bool) → (a ≡ from → b ≡ host_in m → ⊥) → SameWay (taken from m s) s a b
+pub taken-elsewhere : (s : Subnet) (a b from : ℕ) (m : List Bool) → (a ≡ from → b ≡ host_in m → ⊥) → SameWay (accepted_from from m s) s a b
 taken-elsewhere s a b from m ne on = go (is_taken s from m) refl
   where
-    go : (c : Bool) → is_taken s from m ≡ c → transit_at (taken from m s) a b on ≡ transit_at s a b on
+    go : (c : Bool) → is_taken s from m ≡ c → transit_at (accepted_from from m s) a b on ≡ transit_at s a b on
     go true e = ap (λ (u : Subnet). transit_at u a b on) (taken_yes s from m e) ∙ put-elsewhere s a b from (host_in m) (link_in m) (Accepted m) ne on
     go false e = ap (λ (u : Subnet). transit_at u a b on) (taken_no s from m e)
 
-pub taken-way : (s : Subnet) (a b from : ℕ) (m : List Bool) → has_way (taken from m s) a b ≡ has_way s a b
+pub taken-way : (s : Subnet) (a b from : ℕ) (m : List Bool) → has_way (accepted_from from m s) a b ≡ has_way s a b
 taken-way s a b from m = go (is_taken s from m) refl
   where
-    go : (c : Bool) → is_taken s from m ≡ c → has_way (taken from m s) a b ≡ has_way s a b
+    go : (c : Bool) → is_taken s from m ≡ c → has_way (accepted_from from m s) a b ≡ has_way s a b
     go true e = ap (λ (u : Subnet). has_way u a b) (taken_yes s from m e)
     go false e = ap (λ (u : Subnet). has_way u a b) (taken_no s from m e)
 
@@ -111,13 +111,13 @@ put-in-place s from to link x all is a b on = elim (same_or_apart (place a b on)
   | inr ne ↦ subst (InPlace b on) (sym (off-place s from to link x a b on ne)) (all a b on)
 ]
 
-pub taken-in-place : (s : Subnet) (from to on : ℕ) (m : List Bool) → leader_in m ≡ Ok (leader_to to on) → on < 2 ^ 8 → AllInPlace s → AllInPlace (taken from m s)
+pub taken-in-place : (s : Subnet) (from to on : ℕ) (m : List Bool) → leader_in m ≡ Ok (leader_to to on) → on < 2 ^ 8 → AllInPlace s → AllInPlace (accepted_from from m s)
 taken-in-place s from to on m led small all = go (is_taken s from m) refl
   where
     is : leader_at m ≡ leader_to to on
     is = (leader-parts m (leader_to to on) led).1
 
-    go : (c : Bool) → is_taken s from m ≡ c → AllInPlace (taken from m s)
+    go : (c : Bool) → is_taken s from m ≡ c → AllInPlace (accepted_from from m s)
     go true e =
         subst AllInPlace (sym (taken_yes s from m e))
         (put-in-place s from (host_in m) (link_in m) (Accepted m) all (subst (λ (l : Leader). InPlace l.host l.link (Accepted m)) (sym is) (small, led)))

@@ -13,8 +13,8 @@ use Rattle.ncp_transcript_two.specs.declared.event.Event.TheVariants as two_even
 use Rattle.ncp_transcript_two.specs.declared.note.Move.TheVariants as moves
 use Rattle.ncp_transcript_two.specs.declared.note.Note.{Note}
 use Rattle.ncp_transcript_two.specs.declared.note.Note.TheVariants as notes
-use Rattle.ncp_transcript_two.specs.Between.{Hosts, new_hosts, transit_of, after_note, after_notes}
-use Rattle.ncp_transcript_two.specs.Happening.{Noted, came, answered, note_of_delivery, note_of_loss, note_of_death, note_of_answer}
+use Rattle.ncp_transcript_two.specs.Between.{Hosts, new_hosts, transit_of, hosts_after_note, hosts_after_notes}
+use Rattle.ncp_transcript_two.specs.Happening.{Noted, note_of_coming, note_of_answering, note_of_delivery, note_of_loss, note_of_death, note_of_answer}
 use Rattle.ncp_transcript_two.specs.Transcript as worlds
 use Rattle.ncp_transcript_two.proofs.Growing.{began_noted}
 use Rattle.ncp_transcript_two.proofs.SeenRuns.{turned}
@@ -24,7 +24,7 @@ use Rattle.ncp_transcript_many.specs.declared.many_note.ManyNote.TheVariants as 
 use Rattle.ncp_transcript_many.specs.Numbered.{at_thing}
 use Rattle.ncp_transcript_many.specs.Crowd.{Crowd, is_there, are_hosts, others, new_crowd, host_or_none, host_at, between, crowd_of, after_many, after_many_notes}
 use Rattle.ncp_transcript_many.specs.ManyHappening.{are_two, are_there, event_by_numbers, by_numbers, IsOfTwo, IfThere, ManyNoted}
-use Rattle.ncp_transcript_many.specs.ManyTranscript.{IsManySaid, IsManyRun, began, IsManyTranscript}
+use Rattle.ncp_transcript_many.specs.ManyTranscript.{IsManySaid, IsManyRun, crowd_began, IsManyTranscript}
 
 abbrev world : ℕ → ℕ → Subnet → Host → Host → Hosts
 world a b subnet h k = record { number_a = a; number_b = b; a = h; b = k; subnet = subnet }
@@ -73,11 +73,11 @@ module _ (w : Hosts) (differ : w.number_a ≢ w.number_b) where
 
   -- what side B does is what side A does of the two turned
 
-  came-turned : (link : ℕ) (o : Option (List Bool)) → by_numbers w.number_a w.number_b (came B link o w) ≡ by_numbers w.number_b w.number_a (came A link o (turned w))
+  came-turned : (link : ℕ) (o : Option (List Bool)) → by_numbers w.number_a w.number_b (note_of_coming B link o w) ≡ by_numbers w.number_b w.number_a (note_of_coming A link o (turned w))
   came-turned link None = refl
   came-turned link (Some bits) = refl
 
-  answered-turned : (link : ℕ) (o : Option (List Bool)) → by_numbers w.number_a w.number_b (answered B link o w) ≡ by_numbers w.number_b w.number_a (answered A link o (turned w))
+  answered-turned : (link : ℕ) (o : Option (List Bool)) → by_numbers w.number_a w.number_b (note_of_answering B link o w) ≡ by_numbers w.number_b w.number_a (note_of_answering A link o (turned w))
   answered-turned link None = refl
   answered-turned link (Some bits) = refl
 
@@ -176,7 +176,7 @@ module _ (w : Hosts) (differ : w.number_a ≢ w.number_b) where
       ap (λ (t : Bool). (w.number_a, w.a) ∷ (if t then (w.number_b, f w.b) ∷ [] else (w.number_b, w.b) ∷ [])) (sym (eq-eqb w.number_b w.number_b refl))
       ∙ ap (λ (t : Bool). if t then (w.number_a, f w.a) ∷ (w.number_b, w.b) ∷ [] else (w.number_a, w.a) ∷ at_thing w.number_b f ((w.number_b, w.b) ∷ [])) (sym apart)
 
-  crowd-after : (note : Note) → crowd_of (after_note note w) ≡ after_many (by_numbers w.number_a w.number_b note) (crowd_of w)
+  crowd-after : (note : Note) → crowd_of (hosts_after_note note w) ≡ after_many (by_numbers w.number_a w.number_b note) (crowd_of w)
   crowd-after (notes.Called A note) = ap (crowd _) (at-a (after.after_note note))
   crowd-after (notes.Called B note) = ap (crowd _) (at-b (after.after_note note))
   crowd-after (notes.Out A note) = ap (crowd _) (at-a (after.after_note note))
@@ -200,26 +200,26 @@ numbers w = (w.number_a, w.number_b)
 abbrev named : ℕ × ℕ → List Note → List ManyNote
 named p ns = map (by_numbers p.0 p.1) ns
 
-differ-after : (note : Note) (w : Hosts) → w.number_a ≢ w.number_b → (after_note note w).number_a ≢ (after_note note w).number_b
+differ-after : (note : Note) (w : Hosts) → w.number_a ≢ w.number_b → (hosts_after_note note w).number_a ≢ (hosts_after_note note w).number_b
 differ-after note w differ e = differ (sym (ap (λ (x : Hosts). x.number_a) (began_noted note w)) ∙ e ∙ ap (λ (x : Hosts). x.number_b) (began_noted note w))
 
-numbers-stay : (note : Note) (w : Hosts) (p : ℕ × ℕ) → numbers w ≡ p → numbers (after_note note w) ≡ p
+numbers-stay : (note : Note) (w : Hosts) (p : ℕ × ℕ) → numbers w ≡ p → numbers (hosts_after_note note w) ≡ p
 numbers-stay note w p e = ap numbers (began_noted note w) ∙ e
 
 run-of : (ns : List Note) (w : Hosts) (p : ℕ × ℕ) → w.number_a ≢ w.number_b → numbers w ≡ p → worlds.IsRun ns w → IsManyRun (named p ns) (crowd_of w)
 run-of [] w p differ e r = tt
 run-of (note ∷ rest) w p differ e r =
     let said : IsManySaid (by_numbers w.number_a w.number_b note) (crowd_of w) = (event_by_numbers w.number_a w.number_b r.0.0, of-two w differ r.0.0 note r.0.1) in
-    let next : crowd_of (after_note note w) ≡ after_many (by_numbers p.0 p.1 note) (crowd_of w) = crowd-after w differ note ∙ ap (λ (q : ℕ × ℕ). after_many (by_numbers q.0 q.1 note) (crowd_of w)) e in (
+    let next : crowd_of (hosts_after_note note w) ≡ after_many (by_numbers p.0 p.1 note) (crowd_of w) = crowd-after w differ note ∙ ap (λ (q : ℕ × ℕ). after_many (by_numbers q.0 q.1 note) (crowd_of w)) e in (
       subst (λ (q : ℕ × ℕ). IsManySaid (by_numbers q.0 q.1 note) (crowd_of w)) e said,
-      subst (IsManyRun (named p rest)) next (run-of rest (after_note note w) p (differ-after note w differ) (numbers-stay note w p e) r.1),
+      subst (IsManyRun (named p rest)) next (run-of rest (hosts_after_note note w) p (differ-after note w differ) (numbers-stay note w p e) r.1),
     )
 
-after-of : (ns : List Note) (w : Hosts) (p : ℕ × ℕ) → w.number_a ≢ w.number_b → numbers w ≡ p → crowd_of (after_notes ns w) ≡ after_many_notes (named p ns) (crowd_of w)
+after-of : (ns : List Note) (w : Hosts) (p : ℕ × ℕ) → w.number_a ≢ w.number_b → numbers w ≡ p → crowd_of (hosts_after_notes ns w) ≡ after_many_notes (named p ns) (crowd_of w)
 after-of [] w p differ e = refl
 after-of (note ∷ rest) w p differ e =
-    let next : crowd_of (after_note note w) ≡ after_many (by_numbers p.0 p.1 note) (crowd_of w) = crowd-after w differ note ∙ ap (λ (q : ℕ × ℕ). after_many (by_numbers q.0 q.1 note) (crowd_of w)) e in
-    after-of rest (after_note note w) p (differ-after note w differ) (numbers-stay note w p e) ∙ ap (after_many_notes (named p rest)) next
+    let next : crowd_of (hosts_after_note note w) ≡ after_many (by_numbers p.0 p.1 note) (crowd_of w) = crowd-after w differ note ∙ ap (λ (q : ℕ × ℕ). after_many (by_numbers q.0 q.1 note) (crowd_of w)) e in
+    after-of rest (hosts_after_note note w) p (differ-after note w differ) (numbers-stay note w p e) ∙ ap (after_many_notes (named p rest)) next
 
 -- The beginning.
 
@@ -248,7 +248,7 @@ module _ (a b : ℕ) (differ : a ≢ b) where
 
 pub two-by-numbers : (ns : List Note) (w : Hosts) → worlds.IsTranscript ns w → IsManyTranscript (map (by_numbers w.number_a w.number_b) ns) (crowd_of w)
 two-by-numbers ns w t =
-    let new : crowd_of (worlds.began w) ≡ began (crowd_of w) = crowd-new w.number_a w.number_b t.differ in
+    let new : crowd_of (worlds.began w) ≡ crowd_began (crowd_of w) = crowd-new w.number_a w.number_b t.differ in
     record {
       hosts = two-hosts w.number_a w.number_b t.differ;
       fits = two-fit w.number_a w.number_b t.differ t.fits_a t.fits_b;

@@ -16,7 +16,7 @@ pub noted-there : (k j : ℕ) (n : HostNote) (m : Crowd) → is_there j (host_no
 noted-there k j n m = ap (is_one_of j) (numbers-stay m.hosts k (after_note n))
 
 -- what a host has for a number that its note does not name stays
-pub untouched : (k j number : ℕ) (n : HostNote) (m : Crowd) (ns : List ℕ) → is_there k m ≡ true → Holds ns (host_at k m) → runs.IsSaid n (host_at k m) → (k ≡ j → names number n ≡ false)
+pub untouched : (k j number : ℕ) (n : HostNote) (m : Crowd) (ns : List ℕ) → is_there k m ≡ true → Holds ns (host_at k m) → runs.IsHostSaid n (host_at k m) → (k ≡ j → names number n ≡ false)
     → state_of (host_at j (host_notes k n m)) number ≡ state_of (host_at j m) number
 untouched k j number n m ns e holds said apart = go (k == j) refl
   where

@@ -8,7 +8,7 @@ use Rattle.ncp_subnet.specs.Subnet.{Subnet, with_transit, new_subnet}
 use Rattle.ncp_host.specs.Host.{Host, is_one_of, are_distinct, new_host}
 use Rattle.ncp_transcript.specs.declared.note.HostNote.{HostNote}
 use Rattle.ncp_transcript.specs.After as transcripts
-use Rattle.ncp_transcript_two.specs.Between.{Hosts, after_out}
+use Rattle.ncp_transcript_two.specs.Between.{Hosts, subnet_after_out}
 use Rattle.ncp_transcript_many.specs.declared.limits.TheConstants.{MAX_HOSTS}
 use Rattle.ncp_transcript_many.specs.declared.many_note.ManyNote.{ManyNote}
 use Rattle.ncp_transcript_many.specs.declared.many_note.ManyNote.TheVariants as many
@@ -64,7 +64,7 @@ put_transit from to link transit m = record m { subnet = with_transit m.subnet f
 -- after a note
 abbrev pub after_many : ManyNote → Crowd → Crowd
 after_many (many.Called host note) m = host_notes host note m
-after_many (many.Out host note) m = record (host_notes host note m) { subnet = after_out host note m.subnet }
+after_many (many.Out host note) m = record (host_notes host note m) { subnet = subnet_after_out host note m.subnet }
 after_many (many.Came from to link note) m = host_notes to note (put_transit from to link Delivered m)
 after_many (many.Lost from to link) m = put_transit from to link Lost m
 after_many (many.FoundDead from to link) m = put_transit from to link Dead m

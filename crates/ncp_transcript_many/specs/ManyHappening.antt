@@ -53,13 +53,13 @@ abbrev pub is_give : Call → Bool
 is_give (calls.Give peer pair text) = true
 is_give call = false
 
-abbrev pub gives : ManyEvent → Bool
-gives (events.Call host call) = is_give call
-gives (events.Out host) = false
-gives (events.Deliver from to link) = false
-gives (events.Lose from to link) = false
-gives (events.Dead from to link) = false
-gives (events.Answer from to link) = false
+abbrev pub is_giving : ManyEvent → Bool
+is_giving (events.Call host call) = is_give call
+is_giving (events.Out host) = false
+is_giving (events.Deliver from to link) = false
+is_giving (events.Lose from to link) = false
+is_giving (events.Dead from to link) = false
+is_giving (events.Answer from to link) = false
 
 -- An event and a note of two hosts, with the numbers of side A and of side B in place of the sides.
 

@@ -16,16 +16,16 @@ IsManyRun [] m = Unit {0}
 IsManyRun (note ∷ rest) m = IsManySaid note m × IsManyRun rest (after_many note m)
 
 -- the hosts and the subnet as they were when they began
-abbrev pub began : Crowd → Crowd
-began m = new_crowd (numbers_in m)
+abbrev pub crowd_began : Crowd → Crowd
+crowd_began m = new_crowd (numbers_in m)
 
 -- a transcript: the hosts have numbers that have a place in a leader; the notes are a run from the beginning,
 -- and have led to the hosts and the subnet as they are now
 pub record IsManyTranscript (notes : List ManyNote) (now : Crowd) : Type 0 where
   pub hosts : are_hosts (numbers_in now) ≡ true
   pub fits : (n : ℕ) → is_one_of n (numbers_in now) ≡ true → n < 256
-  pub run : IsManyRun notes (began now)
-  pub state : now ≡ after_many_notes notes (began now)
+  pub run : IsManyRun notes (crowd_began now)
+  pub state : now ≡ after_many_notes notes (crowd_began now)
 
 -- the notes of events, one for each, in order
 abbrev pub AreManyNotes : List ManyEvent → List ManyNote → Crowd → Type 0

@@ -6,7 +6,7 @@ use Rattle.ncp_transcript_two.specs.Seen.{seen, as_rules, told_of, side_of}
 use Rattle.ncp_proof_promises.specs.EachNote.{OfTold}
 use Rattle.ncp_transcript_many.specs.declared.many_note.ManyNote.{ManyNote}
 use Rattle.ncp_transcript_many.specs.Crowd.{Crowd, is_there, between, after_many}
-use Rattle.ncp_transcript_many.specs.ManyTranscript.{began}
+use Rattle.ncp_transcript_many.specs.ManyTranscript.{crowd_began}
 use Rattle.ncp_transcript_many.specs.Pairs.{note_between}
 
 -- a note of the two, which is the first of at most one; any other changes nothing of what is seen
@@ -22,4 +22,4 @@ OfEachNoteOfTwo P a b (note ∷ rest) m =
 
 -- of each two hosts, from the beginning
 abbrev pub ForEachNoteOfTwo : (Told → World → World → Type 0) → List ManyNote → Crowd → Type 0
-ForEachNoteOfTwo P ns m = (a b : ℕ) → is_there a m ≡ true → is_there b m ≡ true → a ≢ b → OfEachNoteOfTwo P a b ns (began m)
+ForEachNoteOfTwo P ns m = (a b : ℕ) → is_there a m ≡ true → is_there b m ≡ true → a ≢ b → OfEachNoteOfTwo P a b ns (crowd_began m)

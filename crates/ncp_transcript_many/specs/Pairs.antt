@@ -2,13 +2,13 @@
 use Rattle.std.specs.Prelude.{◌≡◌, ◌≢◌, ℕ, ◌==◌, true, ◌&&◌, if◌then◌else◌, List, [], ◌∷◌, ◌++◌, Option, None, Some}
 use Rattle.ncp_transcript.specs.declared.note.HostNote.{HostNote}
 use Rattle.ncp_transcript.specs.Runs as runs
-use Rattle.ncp_proof_runs.specs.Peers.{peer_of}
+use Rattle.ncp_proof_runs.specs.Peers.{peer_of_note}
 use Rattle.ncp_transcript_two.specs.declared.side.Side.{Side}
 use Rattle.ncp_transcript_two.specs.declared.side.Side.TheVariants.{A, B}
 use Rattle.ncp_transcript_two.specs.declared.note.Move.TheVariants as moves
 use Rattle.ncp_transcript_two.specs.declared.note.Note.{Note}
 use Rattle.ncp_transcript_two.specs.declared.note.Note.TheVariants as notes
-use Rattle.ncp_transcript_two.specs.Between.{Hosts, new_hosts, after_notes}
+use Rattle.ncp_transcript_two.specs.Between.{Hosts, new_hosts, hosts_after_notes}
 use Rattle.ncp_transcript_two.specs.Seen.{seen}
 use Rattle.ncp_transcript_many.specs.declared.many_event.ManyEvent.{ManyEvent}
 use Rattle.ncp_transcript_many.specs.declared.many_event.ManyEvent.TheVariants as events
@@ -32,8 +32,8 @@ ways_of (events.Dead from to link) = Some (from, to)
 ways_of (events.Answer from to link) = Some (from, to)
 
 abbrev pub two_of : ManyNote → Option (ℕ × ℕ)
-two_of (many.Called host note) = with_peer host (peer_of note)
-two_of (many.Out host note) = with_peer host (peer_of note)
+two_of (many.Called host note) = with_peer host (peer_of_note note)
+two_of (many.Out host note) = with_peer host (peer_of_note note)
 two_of (many.Came from to link note) = Some (from, to)
 two_of (many.Lost from to link) = Some (from, to)
 two_of (many.FoundDead from to link) = Some (from, to)
@@ -78,7 +78,7 @@ notes_between a b (note ∷ rest) = note_between a b note ++ notes_between a b r
 
 -- the world of two that these notes leave
 abbrev pub hosts_between : ℕ → ℕ → List ManyNote → Hosts
-hosts_between a b ns = after_notes (notes_between a b ns) (new_hosts a b)
+hosts_between a b ns = hosts_after_notes (notes_between a b ns) (new_hosts a b)
 
 -- it holds of the notes of each two hosts, and of the world of two that they leave
 abbrev pub ForEachPair : (List Note → Hosts → Type 0) → List ManyNote → Crowd → Type 0
@@ -110,4 +110,4 @@ notes_at_host number (note ∷ rest) = note_at_host number note ++ notes_at_host
 
 -- the notes of each host are a run of it, as if it were alone
 abbrev pub EachOfManyByItself : List ManyNote → Crowd → Type 0
-EachOfManyByItself ns m = (host : ℕ) → is_there host m ≡ true → runs.IsTranscript (notes_at_host host ns) (host_at host m)
+EachOfManyByItself ns m = (host : ℕ) → is_there host m ≡ true → runs.IsHostTranscript (notes_at_host host ns) (host_at host m)

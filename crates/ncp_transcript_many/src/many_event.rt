@@ -1,6 +1,6 @@
 //! `ManyEvent`.
 ghost use Rattle.std.specs.Prelude.{◌≡◌, true, IfOk, OnErr};
-ghost use Rattle.ncp_transcript_many.specs.ManyHappening.{is_give, gives};
+ghost use Rattle.ncp_transcript_many.specs.ManyHappening.{is_give, is_giving};
 
 use ncp_transcript::{Call, Message};
 use std::alloc::{AllocError, Global};
@@ -102,7 +102,7 @@ impl ManyEvent {
     /// A copy. That of a call's text takes as many bytes of memory as the text has; no other takes any.
     pub fn copied(&self, alloc: Global) -> Result<ManyEvent, AllocError>
         ensures event { IfOk result (λ event. event ≡ self.now) }
-        ensures memory { OnErr result (gives self.now ≡ true) }
+        ensures memory { OnErr result (is_giving self.now ≡ true) }
     {
         Ok(match *self {
             ManyEvent::Call { host, ref call } => ManyEvent::Call {

@@ -7,14 +7,14 @@ ghost use Rattle.ncp_transcript.specs.declared.note.HostNote.TheVariants as of_h
 ghost use Rattle.ncp_transcript.specs.After.{after_notes as after_host_notes};
 ghost use Rattle.ncp_proof_runs.specs.Peers.{FromBeginning};
 ghost use Rattle.ncp_transcript_two.specs.declared.note.Note.{Note};
-ghost use Rattle.ncp_transcript_two.specs.Between.{Hosts, after_note};
+ghost use Rattle.ncp_transcript_two.specs.Between.{Hosts, hosts_after_note};
 ghost use Rattle.ncp_transcript_two.specs.Transcript as worlds;
 ghost use Rattle.ncp_transcript_many.specs.declared.many_event.ManyEvent.{ManyEvent as Event};
 ghost use Rattle.ncp_transcript_many.specs.declared.many_note.ManyNote.{ManyNote as Noted};
 ghost use Rattle.ncp_transcript_many.specs.declared.many_note.ManyNote.TheVariants as many;
 ghost use Rattle.ncp_transcript_many.specs.Crowd.{Crowd, numbers_in, are_hosts, others, new_crowd, is_there, host_at, between, crowd_of, after_many, after_many_notes};
 ghost use Rattle.ncp_transcript_many.specs.ManyHappening.{are_there, by_numbers};
-ghost use Rattle.ncp_transcript_many.specs.ManyTranscript.{IsManyRun, AreManyNotes, began, IsManyTranscript};
+ghost use Rattle.ncp_transcript_many.specs.ManyTranscript.{IsManyRun, AreManyNotes, crowd_began, IsManyTranscript};
 ghost use Rattle.ncp_transcript_many.specs.OfCrowds.{OfEachHost, NoCrowdNotes};
 ghost use Rattle.ncp_transcript_many.specs.ManyVain.{CannotHappen};
 ghost use Rattle.ncp_transcript_many.specs.Pairs.{note_between, notes_at_host, EachOfManyByItself};
@@ -29,7 +29,7 @@ pub fn every_list_of_events_is_a_run_of_many()
 
 /// A note of two hosts leaves them, and the subnet, as it leaves a world of two.
 pub fn two_of_many_are_a_world_of_two()
-    ensures { (a b : ℕ) (m : Crowd) (note : Note) → a ≢ b → is_there a m ≡ true → is_there b m ≡ true → between a b (after_many (by_numbers a b note) m) ≡ after_note note (between a b m) }
+    ensures { (a b : ℕ) (m : Crowd) (note : Note) → a ≢ b → is_there a m ≡ true → is_there b m ≡ true → between a b (after_many (by_numbers a b note) m) ≡ hosts_after_note note (between a b m) }
 {}
 
 /// A world of two is the case of two: its transcript, with the numbers of its hosts in place of their sides, is
@@ -54,14 +54,14 @@ pub fn each_host_of_many_is_from_its_beginning()
 /// The beginning of a transcript of many is a transcript, of the hosts and the subnet that it leaves: so every
 /// law of transcripts holds after each note of one.
 pub fn beginnings_of_many_are_transcripts()
-    ensures { (before after : List Noted) (m : Crowd) → IsManyTranscript (before ++ after) m → IsManyTranscript before (after_many_notes before (began m)) }
+    ensures { (before after : List Noted) (m : Crowd) → IsManyTranscript (before ++ after) m → IsManyTranscript before (after_many_notes before (crowd_began m)) }
 {}
 
 /// Each of many hosts is asked in vain for its next message only where no link to any other is ready; and what
 /// goes out is the message on the first link that is.
 pub fn what_goes_out_is_first_of_each_of_many()
-    ensures nothing { (before after : List Noted) (m : Crowd) (host : ℕ) → IsManyTranscript (before ++ many.Out host of_host.Nothing ∷ after) m → IsNext None (host_at host (after_many_notes before (began m))).peers }
-    ensures out { (before after : List Noted) (m : Crowd) (host : ℕ) (message : List Bool) → IsManyTranscript (before ++ many.Out host (of_host.Out message) ∷ after) m → IsNext (Some message) (host_at host (after_many_notes before (began m))).peers }
+    ensures nothing { (before after : List Noted) (m : Crowd) (host : ℕ) → IsManyTranscript (before ++ many.Out host of_host.Nothing ∷ after) m → IsNext None (host_at host (after_many_notes before (crowd_began m))).peers }
+    ensures out { (before after : List Noted) (m : Crowd) (host : ℕ) (message : List Bool) → IsManyTranscript (before ++ many.Out host (of_host.Out message) ∷ after) m → IsNext (Some message) (host_at host (after_many_notes before (crowd_began m))).peers }
 {}
 
 /// A note is one of at most one pair of hosts, and at most one note of that pair.
@@ -74,8 +74,8 @@ pub fn a_note_is_of_one_pair()
 /// the subnet has none to which this may happen; of a host that was asked for its next message, where it has
 /// none to go out; of a call, or of what came to a host, never.
 pub fn nothing_of_many_is_noted_only_where_nothing_can_be()
-    ensures nothing { (before after : List Noted) (m : Crowd) (event : Event) → IsManyTranscript (before ++ many.Nothing event ∷ after) m → (are_there event m ≡ false) ⊎ CannotHappen event (after_many_notes before (began m)) }
-    ensures out { (before after : List Noted) (m : Crowd) (host : ℕ) → IsManyTranscript (before ++ many.Out host of_host.Nothing ∷ after) m → next_output (host_at host (after_many_notes before (began m))) ≡ None }
+    ensures nothing { (before after : List Noted) (m : Crowd) (event : Event) → IsManyTranscript (before ++ many.Nothing event ∷ after) m → (are_there event m ≡ false) ⊎ CannotHappen event (after_many_notes before (crowd_began m)) }
+    ensures out { (before after : List Noted) (m : Crowd) (host : ℕ) → IsManyTranscript (before ++ many.Out host of_host.Nothing ∷ after) m → next_output (host_at host (after_many_notes before (crowd_began m))) ≡ None }
     ensures called { (host : ℕ) → NoCrowdNotes (many.Called host of_host.Nothing) }
     ensures came { (from to link : ℕ) → NoCrowdNotes (many.Came from to link of_host.Nothing) }
     ensures answered { (from to link : ℕ) → NoCrowdNotes (many.Answered from to link of_host.Nothing) }

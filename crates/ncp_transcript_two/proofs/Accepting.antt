@@ -12,7 +12,7 @@ use Rattle.ncp_subnet.specs.Transit.{is_free}
 use Rattle.ncp_subnet.specs.Messages.{IsRegular, host_in, link_in}
 use Rattle.ncp_subnet.specs.Ways.{OnLink}
 use Rattle.ncp_subnet.specs.Subnet.{Subnet, has_way, transit_at, with_transit, refusals, Refuses}
-use Rattle.ncp_transcript_two.specs.Between.{is_regular, is_taken, taken}
+use Rattle.ncp_transcript_two.specs.Between.{is_regular, is_taken, accepted_from}
 
 le_of : (a b : ℕ) → nat_le a b ≡ true → a ≤ b
 le_of a b h = grind (arith, nat_tests)
@@ -64,19 +64,19 @@ a_refusal s from m h none = by_regular (is_regular m) refl
     by_regular true r = by_way (has_way s from (host_in m)) refl r
     by_regular false r = none.0 (not_regular m r)
 
-pub taken_yes : (s : Subnet) (from : ℕ) (m : List Bool) → is_taken s from m ≡ true → taken from m s ≡ with_transit s from (host_in m) (link_in m) (Accepted m)
-unfolding taken
+pub taken_yes : (s : Subnet) (from : ℕ) (m : List Bool) → is_taken s from m ≡ true → accepted_from from m s ≡ with_transit s from (host_in m) (link_in m) (Accepted m)
+unfolding accepted_from
 taken_yes s from m t = rw t refl
 
-pub taken_no : (s : Subnet) (from : ℕ) (m : List Bool) → is_taken s from m ≡ false → taken from m s ≡ s
-unfolding taken
+pub taken_no : (s : Subnet) (from : ℕ) (m : List Bool) → is_taken s from m ≡ false → accepted_from from m s ≡ s
+unfolding accepted_from
 taken_no s from m t = rw t refl
 
 -- what the subnet answers to a message, and how it is then, is what the rules say
-pub accepting : (s now : Subnet) (from : ℕ) (m : List Bool) (r : Result (Unit {0}) SubnetFault) → (IsOk r ↔ NoneHolds (Refuses s from m) refusals) → OnOk r (now ≡ with_transit s from (host_in m) (link_in m) (Accepted m)) → OnErr r (now ≡ s) → now ≡ taken from m s
+pub accepting : (s now : Subnet) (from : ℕ) (m : List Bool) (r : Result (Unit {0}) SubnetFault) → (IsOk r ↔ NoneHolds (Refuses s from m) refusals) → OnOk r (now ≡ with_transit s from (host_in m) (link_in m) (Accepted m)) → OnErr r (now ≡ s) → now ≡ accepted_from from m s
 accepting s now from m r variant ok err = by_taken (is_taken s from m) refl r variant ok err
   where
-    by_taken : (b : Bool) → is_taken s from m ≡ b → (r : Result (Unit {0}) SubnetFault) → (IsOk r ↔ NoneHolds (Refuses s from m) refusals) → OnOk r (now ≡ with_transit s from (host_in m) (link_in m) (Accepted m)) → OnErr r (now ≡ s) → now ≡ taken from m s
+    by_taken : (b : Bool) → is_taken s from m ≡ b → (r : Result (Unit {0}) SubnetFault) → (IsOk r ↔ NoneHolds (Refuses s from m) refusals) → OnOk r (now ≡ with_transit s from (host_in m) (link_in m) (Accepted m)) → OnErr r (now ≡ s) → now ≡ accepted_from from m s
     by_taken true t (Ok u) v ok err = ok ∙ sym (taken_yes s from m t)
     by_taken false t (Ok u) v ok err = absurd (a_refusal s from m t (v.0 refl))
     by_taken true t (Err f) v ok err = absurd (not_ok (v.1 (no_refusal s from m t)))

@@ -26,7 +26,7 @@ dies-alike on v Delivered e = e
 dies-alike on v Lost e = e
 dies-alike on v Dead e = e
 
-pub answers-alike : (on : ℕ) (v : World) (h : Holds) → v.going on ≡ h → (answers_for on h v).0.going on ≡ transit.answered h
+pub answers-alike : (on : ℕ) (v : World) (h : Holds) → v.going on ≡ h → (answers_for on h v).0.going on ≡ transit.transit_answered h
 answers-alike on v Free e = e
 answers-alike on v (Accepted m) e = e
 answers-alike on v Delivered e = set_at-same on Free v.going

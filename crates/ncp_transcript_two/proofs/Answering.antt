@@ -13,7 +13,7 @@ use Rattle.ncp_slot.proofs.Places.{slot_at-with_slot_same}
 use Rattle.ncp_host.specs.Hearing.{rfnm, incomplete, destination_dead}
 use Rattle.ncp_transcript_two.specs.Subnet.{answer_bits}
 use Rattle.ncp_slot.specs.Slots.{LinkSlots, slot_at, with_slot, is_quiet}
-use Rattle.ncp_proof_resets.specs.Delivery.{Link, answer_of}
+use Rattle.ncp_proof_resets.specs.Delivery.{Link, answer_of_transit}
 use Rattle.ncp_proof_resets.specs.Delivery as model
 use Rattle.ncp_proof_resets.specs.Resets.{This}
 use Rattle.ncp_model.specs.Peers.{Peer}
@@ -23,9 +23,9 @@ use Rattle.ncp_proof_machine.specs.Hosts as hosts
 use Rattle.ncp_host.specs.Counting.{one_more}
 use Rattle.ncp_host.specs.PeerState.{PeerState}
 use Rattle.ncp_host.specs.PeerState as states
-use Rattle.ncp_transcript_two.specs.Subnet.{Free, Delivered, Lost, Dead, Subnet, set_at}
-use Rattle.ncp_transcript_two.specs.World.{World, Answered, after_received, received}
-use Rattle.ncp_transcript_two.specs.Tie.{Nowhere, Waits, Came, Failed, Died, Kept, model_of, control_bits, text_bits, AreCommands, IsTextOn, Stands, Reached, Goes_on, Tied}
+use Rattle.ncp_transcript_two.specs.Subnet.{Free, Delivered, Lost, Dead, TransitByLink, set_at}
+use Rattle.ncp_transcript_two.specs.World.{World, Answered, state_after_received, received}
+use Rattle.ncp_transcript_two.specs.Tie.{Nowhere, Waits, Came, Failed, Died, Kept, model_of, control_bits, text_as_message, AreCommands, IsTextOn, Stands, Reached, Goes_on, Tied}
 use Rattle.ncp_transcript_two.proofs.Ties.{Follows, quiet-is}
 use Rattle.ncp_proof_machine.proofs.EndsGood.{Good}
 use Rattle.ncp_transcript_two.proofs.Reaching.{good-here}
@@ -44,7 +44,7 @@ answered-is on how m s e =
 
 -- a control message
 
-control-taken : (w : hosts.World) (v : World) → Tied w v → v.going 0 ≡ Delivered → Follows (Answered 0 Rfnm (received (answer_bits rfnm v.there 0) v.this)) w (record v { this = after_received (answer_bits rfnm v.there 0) v.this; going = set_at 0 Free v.going })
+control-taken : (w : hosts.TwoNodes) (v : World) → Tied w v → v.going 0 ≡ Delivered → Follows (Answered 0 Rfnm (received (answer_bits rfnm v.there 0) v.this)) w (record v { this = state_after_received (answer_bits rfnm v.there 0) v.this; going = set_at 0 Free v.going })
 control-taken w v t e = (
   after,
   record {
@@ -60,7 +60,7 @@ control-taken w v t e = (
   },
   refl,
   refl,
-  (This, hosts.Is_answered, (a.what, Rfnm, ap (λ (l : Link (List Command)). l.slot) a.there, ap (λ (l : Link (List Command)). answer_of l.subnet) a.there), led),
+  (This, hosts.Is_answered, (a.what, Rfnm, ap (λ (l : Link (List Command)). l.slot) a.there, ap (λ (l : Link (List Command)). answer_of_transit l.subnet) a.there), led),
 )
   where
     a : Answers (control_bits v.there) AreCommands Came w.this.control (slot_at v.this.slots 0)
@@ -69,23 +69,23 @@ control-taken w v t e = (
     sl : LinkSlots
     sl = with_slot v.this.slots 0 slots.Empty
 
-    u : Subnet
+    u : TransitByLink
     u = set_at 0 Free v.going
 
-    after : hosts.World
-    after = record w { this = hosts.settles (record w.this { control = model.idle }) }
+    after : hosts.TwoNodes
+    after = record w { this = hosts.node_settles (record w.this { control = model.idle }) }
 
-    led : hosts.at This hosts.Is_answered w ≡ after
-    led = ap (λ (l : Link (List Command)). (let x : hosts.World = record w { this = hosts.control_answered l.slot l.subnet w.this } in x)) a.there
+    led : hosts.node_at This hosts.Is_answered w ≡ after
+    led = ap (λ (l : Link (List Command)). (let x : hosts.TwoNodes = record w { this = hosts.control_answered l.slot l.subnet w.this } in x)) a.there
 
     texts : Texts v.there w.this.texts sl u
     texts = texts_changed v.there 0 w.this.texts w.this.texts v.this.slots sl v.going u
         (all_apart 0 w.this.texts) (with_slot-apart 0 slots.Empty v.this.slots) (set_at-apart 0 Free v.going) (λ f. absurd (both_ways true f refl)) t.this.texts
 
-    state : after_received (answer_bits rfnm v.there 0) v.this ≡ record v.this { slots = sl; peer = peers.settles (is_quiet sl) v.this.peer }
+    state : state_after_received (answer_bits rfnm v.there 0) v.this ≡ record v.this { slots = sl; peer = peers.settles (is_quiet sl) v.this.peer }
     state = (answer_comes-is v.there 0 v.this t.this.number (omega arith)).0 ∙ answered-is 0 Rfnm (control_bits v.there a.what) v.this a.written
 
-control-refused : (w : hosts.World) (v : World) → Tied w v → v.going 0 ≡ Lost → Follows (Answered 0 Incomplete (received (answer_bits incomplete v.there 0) v.this)) w (record v { this = after_received (answer_bits incomplete v.there 0) v.this; going = set_at 0 Free v.going })
+control-refused : (w : hosts.TwoNodes) (v : World) → Tied w v → v.going 0 ≡ Lost → Follows (Answered 0 Incomplete (received (answer_bits incomplete v.there 0) v.this)) w (record v { this = state_after_received (answer_bits incomplete v.there 0) v.this; going = set_at 0 Free v.going })
 control-refused w v t e = (
   after,
   record {
@@ -102,7 +102,7 @@ control-refused w v t e = (
   },
   refl,
   refl,
-  (This, hosts.Is_answered, (a.what, Incomplete, ap (λ (l : Link (List Command)). l.slot) a.there, ap (λ (l : Link (List Command)). answer_of l.subnet) a.there), led),
+  (This, hosts.Is_answered, (a.what, Incomplete, ap (λ (l : Link (List Command)). l.slot) a.there, ap (λ (l : Link (List Command)). answer_of_transit l.subnet) a.there), led),
 )
   where
     a : Answers (control_bits v.there) AreCommands Failed w.this.control (slot_at v.this.slots 0)
@@ -111,30 +111,30 @@ control-refused w v t e = (
     sl : LinkSlots
     sl = with_slot v.this.slots 0 (slots.Ready (control_bits v.there a.what))
 
-    u : Subnet
+    u : TransitByLink
     u = set_at 0 Free v.going
 
-    after : hosts.World
+    after : hosts.TwoNodes
     after = record w { this = record w.this { control = model_of (Waits a.what) } }
 
-    led : hosts.at This hosts.Is_answered w ≡ after
-    led = ap (λ (l : Link (List Command)). (let x : hosts.World = record w { this = hosts.control_answered l.slot l.subnet w.this } in x)) a.there
+    led : hosts.node_at This hosts.Is_answered w ≡ after
+    led = ap (λ (l : Link (List Command)). (let x : hosts.TwoNodes = record w { this = hosts.control_answered l.slot l.subnet w.this } in x)) a.there
 
-    state : after_received (answer_bits incomplete v.there 0) v.this ≡ record v.this { slots = sl; peer = v.this.peer }
+    state : state_after_received (answer_bits incomplete v.there 0) v.this ≡ record v.this { slots = sl; peer = v.this.peer }
     state = (answer_comes-is v.there 0 v.this t.this.number (omega arith)).1 ∙ answered-is 0 Incomplete (control_bits v.there a.what) v.this a.written
 
 -- a text
 
-text-taken : (on : ℕ) (w : hosts.World) (v : World) → (on == 0) ≡ false → Tied w v → v.going on ≡ Delivered → Follows (Answered on Rfnm (received (answer_bits rfnm v.there on) v.this)) w (record v { this = after_received (answer_bits rfnm v.there on) v.this; going = set_at on Free v.going })
+text-taken : (on : ℕ) (w : hosts.TwoNodes) (v : World) → (on == 0) ≡ false → Tied w v → v.going on ≡ Delivered → Follows (Answered on Rfnm (received (answer_bits rfnm v.there on) v.this)) w (record v { this = state_after_received (answer_bits rfnm v.there on) v.this; going = set_at on Free v.going })
 text-taken on w v z t e = (
   after,
   record {
     reached = subst Reached led (Goes_on t.reached This (hosts.Text_is_answered on));
     this = subst (λ (s : PeerState). Stands v.there after.this s u) (sym state) (record {
       number = t.this.number;
-      peer = ap (λ (b : Bool). peers.settles b (peers.frees on v.this.peer)) (quiet-is v.there (hosts.frees on w.this).texts sl u texts)
-          ∙ ap (λ (p : Peer). peers.settles (hosts.quiet (hosts.frees on w.this)) (peers.frees on p)) t.this.peer
-          ∙ ap (peers.settles (hosts.quiet (hosts.frees on w.this))) (sym (frees_agree on w.this));
+      peer = ap (λ (b : Bool). peers.settles b (peers.frees on v.this.peer)) (quiet-is v.there (hosts.node_frees on w.this).texts sl u texts)
+          ∙ ap (λ (p : Peer). peers.settles (hosts.quiet (hosts.node_frees on w.this)) (peers.frees on p)) t.this.peer
+          ∙ ap (peers.settles (hosts.quiet (hosts.node_frees on w.this))) (sym (frees_agree on w.this));
       control = carried (control_bits v.there) AreCommands w.this.control w.this.control (slot_at v.this.slots 0) (slot_at sl 0) (v.going 0) (u 0) refl (with_slot-apart on slots.Empty v.this.slots 0 (zero_apart on z)) (set_at-apart on Free v.going 0 (zero_apart on z)) t.this.control;
       texts = texts;
       well = settles-well (is_quiet sl) (peers.frees on v.this.peer) (frees-well on v.this.peer (subst (λ (p : Peer). Good p.ends) (sym t.this.peer) (good-here w t.reached)) t.this.well);
@@ -143,34 +143,34 @@ text-taken on w v z t e = (
   },
   refl,
   refl,
-  (This, hosts.Text_is_answered on, ((z, a.fits.0), a.what, Rfnm, ap (λ (l : Link TextOut). l.slot) a.there, ap (λ (l : Link TextOut). answer_of l.subnet) a.there), led),
+  (This, hosts.Text_is_answered on, ((z, a.fits.0), a.what, Rfnm, ap (λ (l : Link TextOut). l.slot) a.there, ap (λ (l : Link TextOut). answer_of_transit l.subnet) a.there), led),
 )
   where
-    a : Answers (text_bits v.there on) (IsTextOn on) Came (w.this.texts on) (slot_at v.this.slots on)
-    a = taken (text_bits v.there on) (IsTextOn on) (w.this.texts on) (slot_at v.this.slots on) (v.going on) (t.this.texts on z) e
+    a : Answers (text_as_message v.there on) (IsTextOn on) Came (w.this.texts on) (slot_at v.this.slots on)
+    a = taken (text_as_message v.there on) (IsTextOn on) (w.this.texts on) (slot_at v.this.slots on) (v.going on) (t.this.texts on z) e
 
     sl : LinkSlots
     sl = with_slot v.this.slots on slots.Empty
 
-    u : Subnet
+    u : TransitByLink
     u = set_at on Free v.going
 
-    after : hosts.World
-    after = record w { this = hosts.settles (hosts.frees on w.this) }
+    after : hosts.TwoNodes
+    after = record w { this = hosts.node_settles (hosts.node_frees on w.this) }
 
-    led : hosts.at This (hosts.Text_is_answered on) w ≡ after
-    led = ap (λ (l : Link TextOut). (let x : hosts.World = record w { this = hosts.text_answered on l.slot l.subnet w.this } in x)) a.there
+    led : hosts.node_at This (hosts.Text_is_answered on) w ≡ after
+    led = ap (λ (l : Link TextOut). (let x : hosts.TwoNodes = record w { this = hosts.text_answered on l.slot l.subnet w.this } in x)) a.there
 
     texts : Texts v.there (set_link on model.idle w.this.texts) sl u
     texts = texts_changed v.there on w.this.texts (set_link on model.idle w.this.texts) v.this.slots sl v.going u
         (set_link-apart on model.idle w.this.texts) (with_slot-apart on slots.Empty v.this.slots) (set_at-apart on Free v.going)
         (λ _. record { place = Nowhere; model = set_link-same on model.idle w.this.texts; in_slot = slot_at-with_slot_same v.this.slots on slots.Empty; in_subnet = set_at-same on Free v.going; fits = tt }) t.this.texts
 
-    state : after_received (answer_bits rfnm v.there on) v.this ≡ record v.this { slots = sl; peer = peers.settles (is_quiet sl) (peers.frees on v.this.peer) }
-    state = (answer_comes-is v.there on v.this t.this.number (small on a.fits.0)).0 ∙ answered-is on Rfnm (text_bits v.there on a.what) v.this a.written
+    state : state_after_received (answer_bits rfnm v.there on) v.this ≡ record v.this { slots = sl; peer = peers.settles (is_quiet sl) (peers.frees on v.this.peer) }
+    state = (answer_comes-is v.there on v.this t.this.number (small on a.fits.0)).0 ∙ answered-is on Rfnm (text_as_message v.there on a.what) v.this a.written
         ∙ ap (λ (b : Bool). (let r : PeerState = record v.this { slots = sl; peer = peers.settles (is_quiet sl) (if b then v.this.peer else peers.frees on v.this.peer) } in r)) z
 
-text-refused : (on : ℕ) (w : hosts.World) (v : World) → (on == 0) ≡ false → Tied w v → v.going on ≡ Lost → Follows (Answered on Incomplete (received (answer_bits incomplete v.there on) v.this)) w (record v { this = after_received (answer_bits incomplete v.there on) v.this; going = set_at on Free v.going })
+text-refused : (on : ℕ) (w : hosts.TwoNodes) (v : World) → (on == 0) ≡ false → Tied w v → v.going on ≡ Lost → Follows (Answered on Incomplete (received (answer_bits incomplete v.there on) v.this)) w (record v { this = state_after_received (answer_bits incomplete v.there on) v.this; going = set_at on Free v.going })
 text-refused on w v z t e = (
   after,
   record {
@@ -188,31 +188,31 @@ text-refused on w v z t e = (
   },
   refl,
   refl,
-  (This, hosts.Text_is_answered on, ((z, a.fits.0), a.what, Incomplete, ap (λ (l : Link TextOut). l.slot) a.there, ap (λ (l : Link TextOut). answer_of l.subnet) a.there), led),
+  (This, hosts.Text_is_answered on, ((z, a.fits.0), a.what, Incomplete, ap (λ (l : Link TextOut). l.slot) a.there, ap (λ (l : Link TextOut). answer_of_transit l.subnet) a.there), led),
 )
   where
-    a : Answers (text_bits v.there on) (IsTextOn on) Failed (w.this.texts on) (slot_at v.this.slots on)
-    a = refused (text_bits v.there on) (IsTextOn on) (w.this.texts on) (slot_at v.this.slots on) (v.going on) (t.this.texts on z) e
+    a : Answers (text_as_message v.there on) (IsTextOn on) Failed (w.this.texts on) (slot_at v.this.slots on)
+    a = refused (text_as_message v.there on) (IsTextOn on) (w.this.texts on) (slot_at v.this.slots on) (v.going on) (t.this.texts on z) e
 
     b : List Bool
-    b = text_bits v.there on a.what
+    b = text_as_message v.there on a.what
 
     sl : LinkSlots
     sl = with_slot v.this.slots on (slots.Ready b)
 
-    u : Subnet
+    u : TransitByLink
     u = set_at on Free v.going
 
-    after : hosts.World
+    after : hosts.TwoNodes
     after = record w { this = record w.this { texts = set_link on (model_of (Waits a.what)) w.this.texts } }
 
-    led : hosts.at This (hosts.Text_is_answered on) w ≡ after
-    led = ap (λ (l : Link TextOut). (let x : hosts.World = record w { this = hosts.text_answered on l.slot l.subnet w.this } in x)) a.there
+    led : hosts.node_at This (hosts.Text_is_answered on) w ≡ after
+    led = ap (λ (l : Link TextOut). (let x : hosts.TwoNodes = record w { this = hosts.text_answered on l.slot l.subnet w.this } in x)) a.there
 
-    state : after_received (answer_bits incomplete v.there on) v.this ≡ record v.this { slots = sl; peer = v.this.peer }
+    state : state_after_received (answer_bits incomplete v.there on) v.this ≡ record v.this { slots = sl; peer = v.this.peer }
     state = (answer_comes-is v.there on v.this t.this.number (small on a.fits.0)).1 ∙ answered-is on Incomplete b v.this a.written
 
-control-dead : (w : hosts.World) (v : World) → Tied w v → v.going 0 ≡ Dead → Follows (Answered 0 answer_kinds.Dead (received (answer_bits destination_dead v.there 0) v.this)) w (record v { this = after_received (answer_bits destination_dead v.there 0) v.this; going = set_at 0 Free v.going })
+control-dead : (w : hosts.TwoNodes) (v : World) → Tied w v → v.going 0 ≡ Dead → Follows (Answered 0 answer_kinds.Dead (received (answer_bits destination_dead v.there 0) v.this)) w (record v { this = state_after_received (answer_bits destination_dead v.there 0) v.this; going = set_at 0 Free v.going })
 control-dead w v t e = (
   after,
   record {
@@ -229,7 +229,7 @@ control-dead w v t e = (
   },
   refl,
   refl,
-  (This, hosts.Is_answered, (a.what, answer_kinds.Dead, ap (λ (l : Link (List Command)). l.slot) a.there, ap (λ (l : Link (List Command)). answer_of l.subnet) a.there), led),
+  (This, hosts.Is_answered, (a.what, answer_kinds.Dead, ap (λ (l : Link (List Command)). l.slot) a.there, ap (λ (l : Link (List Command)). answer_of_transit l.subnet) a.there), led),
 )
   where
     a : Answers (control_bits v.there) AreCommands Died w.this.control (slot_at v.this.slots 0)
@@ -238,19 +238,19 @@ control-dead w v t e = (
     sl : LinkSlots
     sl = with_slot v.this.slots 0 (slots.Held (control_bits v.there a.what))
 
-    u : Subnet
+    u : TransitByLink
     u = set_at 0 Free v.going
 
-    after : hosts.World
+    after : hosts.TwoNodes
     after = record w { this = record w.this { control = model_of (Kept a.what) } }
 
-    led : hosts.at This hosts.Is_answered w ≡ after
-    led = ap (λ (l : Link (List Command)). (let x : hosts.World = record w { this = hosts.control_answered l.slot l.subnet w.this } in x)) a.there
+    led : hosts.node_at This hosts.Is_answered w ≡ after
+    led = ap (λ (l : Link (List Command)). (let x : hosts.TwoNodes = record w { this = hosts.control_answered l.slot l.subnet w.this } in x)) a.there
 
-    state : after_received (answer_bits destination_dead v.there 0) v.this ≡ record v.this { slots = sl; peer = v.this.peer }
+    state : state_after_received (answer_bits destination_dead v.there 0) v.this ≡ record v.this { slots = sl; peer = v.this.peer }
     state = (answer_comes-is v.there 0 v.this t.this.number (omega arith)).2 ∙ answered-is 0 answer_kinds.Dead (control_bits v.there a.what) v.this a.written
 
-text-dead : (on : ℕ) (w : hosts.World) (v : World) → (on == 0) ≡ false → Tied w v → v.going on ≡ Dead → Follows (Answered on answer_kinds.Dead (received (answer_bits destination_dead v.there on) v.this)) w (record v { this = after_received (answer_bits destination_dead v.there on) v.this; going = set_at on Free v.going })
+text-dead : (on : ℕ) (w : hosts.TwoNodes) (v : World) → (on == 0) ≡ false → Tied w v → v.going on ≡ Dead → Follows (Answered on answer_kinds.Dead (received (answer_bits destination_dead v.there on) v.this)) w (record v { this = state_after_received (answer_bits destination_dead v.there on) v.this; going = set_at on Free v.going })
 text-dead on w v z t e = (
   after,
   record {
@@ -268,49 +268,49 @@ text-dead on w v z t e = (
   },
   refl,
   refl,
-  (This, hosts.Text_is_answered on, ((z, a.fits.0), a.what, answer_kinds.Dead, ap (λ (l : Link TextOut). l.slot) a.there, ap (λ (l : Link TextOut). answer_of l.subnet) a.there), led),
+  (This, hosts.Text_is_answered on, ((z, a.fits.0), a.what, answer_kinds.Dead, ap (λ (l : Link TextOut). l.slot) a.there, ap (λ (l : Link TextOut). answer_of_transit l.subnet) a.there), led),
 )
   where
-    a : Answers (text_bits v.there on) (IsTextOn on) Died (w.this.texts on) (slot_at v.this.slots on)
-    a = found_dead (text_bits v.there on) (IsTextOn on) (w.this.texts on) (slot_at v.this.slots on) (v.going on) (t.this.texts on z) e
+    a : Answers (text_as_message v.there on) (IsTextOn on) Died (w.this.texts on) (slot_at v.this.slots on)
+    a = found_dead (text_as_message v.there on) (IsTextOn on) (w.this.texts on) (slot_at v.this.slots on) (v.going on) (t.this.texts on z) e
 
     b : List Bool
-    b = text_bits v.there on a.what
+    b = text_as_message v.there on a.what
 
     sl : LinkSlots
     sl = with_slot v.this.slots on (slots.Held b)
 
-    u : Subnet
+    u : TransitByLink
     u = set_at on Free v.going
 
-    after : hosts.World
+    after : hosts.TwoNodes
     after = record w { this = record w.this { texts = set_link on (model_of (Kept a.what)) w.this.texts } }
 
-    led : hosts.at This (hosts.Text_is_answered on) w ≡ after
-    led = ap (λ (l : Link TextOut). (let x : hosts.World = record w { this = hosts.text_answered on l.slot l.subnet w.this } in x)) a.there
+    led : hosts.node_at This (hosts.Text_is_answered on) w ≡ after
+    led = ap (λ (l : Link TextOut). (let x : hosts.TwoNodes = record w { this = hosts.text_answered on l.slot l.subnet w.this } in x)) a.there
 
-    state : after_received (answer_bits destination_dead v.there on) v.this ≡ record v.this { slots = sl; peer = v.this.peer }
+    state : state_after_received (answer_bits destination_dead v.there on) v.this ≡ record v.this { slots = sl; peer = v.this.peer }
     state = (answer_comes-is v.there on v.this t.this.number (small on a.fits.0)).2 ∙ answered-is on answer_kinds.Dead b v.this a.written
 
 -- on any link
 
-pub taken-ties : (on : ℕ) (w : hosts.World) (v : World) → Tied w v → v.going on ≡ Delivered → Follows (Answered on Rfnm (received (answer_bits rfnm v.there on) v.this)) w (record v { this = after_received (answer_bits rfnm v.there on) v.this; going = set_at on Free v.going })
+pub taken-ties : (on : ℕ) (w : hosts.TwoNodes) (v : World) → Tied w v → v.going on ≡ Delivered → Follows (Answered on Rfnm (received (answer_bits rfnm v.there on) v.this)) w (record v { this = state_after_received (answer_bits rfnm v.there on) v.this; going = set_at on Free v.going })
 taken-ties on w v t e = go (on == 0) refl
   where
-    go : (b : Bool) → (on == 0) ≡ b → Follows (Answered on Rfnm (received (answer_bits rfnm v.there on) v.this)) w (record v { this = after_received (answer_bits rfnm v.there on) v.this; going = set_at on Free v.going })
-    go true z = subst (λ (k : ℕ). v.going k ≡ Delivered → Follows (Answered k Rfnm (received (answer_bits rfnm v.there k) v.this)) w (record v { this = after_received (answer_bits rfnm v.there k) v.this; going = set_at k Free v.going })) (sym (eqb-true on 0 z)) (control-taken w v t) e
+    go : (b : Bool) → (on == 0) ≡ b → Follows (Answered on Rfnm (received (answer_bits rfnm v.there on) v.this)) w (record v { this = state_after_received (answer_bits rfnm v.there on) v.this; going = set_at on Free v.going })
+    go true z = subst (λ (k : ℕ). v.going k ≡ Delivered → Follows (Answered k Rfnm (received (answer_bits rfnm v.there k) v.this)) w (record v { this = state_after_received (answer_bits rfnm v.there k) v.this; going = set_at k Free v.going })) (sym (eqb-true on 0 z)) (control-taken w v t) e
     go false z = text-taken on w v z t e
 
-pub refused-ties : (on : ℕ) (w : hosts.World) (v : World) → Tied w v → v.going on ≡ Lost → Follows (Answered on Incomplete (received (answer_bits incomplete v.there on) v.this)) w (record v { this = after_received (answer_bits incomplete v.there on) v.this; going = set_at on Free v.going })
+pub refused-ties : (on : ℕ) (w : hosts.TwoNodes) (v : World) → Tied w v → v.going on ≡ Lost → Follows (Answered on Incomplete (received (answer_bits incomplete v.there on) v.this)) w (record v { this = state_after_received (answer_bits incomplete v.there on) v.this; going = set_at on Free v.going })
 refused-ties on w v t e = go (on == 0) refl
   where
-    go : (b : Bool) → (on == 0) ≡ b → Follows (Answered on Incomplete (received (answer_bits incomplete v.there on) v.this)) w (record v { this = after_received (answer_bits incomplete v.there on) v.this; going = set_at on Free v.going })
-    go true z = subst (λ (k : ℕ). v.going k ≡ Lost → Follows (Answered k Incomplete (received (answer_bits incomplete v.there k) v.this)) w (record v { this = after_received (answer_bits incomplete v.there k) v.this; going = set_at k Free v.going })) (sym (eqb-true on 0 z)) (control-refused w v t) e
+    go : (b : Bool) → (on == 0) ≡ b → Follows (Answered on Incomplete (received (answer_bits incomplete v.there on) v.this)) w (record v { this = state_after_received (answer_bits incomplete v.there on) v.this; going = set_at on Free v.going })
+    go true z = subst (λ (k : ℕ). v.going k ≡ Lost → Follows (Answered k Incomplete (received (answer_bits incomplete v.there k) v.this)) w (record v { this = state_after_received (answer_bits incomplete v.there k) v.this; going = set_at k Free v.going })) (sym (eqb-true on 0 z)) (control-refused w v t) e
     go false z = text-refused on w v z t e
 
-pub dead-ties : (on : ℕ) (w : hosts.World) (v : World) → Tied w v → v.going on ≡ Dead → Follows (Answered on answer_kinds.Dead (received (answer_bits destination_dead v.there on) v.this)) w (record v { this = after_received (answer_bits destination_dead v.there on) v.this; going = set_at on Free v.going })
+pub dead-ties : (on : ℕ) (w : hosts.TwoNodes) (v : World) → Tied w v → v.going on ≡ Dead → Follows (Answered on answer_kinds.Dead (received (answer_bits destination_dead v.there on) v.this)) w (record v { this = state_after_received (answer_bits destination_dead v.there on) v.this; going = set_at on Free v.going })
 dead-ties on w v t e = go (on == 0) refl
   where
-    go : (b : Bool) → (on == 0) ≡ b → Follows (Answered on answer_kinds.Dead (received (answer_bits destination_dead v.there on) v.this)) w (record v { this = after_received (answer_bits destination_dead v.there on) v.this; going = set_at on Free v.going })
-    go true z = subst (λ (k : ℕ). v.going k ≡ Dead → Follows (Answered k answer_kinds.Dead (received (answer_bits destination_dead v.there k) v.this)) w (record v { this = after_received (answer_bits destination_dead v.there k) v.this; going = set_at k Free v.going })) (sym (eqb-true on 0 z)) (control-dead w v t) e
+    go : (b : Bool) → (on == 0) ≡ b → Follows (Answered on answer_kinds.Dead (received (answer_bits destination_dead v.there on) v.this)) w (record v { this = state_after_received (answer_bits destination_dead v.there on) v.this; going = set_at on Free v.going })
+    go true z = subst (λ (k : ℕ). v.going k ≡ Dead → Follows (Answered k answer_kinds.Dead (received (answer_bits destination_dead v.there k) v.this)) w (record v { this = state_after_received (answer_bits destination_dead v.there k) v.this; going = set_at k Free v.going })) (sym (eqb-true on 0 z)) (control-dead w v t) e
     go false z = text-dead on w v z t e

@@ -7,9 +7,9 @@ use Rattle.ncp_model.specs.End.{is_live, or_new}
 use Rattle.ncp_model.specs.Ends.{Ends}
 use Rattle.ncp_proof_watch.specs.Books.{BooksAt}
 use Rattle.ncp_model.specs.Peers.{Peer}
-use Rattle.ncp_proof_machine.specs.Hosts.{Event, run, past_of}
+use Rattle.ncp_proof_machine.specs.Hosts.{NodeEvent, run, past_of}
 use Rattle.ncp_proof_machine.specs.Hosts as hosts
-use Rattle.ncp_proof_headline.specs.Headline.{Begins, TakenOrHeld, WithinAllocation}
+use Rattle.ncp_proof_headline.specs.Headline.{BeginsInModel, TakenOrHeld, WithinAllocationInModel}
 use Rattle.ncp_proof_headline.proofs.HostsHeld.{ever}
 use Rattle.ncp_proof_headline.proofs.HostsHeadline.{begins, held_all, within}
 use Rattle.ncp_transcript_two.specs.World.{World, swap}
@@ -27,16 +27,16 @@ module _ (pair : Pair) (s : sends pair ≡ true) (v : World) (p : Both) (t : OfM
 
   pub got-begins : GotIsBeginning pair v p
   got-begins = moved (λ m b. is_live (get m (turned pair)) ≡ true → IsBeginning (past_of b.that (turned pair)).got (past_of b.this pair).given)
-      (of-reached (λ (w : hosts.World). Begins pair w) (λ (es : List Event). let t = ever es in begins t.own t.own' (run es) t.holds t.stand pair s) t.0 t.1.reached)
+      (of-reached (λ (w : hosts.TwoNodes). BeginsInModel pair w) (λ (es : List NodeEvent). let t = ever es in begins t.own t.own' (run es) t.holds t.stand pair s) t.0 t.1.reached)
 
   pub got-held : GotIsTakenOrHeld pair v p
   got-held = moved (λ m b. is_live (get m (turned pair)) ≡ true → (or_new (get m (turned pair))).left ≡ false → (past_of b.that (turned pair)).got ≡ (past_of b.that (turned pair)).taken ++ (or_new (get m (turned pair))).stored)
-      (of-reached (λ (w : hosts.World). TakenOrHeld pair w) (λ (es : List Event). let t = ever es in held_all t.own t.own' (run es) t.holds t.stand pair s) t.0 t.1.reached)
+      (of-reached (λ (w : hosts.TwoNodes). TakenOrHeld pair w) (λ (es : List NodeEvent). let t = ever es in held_all t.own t.own' (run es) t.holds t.stand pair s) t.0 t.1.reached)
 
   pub got-within : NeverBeyondAllocation pair v p
   got-within = moved (λ m b. BooksAt (get m (turned pair)) (past_of b.that (turned pair)))
-      (of-reached (λ (w : hosts.World). WithinAllocation pair w) (λ (es : List Event). let t = ever es in within t.own t.own' (run es) t.holds t.stand pair s) t.0 t.1.reached)
+      (of-reached (λ (w : hosts.TwoNodes). WithinAllocationInModel pair w) (λ (es : List NodeEvent). let t = ever es in within t.own t.own' (run es) t.holds t.stand pair s) t.0 t.1.reached)
 
 -- the other way
 pub turned-over : (v : World) (p : Both) → OfModelWith p v → OfModelWith (turn p) (swap v)
-turned-over v p t = (hosts.swap t.0, tied-swapped t.0 v t.1, ap turn t.2)
+turned-over v p t = (hosts.nodes_swapped t.0, tied-swapped t.0 v t.1, ap turn t.2)

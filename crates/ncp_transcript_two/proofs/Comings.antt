@@ -20,9 +20,9 @@ use Rattle.ncp_proof_machine.specs.Hosts.{TextOut, Node, set_link}
 use Rattle.ncp_proof_machine.specs.Hosts as hosts
 use Rattle.ncp_host.specs.PeerState.{PeerState}
 use Rattle.ncp_host.specs.Hearing as hearing
-use Rattle.ncp_transcript_two.specs.Subnet.{Accepted, Delivered, Subnet, set_at, from_host}
-use Rattle.ncp_transcript_two.specs.World.{World, In, after_received, received}
-use Rattle.ncp_transcript_two.specs.Tie.{control_bits, text_bits, AreCommands, IsTextOn, Stands, Reached, Goes_on, Tied}
+use Rattle.ncp_transcript_two.specs.Subnet.{Accepted, Delivered, TransitByLink, set_at, from_host}
+use Rattle.ncp_transcript_two.specs.World.{World, In, state_after_received, received}
+use Rattle.ncp_transcript_two.specs.Tie.{control_bits, text_as_message, AreCommands, IsTextOn, Stands, Reached, Goes_on, Tied}
 use Rattle.ncp_transcript_two.proofs.Ties.{quiet-is, stays}
 use Rattle.ncp_numbers.specs.Numbers.{bits_of}
 use Rattle.std.proofs.lemmas.List.Elements.{All-head, All-tail}
@@ -30,13 +30,13 @@ use Rattle.std.specs.Prelude.{All}
 use Rattle.ncp_terms.specs.Spelling.{IsCommand}
 use Rattle.ncp_proof_machine.proofs.EndsGood.{Good}
 use Rattle.ncp_proof_machine.proofs.HostsStand.{hearing-stands}
-use Rattle.ncp_proof_machine.proofs.HostsStand.{Stands as ModelStands}
+use Rattle.ncp_proof_machine.proofs.HostsStand.{NodesStand as ModelStands}
 use Rattle.ncp_transcript_two.proofs.Reaching.{stands-there}
 use Rattle.ncp_transcript_two.proofs.Well.{hears-well, text-well}
 use Rattle.ncp_proof_machine.proofs.Seeing.{hears_agree, texts_agree}
 use Rattle.ncp_transcript_two.proofs.Unmoved.{hears-unmoved, text-unmoved}
 use Rattle.ncp_proof_machine.specs.Hosts.{Pasts}
-use Rattle.ncp_transcript_two.specs.Watch.{of_command, of_commands, of_text, of_message}
+use Rattle.ncp_transcript_two.specs.Watch.{of_command, of_commands, pasts_after_text, pasts_after_message}
 use Rattle.ncp_transcript_two.proofs.Histories.{hears-pasts, text-pasts}
 use Rattle.ncp_transcript_two.proofs.Ties.{FollowsWith}
 use Rattle.ncp_leader.specs.Message.{message_in}
@@ -48,45 +48,45 @@ use Rattle.ncp_transcript_two.proofs.Links.{carried, Comes, delivered, texts_cha
 
 -- a control message
 
-pub hears-stands : (there : ℕ) (c : Command) (n : Node) (s : PeerState) (u : Subnet) → IsCommand c → ModelStands n → Stands there n s u → Stands there (hosts.hears c n) (hearing.hears c s) u
-hears-stands there c n s u f g k = stays there n (hosts.hears c n) s (hearing.hears c s) u k (hears-unmoved c n) refl
+pub hears-stands : (there : ℕ) (c : Command) (n : Node) (s : PeerState) (u : TransitByLink) → IsCommand c → ModelStands n → Stands there n s u → Stands there (hosts.node_hears c n) (hearing.state_hears c s) u
+hears-stands there c n s u f g k = stays there n (hosts.node_hears c n) s (hearing.state_hears c s) u k (hears-unmoved c n) refl
     (ap (λ (b : Bool). peers.hears b c s.peer) (quiet-is there n.texts s.slots u k.texts) ∙ ap (peers.hears (hosts.quiet n) c) k.peer ∙ sym (hears_agree c n))
     (hears-well (is_quiet s.slots) c s.peer f (subst (λ (p : Peer). Good p.ends) (sym k.peer) g.good) k.well)
 
-hears_all-stands : (there : ℕ) (cs : List Command) (n : Node) (s : PeerState) (u : Subnet) → All IsCommand cs → ModelStands n → Stands there n s u → Stands there (hosts.hears_all cs n) (hearing.hears_all cs s) u
+hears_all-stands : (there : ℕ) (cs : List Command) (n : Node) (s : PeerState) (u : TransitByLink) → All IsCommand cs → ModelStands n → Stands there n s u → Stands there (hosts.node_hears_all cs n) (hearing.state_hears_all cs s) u
 hears_all-stands there [] n s u f g k = k
-hears_all-stands there (c ∷ cs) n s u f g k = hears_all-stands there cs (hosts.hears c n) (hearing.hears c s) u (All-tail IsCommand c cs f) (hearing-stands c n g) (hears-stands there c n s u (All-head IsCommand c cs f) g k)
+hears_all-stands there (c ∷ cs) n s u f g k = hears_all-stands there cs (hosts.node_hears c n) (hearing.state_hears c s) u (All-tail IsCommand c cs f) (hearing-stands c n g) (hears-stands there c n s u (All-head IsCommand c cs f) g k)
 
 -- what comes on link 0 is heard as the commands that the model has there
-pub control-heard : (w : hosts.World) (v : World) (m : List Bool) (t : Tied w v)
-    → (c : Comes (control_bits v.there) AreCommands w.this.control (slot_at v.this.slots 0) m) → after_received (from_host v.here m) v.that ≡ hearing.hears_all c.what v.that
+pub control-heard : (w : hosts.TwoNodes) (v : World) (m : List Bool) (t : Tied w v)
+    → (c : Comes (control_bits v.there) AreCommands w.this.control (slot_at v.this.slots 0) m) → state_after_received (from_host v.here m) v.that ≡ hearing.state_hears_all c.what v.that
 control-heard w v m t c =
-    ap (λ (x : List Bool). after_received (from_host v.here x) v.that) c.written
-    ∙ ap (λ (x : List Bool). after_received x v.that) (from_host-message v.here v.there 0 8 (bits_of_bytes (spellings c.what)))
+    ap (λ (x : List Bool). state_after_received (from_host v.here x) v.that) c.written
+    ∙ ap (λ (x : List Bool). state_after_received x v.that) (from_host-message v.here v.there 0 8 (bits_of_bytes (spellings c.what)))
     ∙ control_comes v.here c.what v.that t.that.number c.fits
 
 -- the histories after it
 
-abbrev pub Heard : ℕ → hosts.World → World → List Bool → World → Type 0
-Heard on w v m x = FollowsWith (In on (from_host v.here m) (received (from_host v.here m) v.that)) w w.this.pasts (of_message on (from_host v.here m) (message_in (from_host v.here m)) v.that w.that.pasts) x
+abbrev pub Heard : ℕ → hosts.TwoNodes → World → List Bool → World → Type 0
+Heard on w v m x = FollowsWith (In on (from_host v.here m) (received (from_host v.here m) v.that)) w w.this.pasts (pasts_after_message on (from_host v.here m) (message_in (from_host v.here m)) v.that w.that.pasts) x
 
-hears_all-pasts : (there : ℕ) (cs : List Command) (n : Node) (s : PeerState) (u : Subnet) → All IsCommand cs → ModelStands n → Stands there n s u → (hosts.hears_all cs n).pasts ≡ of_commands cs s n.pasts
+hears_all-pasts : (there : ℕ) (cs : List Command) (n : Node) (s : PeerState) (u : TransitByLink) → All IsCommand cs → ModelStands n → Stands there n s u → (hosts.node_hears_all cs n).pasts ≡ of_commands cs s n.pasts
 hears_all-pasts there [] n s u f g k = refl
 hears_all-pasts there (c ∷ cs) n s u f g k =
-    hears_all-pasts there cs (hosts.hears c n) (hearing.hears c s) u (All-tail IsCommand c cs f) (hearing-stands c n g) (hears-stands there c n s u (All-head IsCommand c cs f) g k)
-    ∙ ap (of_commands cs (hearing.hears c s)) (hears-pasts c n ∙ ap (λ (p : Peer). of_command c p n.pasts) (sym k.peer))
+    hears_all-pasts there cs (hosts.node_hears c n) (hearing.state_hears c s) u (All-tail IsCommand c cs f) (hearing-stands c n g) (hears-stands there c n s u (All-head IsCommand c cs f) g k)
+    ∙ ap (of_commands cs (hearing.state_hears c s)) (hears-pasts c n ∙ ap (λ (p : Peer). of_command c p n.pasts) (sym k.peer))
 
-control-told : (w : hosts.World) (v : World) (m : List Bool) (t : Tied w v) → (c : Comes (control_bits v.there) AreCommands w.this.control (slot_at v.this.slots 0) m) → (pasts : Pasts)
-    → of_message 0 (from_host v.here m) (message_in (from_host v.here m)) v.that pasts ≡ of_commands c.what v.that pasts
+control-told : (w : hosts.TwoNodes) (v : World) (m : List Bool) (t : Tied w v) → (c : Comes (control_bits v.there) AreCommands w.this.control (slot_at v.this.slots 0) m) → (pasts : Pasts)
+    → pasts_after_message 0 (from_host v.here m) (message_in (from_host v.here m)) v.that pasts ≡ of_commands c.what v.that pasts
 control-told w v m t c pasts =
     let text : List Bool = bits_of_bytes (spellings c.what) in
-    ap (λ (x : List Bool). of_message 0 (from_host v.here x) (message_in (from_host v.here x)) v.that pasts) c.written
-    ∙ ap (λ (x : List Bool). of_message 0 x (message_in x) v.that pasts) (from_host-message v.here v.there 0 8 text)
-    ∙ ap (λ (r : Result Message MessageFault). of_message 0 (message_to v.here 0 8 text) r v.that pasts) (read v.here 0 8 text t.that.number (omega arith) (control_text c.what c.fits))
+    ap (λ (x : List Bool). pasts_after_message 0 (from_host v.here x) (message_in (from_host v.here x)) v.that pasts) c.written
+    ∙ ap (λ (x : List Bool). pasts_after_message 0 x (message_in x) v.that pasts) (from_host-message v.here v.there 0 8 text)
+    ∙ ap (λ (r : Result Message MessageFault). pasts_after_message 0 (message_to v.here 0 8 text) r v.that pasts) (read v.here 0 8 text t.that.number (omega arith) (control_text c.what c.fits))
     ∙ ap (λ (bs : List ℕ). of_commands (commands_in bs) v.that pasts) (bytes_of-bits_of_bytes (spellings c.what) (spellings_small c.what c.fits.0))
     ∙ ap (λ (cs : List Command). of_commands cs v.that pasts) (spelled_alone c.what c.fits.0).0
 
-deliver-control : (w : hosts.World) (v : World) (m : List Bool) → Tied w v → v.going 0 ≡ Accepted m → Heard 0 w v m (record v { that = after_received (from_host v.here m) v.that; going = set_at 0 Delivered v.going })
+deliver-control : (w : hosts.TwoNodes) (v : World) (m : List Bool) → Tied w v → v.going 0 ≡ Accepted m → Heard 0 w v m (record v { that = state_after_received (from_host v.here m) v.that; going = set_at 0 Delivered v.going })
 deliver-control w v m t e = (
   after,
   record {
@@ -99,7 +99,7 @@ deliver-control w v m t e = (
           (all_apart 0 w.this.texts) (all_apart 0 (slot_at v.this.slots)) (set_at-apart 0 Delivered v.going) (λ f. absurd (both_ways true f refl)) t.this.texts;
       well = t.this.well;
     };
-    that = subst (λ (s : PeerState). Stands v.here (hosts.hears_all c.what w.that) s v.coming) (sym (control-heard w v m t c)) (hears_all-stands v.here c.what w.that v.that v.coming c.fits.0 (stands-there w t.reached) t.that);
+    that = subst (λ (s : PeerState). Stands v.here (hosts.node_hears_all c.what w.that) s v.coming) (sym (control-heard w v m t c)) (hears_all-stands v.here c.what w.that v.that v.coming c.fits.0 (stands-there w t.reached) t.that);
   },
   refl,
   hears_all-pasts v.here c.what w.that v.that v.coming c.fits.0 (stands-there w t.reached) t.that ∙ sym (control-told w v m t c w.that.pasts),
@@ -109,14 +109,14 @@ deliver-control w v m t e = (
     c : Comes (control_bits v.there) AreCommands w.this.control (slot_at v.this.slots 0) m
     c = delivered (control_bits v.there) AreCommands w.this.control (slot_at v.this.slots 0) (v.going 0) m t.this.control e
 
-    after : hosts.World
+    after : hosts.TwoNodes
     after = record {
       this = record w.this { control = record w.this.control { subnet = model.Delivered } };
-      that = hosts.hears_all c.what w.that;
+      that = hosts.node_hears_all c.what w.that;
     }
 
-    led : hosts.at That hosts.Hears w ≡ after
-    led = ap (λ (x : model.Subnet (List Command)). hosts.swap (hosts.message_comes x (hosts.swap w))) c.there
+    led : hosts.node_at That hosts.Hears w ≡ after
+    led = ap (λ (x : model.MessageTransit (List Command)). hosts.nodes_swapped (hosts.message_comes x (hosts.nodes_swapped w))) c.there
 
 -- a text
 
@@ -127,35 +127,35 @@ or_right false b e = e
 pub small : (on : ℕ) → is_wrong_link on ≡ false → on < 2 ^ 8
 small on f = let l : on ≤ LAST_LINK = ltb-false LAST_LINK on (or_right (on == 1) _ f) in omega (arith, l)
 
-text-after : (on : ℕ) (bits : List Bool) (m : Message) (s : PeerState) → is_wrong_link on ≡ false → (on == 0) ≡ false → hearing.message_after on bits (Ok m) s ≡ hearing.text_after on (take FRONT_BITS bits) m s
+text-after : (on : ℕ) (bits : List Bool) (m : Message) (s : PeerState) → is_wrong_link on ≡ false → (on == 0) ≡ false → hearing.message_after on bits (Ok m) s ≡ hearing.state_after_text on (take FRONT_BITS bits) m s
 text-after on bits m s f z = rw (f, z) refl
 
-pub text-heard : (on : ℕ) (w : hosts.World) (v : World) (m : List Bool) (t : Tied w v) (z : (on == 0) ≡ false)
-    → (c : Comes (text_bits v.there on) (IsTextOn on) (w.this.texts on) (slot_at v.this.slots on) m)
-    → after_received (from_host v.here m) v.that ≡ hearing.text_after on (take FRONT_BITS (text_bits v.here on c.what)) (message_with (leader_to v.here on) c.what.of_size c.what.bits) v.that
+pub text-heard : (on : ℕ) (w : hosts.TwoNodes) (v : World) (m : List Bool) (t : Tied w v) (z : (on == 0) ≡ false)
+    → (c : Comes (text_as_message v.there on) (IsTextOn on) (w.this.texts on) (slot_at v.this.slots on) m)
+    → state_after_received (from_host v.here m) v.that ≡ hearing.state_after_text on (take FRONT_BITS (text_as_message v.here on c.what)) (message_with (leader_to v.here on) c.what.of_size c.what.bits) v.that
 text-heard on w v m t z c =
-    ap (λ (x : List Bool). after_received (from_host v.here x) v.that) c.written
-    ∙ ap (λ (x : List Bool). after_received x v.that) (from_host-message v.here v.there on c.what.of_size c.what.bits)
+    ap (λ (x : List Bool). state_after_received (from_host v.here x) v.that) c.written
+    ∙ ap (λ (x : List Bool). state_after_received x v.that) (from_host-message v.here v.there on c.what.of_size c.what.bits)
     ∙ comes v.here on c.what.of_size c.what.bits v.that t.that.number (small on c.fits.0) c.fits.1
-    ∙ text-after on (text_bits v.here on c.what) (message_with (leader_to v.here on) c.what.of_size c.what.bits) v.that c.fits.0 z
+    ∙ text-after on (text_as_message v.here on c.what) (message_with (leader_to v.here on) c.what.of_size c.what.bits) v.that c.fits.0 z
 
-not-control : (on : ℕ) (bits : List Bool) (m : Message) (s : PeerState) (pasts : Pasts) → (on == 0) ≡ false → of_message on bits (Ok m) s pasts ≡ of_text on (take FRONT_BITS bits) m s.peer pasts
+not-control : (on : ℕ) (bits : List Bool) (m : Message) (s : PeerState) (pasts : Pasts) → (on == 0) ≡ false → pasts_after_message on bits (Ok m) s pasts ≡ pasts_after_text on (take FRONT_BITS bits) m s.peer pasts
 not-control on bits m s pasts z = rw z refl
 
-text-told : (on : ℕ) (w : hosts.World) (v : World) (m : List Bool) (t : Tied w v) (z : (on == 0) ≡ false)
-    → (c : Comes (text_bits v.there on) (IsTextOn on) (w.this.texts on) (slot_at v.this.slots on) m) → (pasts : Pasts)
-    → of_message on (from_host v.here m) (message_in (from_host v.here m)) v.that pasts ≡ of_text on (take FRONT_BITS (text_bits v.here on c.what)) (message_with (leader_to v.here on) c.what.of_size c.what.bits) v.that.peer pasts
+text-told : (on : ℕ) (w : hosts.TwoNodes) (v : World) (m : List Bool) (t : Tied w v) (z : (on == 0) ≡ false)
+    → (c : Comes (text_as_message v.there on) (IsTextOn on) (w.this.texts on) (slot_at v.this.slots on) m) → (pasts : Pasts)
+    → pasts_after_message on (from_host v.here m) (message_in (from_host v.here m)) v.that pasts ≡ pasts_after_text on (take FRONT_BITS (text_as_message v.here on c.what)) (message_with (leader_to v.here on) c.what.of_size c.what.bits) v.that.peer pasts
 text-told on w v m t z c pasts =
-    ap (λ (x : List Bool). of_message on (from_host v.here x) (message_in (from_host v.here x)) v.that pasts) c.written
-    ∙ ap (λ (x : List Bool). of_message on x (message_in x) v.that pasts) (from_host-message v.here v.there on c.what.of_size c.what.bits)
-    ∙ ap (λ (r : Result Message MessageFault). of_message on (text_bits v.here on c.what) r v.that pasts) (read v.here on c.what.of_size c.what.bits t.that.number (small on c.fits.0) c.fits.1)
-    ∙ not-control on (text_bits v.here on c.what) (message_with (leader_to v.here on) c.what.of_size c.what.bits) v.that pasts z
+    ap (λ (x : List Bool). pasts_after_message on (from_host v.here x) (message_in (from_host v.here x)) v.that pasts) c.written
+    ∙ ap (λ (x : List Bool). pasts_after_message on x (message_in x) v.that pasts) (from_host-message v.here v.there on c.what.of_size c.what.bits)
+    ∙ ap (λ (r : Result Message MessageFault). pasts_after_message on (text_as_message v.here on c.what) r v.that pasts) (read v.here on c.what.of_size c.what.bits t.that.number (small on c.fits.0) c.fits.1)
+    ∙ not-control on (text_as_message v.here on c.what) (message_with (leader_to v.here on) c.what.of_size c.what.bits) v.that pasts z
 
-front-long : (number on : ℕ) (x : TextOut) → length (take FRONT_BITS (text_bits number on x)) ≡ 72
+front-long : (number on : ℕ) (x : TextOut) → length (take FRONT_BITS (text_as_message number on x)) ≡ 72
 unfolding bits_of
 front-long number on x = refl
 
-deliver-text : (on : ℕ) (w : hosts.World) (v : World) (m : List Bool) → (on == 0) ≡ false → Tied w v → v.going on ≡ Accepted m → Heard on w v m (record v { that = after_received (from_host v.here m) v.that; going = set_at on Delivered v.going })
+deliver-text : (on : ℕ) (w : hosts.TwoNodes) (v : World) (m : List Bool) → (on == 0) ≡ false → Tied w v → v.going on ≡ Accepted m → Heard on w v m (record v { that = state_after_received (from_host v.here m) v.that; going = set_at on Delivered v.going })
 deliver-text on w v m z t e = (
   after,
   record {
@@ -166,44 +166,44 @@ deliver-text on w v m z t e = (
       control = carried (control_bits v.there) AreCommands w.this.control w.this.control (slot_at v.this.slots 0) (slot_at v.this.slots 0) (v.going 0) (set_at on Delivered v.going 0) refl refl (set_at-apart on Delivered v.going 0 (zero_apart on z)) t.this.control;
       texts = texts_changed v.there on w.this.texts (set_link on l w.this.texts) v.this.slots v.this.slots v.going (set_at on Delivered v.going)
           (set_link-apart on l w.this.texts) (all_apart on (slot_at v.this.slots)) (set_at-apart on Delivered v.going)
-          (λ _. carried (text_bits v.there on) (IsTextOn on) l (set_link on l w.this.texts on) (slot_at v.this.slots on) (slot_at v.this.slots on) Delivered (set_at on Delivered v.going on) (set_link-same on l w.this.texts) refl (set_at-same on Delivered v.going) c.after)
+          (λ _. carried (text_as_message v.there on) (IsTextOn on) l (set_link on l w.this.texts on) (slot_at v.this.slots on) (slot_at v.this.slots on) Delivered (set_at on Delivered v.going on) (set_link-same on l w.this.texts) refl (set_at-same on Delivered v.going) c.after)
           t.this.texts;
       well = t.this.well;
     };
-    that = subst (λ (s : PeerState). Stands v.here (hosts.hears_text on head c.what w.that) s v.coming) (sym (text-heard on w v m t z c))
-        (stays v.here w.that (hosts.hears_text on head c.what w.that) v.that heard v.coming t.that (text-unmoved on head c.what w.that) refl
+    that = subst (λ (s : PeerState). Stands v.here (hosts.node_hears_text on head c.what w.that) s v.coming) (sym (text-heard on w v m t z c))
+        (stays v.here w.that (hosts.node_hears_text on head c.what w.that) v.that heard v.coming t.that (text-unmoved on head c.what w.that) refl
         (ap (peers.hears_text on head c.what.of_size c.what.bits) t.that.peer ∙ sym (texts_agree on head c.what w.that))
         (text-well on head c.what.of_size c.what.bits v.that.peer (front-long v.here on c.what) (subst (λ (p : Peer). Good p.ends) (sym t.that.peer) (stands-there w t.reached).good) t.that.well));
   },
   refl,
-  text-pasts on head c.what w.that ∙ ap (λ (p : Peer). of_text on head (message_with (leader_to v.here on) c.what.of_size c.what.bits) p w.that.pasts) (sym t.that.peer) ∙ sym (text-told on w v m t z c w.that.pasts),
+  text-pasts on head c.what w.that ∙ ap (λ (p : Peer). pasts_after_text on head (message_with (leader_to v.here on) c.what.of_size c.what.bits) p w.that.pasts) (sym t.that.peer) ∙ sym (text-told on w v m t z c w.that.pasts),
   (That, hosts.Hears_text on head, ((z, c.fits.0), c.what, c.there), led),
 )
   where
-    c : Comes (text_bits v.there on) (IsTextOn on) (w.this.texts on) (slot_at v.this.slots on) m
-    c = delivered (text_bits v.there on) (IsTextOn on) (w.this.texts on) (slot_at v.this.slots on) (v.going on) m (t.this.texts on z) e
+    c : Comes (text_as_message v.there on) (IsTextOn on) (w.this.texts on) (slot_at v.this.slots on) m
+    c = delivered (text_as_message v.there on) (IsTextOn on) (w.this.texts on) (slot_at v.this.slots on) (v.going on) m (t.this.texts on z) e
 
     head : List Bool
-    head = take FRONT_BITS (text_bits v.here on c.what)
+    head = take FRONT_BITS (text_as_message v.here on c.what)
 
     heard : PeerState
-    heard = hearing.text_after on head (message_with (leader_to v.here on) c.what.of_size c.what.bits) v.that
+    heard = hearing.state_after_text on head (message_with (leader_to v.here on) c.what.of_size c.what.bits) v.that
 
     l : Link TextOut
     l = record (w.this.texts on) { subnet = model.Delivered }
 
-    after : hosts.World
+    after : hosts.TwoNodes
     after = record {
       this = record w.this { texts = set_link on l w.this.texts };
-      that = hosts.hears_text on head c.what w.that;
+      that = hosts.node_hears_text on head c.what w.that;
     }
 
-    led : hosts.at That (hosts.Hears_text on head) w ≡ after
-    led = ap (λ (x : model.Subnet TextOut). hosts.swap (hosts.text_comes on head x (hosts.swap w))) c.there
+    led : hosts.node_at That (hosts.Hears_text on head) w ≡ after
+    led = ap (λ (x : model.MessageTransit TextOut). hosts.nodes_swapped (hosts.node_text_comes on head x (hosts.nodes_swapped w))) c.there
 
-pub deliver-ties : (on : ℕ) (w : hosts.World) (v : World) (m : List Bool) → Tied w v → v.going on ≡ Accepted m → Heard on w v m (record v { that = after_received (from_host v.here m) v.that; going = set_at on Delivered v.going })
+pub deliver-ties : (on : ℕ) (w : hosts.TwoNodes) (v : World) (m : List Bool) → Tied w v → v.going on ≡ Accepted m → Heard on w v m (record v { that = state_after_received (from_host v.here m) v.that; going = set_at on Delivered v.going })
 deliver-ties on w v m t e = go (on == 0) refl
   where
-    go : (b : Bool) → (on == 0) ≡ b → Heard on w v m (record v { that = after_received (from_host v.here m) v.that; going = set_at on Delivered v.going })
-    go true z = subst (λ (k : ℕ). v.going k ≡ Accepted m → Heard k w v m (record v { that = after_received (from_host v.here m) v.that; going = set_at k Delivered v.going })) (sym (eqb-true on 0 z)) (deliver-control w v m t) e
+    go : (b : Bool) → (on == 0) ≡ b → Heard on w v m (record v { that = state_after_received (from_host v.here m) v.that; going = set_at on Delivered v.going })
+    go true z = subst (λ (k : ℕ). v.going k ≡ Accepted m → Heard k w v m (record v { that = state_after_received (from_host v.here m) v.that; going = set_at k Delivered v.going })) (sym (eqb-true on 0 z)) (deliver-control w v m t) e
     go false z = deliver-text on w v m z t e

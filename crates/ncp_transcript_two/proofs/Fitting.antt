@@ -11,17 +11,17 @@ use Rattle.ncp_transcript.specs.declared.note.HostNote.TheVariants as of_host
 use Rattle.ncp_transcript.specs.Notes.{done_or_refused, told_or_refused}
 use Rattle.ncp_transcript.specs.Answers.{answer_to}
 use Rattle.ncp_transcript.specs.Noting.{CallNoted}
-use Rattle.ncp_transcript_two.specs.Seen.{told_call, Fits, CallFits}
+use Rattle.ncp_transcript_two.specs.Seen.{told_call, NoteFits, CallFits}
 
-done-fits : (call : Call) (r : Result (Unit {0}) CallFault) → CallFits call → Fits (told_call (done_or_refused call r))
+done-fits : (call : Call) (r : Result (Unit {0}) CallFault) → CallFits call → NoteFits (told_call (done_or_refused call r))
 done-fits call (Ok u) fits = fits
 done-fits call (Err fault) fits = tt
 
-told-fits : {T : Type 0} (call : Call) (told : T → HostNote) (r : Result T CallFault) → ((x : T) → Fits (told_call (told x))) → Fits (told_call (told_or_refused call told r))
+told-fits : {T : Type 0} (call : Call) (told : T → HostNote) (r : Result T CallFault) → ((x : T) → NoteFits (told_call (told x))) → NoteFits (told_call (told_or_refused call told r))
 told-fits call told (Ok x) fits = fits x
 told-fits call told (Err fault) fits = tt
 
-answer-fits : (call : Call) (h : Host) → CallFits call → Fits (told_call (answer_to call h))
+answer-fits : (call : Call) (h : Host) → CallFits call → NoteFits (told_call (answer_to call h))
 answer-fits (calls.Reset peer) h fits = done-fits (calls.Reset peer) (reset_reply peer h) fits
 answer-fits (calls.AskSend peer local remote size room) h fits = done-fits (calls.AskSend peer local remote size room) (call_reply peer (sockets local remote) (Ask_to_send size room) h) fits
 answer-fits (calls.AskReceive peer local remote room) h fits = done-fits (calls.AskReceive peer local remote room) (call_reply peer (sockets local remote) (Ask_to_receive room) h) fits
@@ -42,6 +42,6 @@ answer-fits (calls.Waiting peer place) h fits = tt
 answer-fits (calls.Kept peer link) h fits = tt
 answer-fits calls.Ignored h fits = tt
 
-pub note-fits : (call : Call) (note : HostNote) (h : Host) → CallNoted call note h → CallFits call → Fits (told_call note)
-note-fits call note h (inl e) fits = subst (λ (n : HostNote). Fits (told_call n)) (sym e) (answer-fits call h fits)
-note-fits call note h (inr want) fits = subst (λ (n : HostNote). Fits (told_call n)) (sym want.said) tt
+pub note-fits : (call : Call) (note : HostNote) (h : Host) → CallNoted call note h → CallFits call → NoteFits (told_call note)
+note-fits call note h (inl e) fits = subst (λ (n : HostNote). NoteFits (told_call n)) (sym e) (answer-fits call h fits)
+note-fits call note h (inr want) fits = subst (λ (n : HostNote). NoteFits (told_call n)) (sym want.said) tt

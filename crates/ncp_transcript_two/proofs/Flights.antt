@@ -15,14 +15,14 @@ use Rattle.ncp_transcript_two.specs.Subnet.{answer_bits}
 use Rattle.ncp_slot.specs.Slots.{LinkSlots, slot_at, with_slot}
 use Rattle.ncp_slot.specs.Slot.{woken}
 use Rattle.ncp_slot.proofs.Waking.{slot_at-all_woken}
-use Rattle.ncp_proof_resets.specs.Resets.{Side, This, That}
+use Rattle.ncp_proof_resets.specs.Resets.{Party, This, That}
 use Rattle.ncp_model.specs.Peers.{Peer}
 use Rattle.ncp_proof_machine.specs.Hosts as hosts
 use Rattle.ncp_host.specs.PeerState.{PeerState}
-use Rattle.ncp_transcript_two.specs.Subnet.{Holds, Free, Accepted, Delivered, Lost, Dead, Subnet, set_at, from_host}
-use Rattle.ncp_transcript_two.specs.World.{World, Asked, Asks, Asks_echo, Asks_reset, Asks_wake, after_call, after_received}
+use Rattle.ncp_transcript_two.specs.Subnet.{Holds, Free, Accepted, Delivered, Lost, Dead, TransitByLink, set_at, from_host}
+use Rattle.ncp_transcript_two.specs.World.{World, Asked, Asks, Asks_echo, Asks_reset, Asks_wake, state_after_asked, state_after_received}
 use Rattle.ncp_transcript_two.specs.World as worlds
-use Rattle.ncp_transcript_two.specs.Tie.{Came, Failed, Died, control_bits, text_bits, AreCommands, IsTextOn, Tied}
+use Rattle.ncp_transcript_two.specs.Tie.{Came, Failed, Died, control_bits, text_as_message, AreCommands, IsTextOn, Tied}
 use Rattle.ncp_transcript_two.proofs.Ties.{tied-swapped}
 use Rattle.ncp_transcript_two.proofs.Comings.{small}
 use Rattle.ncp_model.specs.Sending.{next_commands}
@@ -30,9 +30,9 @@ use Rattle.ncp_model.specs.Act.{answer}
 use Rattle.ncp_model.specs.Ends.{cut_in}
 use Rattle.ncp_transcript_two.specs.Subnet.{link_in}
 use Rattle.ncp_transcript_two.specs.Tie.{AreEvents, IsNewWorld, IsOfModel}
-use Rattle.ncp_transcript_two.specs.World.{Call_is_made, Goes_out, Is_delivered, Is_lost, Finds_dead, Is_answered, Event, moves, goes, delivers, loses, dies, answers_for, at, step}
+use Rattle.ncp_transcript_two.specs.World.{Call_is_made, Goes_out, Is_delivered, Is_lost, Finds_dead, Is_answered, WorldEvent, moves, goes, delivers, loses, dies, answers_for, at, step}
 use Rattle.ncp_transcript_two.specs.World.{notes_from}
-use Rattle.ncp_transcript_two.specs.Honest.{Deed, Sent, told_deed, deed_of, deeds, if_on, number_of_side}
+use Rattle.ncp_transcript_two.specs.Honest.{MessageDeed, Sent, told_deed, deed_told, deeds_told, if_on, number_of_side}
 use Rattle.ncp_transcript_two.specs.Honest as honest
 use Rattle.ncp_transcript_two.proofs.Turns.{Flight, Idle, Away, Here, Passes, Flies}
 use Rattle.ncp_transcript_two.proofs.Turns as turns
@@ -55,10 +55,10 @@ flight_of (slots.Travelling m) Lost = Away m
 flight_of (slots.Travelling m) Dead = Away m
 flight_of (slots.Held m) h = turns.Again m
 
-abbrev pub on_link : ℕ → LinkSlots → Subnet → Flight
+abbrev pub on_link : ℕ → LinkSlots → TransitByLink → Flight
 on_link k sl u = flight_of (slot_at sl k) (u k)
 
-abbrev pub flight_at : Side → ℕ → World → Flight
+abbrev pub flight_at : Party → ℕ → World → Flight
 flight_at This k v = on_link k v.this.slots v.going
 flight_at That k v = on_link k v.that.slots v.coming
 
@@ -67,12 +67,12 @@ flight_at That k v = on_link k v.that.slots v.coming
 apart-sym : (a b : ℕ) → (a == b) ≡ false → (b == a) ≡ false
 apart-sym a b f = ne_eqb b a (λ (e : b ≡ a). both_ways (a == b) f (eq-eqb a b (sym e)))
 
-unmoved : (on k : ℕ) (sl sl' : LinkSlots) (u u' : Subnet) → Apart on (slot_at sl) (slot_at sl') → Apart on u u' → (on == k) ≡ false → on_link k sl' u' ≡ on_link k sl u
+unmoved : (on k : ℕ) (sl sl' : LinkSlots) (u u' : TransitByLink) → Apart on (slot_at sl) (slot_at sl') → Apart on u u' → (on == k) ≡ false → on_link k sl' u' ≡ on_link k sl u
 unmoved on k sl sl' u u' p q f =
     ap (λ (x : LinkSlot). flight_of x (u' k)) (p k (apart-sym on k f)) ∙ ap (flight_of (slot_at sl k)) (q k (apart-sym on k f))
 
 -- on the link itself, or on another one
-either : (number on k : ℕ) (d : Deed) (f g : ℕ → Flight) → ((on == k) ≡ false → g k ≡ f k) → Passes number (f on) d (g on) → Passes number (f k) (if_on (on == k) d) (g k)
+either : (number on k : ℕ) (d : MessageDeed) (f g : ℕ → Flight) → ((on == k) ≡ false → g k ≡ f k) → Passes number (f on) d (g on) → Passes number (f k) (if_on (on == k) d) (g k)
 either number on k d f g others this = go (on == k) refl
   where
     go : (b : Bool) → (on == k) ≡ b → Passes number (f k) (if_on b d) (g k)
@@ -86,16 +86,16 @@ pub record IsOut (on : ℕ) (s : LinkSlot) : Type 0 where
   pub in_slot : s ≡ slots.Travelling message
   pub fits : on < 2 ^ 8
 
-accepted-out : (on : ℕ) (w : hosts.World) (v : World) (m : List Bool) → Tied w v → v.going on ≡ Accepted m → slot_at v.this.slots on ≡ slots.Travelling m
+accepted-out : (on : ℕ) (w : hosts.TwoNodes) (v : World) (m : List Bool) → Tied w v → v.going on ≡ Accepted m → slot_at v.this.slots on ≡ slots.Travelling m
 accepted-out on w v m t e = go (on == 0) refl
   where
     go : (b : Bool) → (on == 0) ≡ b → slot_at v.this.slots on ≡ slots.Travelling m
     go true z =
         let zero : on ≡ 0 = eqb-true on 0 z in
         ap (slot_at v.this.slots) zero ∙ (away (control_bits v.there) AreCommands w.this.control (slot_at v.this.slots 0) (v.going 0) m t.this.control (ap v.going (sym zero) ∙ e)).2
-    go false z = (away (text_bits v.there on) (IsTextOn on) (w.this.texts on) (slot_at v.this.slots on) (v.going on) m (t.this.texts on z) e).2
+    go false z = (away (text_as_message v.there on) (IsTextOn on) (w.this.texts on) (slot_at v.this.slots on) (v.going on) m (t.this.texts on z) e).2
 
-pub delivered-out : (on : ℕ) (w : hosts.World) (v : World) → Tied w v → v.going on ≡ Delivered → IsOut on (slot_at v.this.slots on)
+pub delivered-out : (on : ℕ) (w : hosts.TwoNodes) (v : World) → Tied w v → v.going on ≡ Delivered → IsOut on (slot_at v.this.slots on)
 delivered-out on w v t e = go (on == 0) refl
   where
     go : (b : Bool) → (on == 0) ≡ b → IsOut on (slot_at v.this.slots on)
@@ -104,10 +104,10 @@ delivered-out on w v t e = go (on == 0) refl
         let a : Answers (control_bits v.there) AreCommands Came w.this.control (slot_at v.this.slots 0) = taken (control_bits v.there) AreCommands w.this.control (slot_at v.this.slots 0) (v.going 0) t.this.control (ap v.going (sym zero) ∙ e) in
         record { message = control_bits v.there a.what; in_slot = ap (slot_at v.this.slots) zero ∙ a.written; fits = omega (arith, zero) }
     go false z =
-        let a : Answers (text_bits v.there on) (IsTextOn on) Came (w.this.texts on) (slot_at v.this.slots on) = taken (text_bits v.there on) (IsTextOn on) (w.this.texts on) (slot_at v.this.slots on) (v.going on) (t.this.texts on z) e in
-        record { message = text_bits v.there on a.what; in_slot = a.written; fits = small on a.fits.0 }
+        let a : Answers (text_as_message v.there on) (IsTextOn on) Came (w.this.texts on) (slot_at v.this.slots on) = taken (text_as_message v.there on) (IsTextOn on) (w.this.texts on) (slot_at v.this.slots on) (v.going on) (t.this.texts on z) e in
+        record { message = text_as_message v.there on a.what; in_slot = a.written; fits = small on a.fits.0 }
 
-pub lost-out : (on : ℕ) (w : hosts.World) (v : World) → Tied w v → v.going on ≡ Lost → IsOut on (slot_at v.this.slots on)
+pub lost-out : (on : ℕ) (w : hosts.TwoNodes) (v : World) → Tied w v → v.going on ≡ Lost → IsOut on (slot_at v.this.slots on)
 lost-out on w v t e = go (on == 0) refl
   where
     go : (b : Bool) → (on == 0) ≡ b → IsOut on (slot_at v.this.slots on)
@@ -116,10 +116,10 @@ lost-out on w v t e = go (on == 0) refl
         let a : Answers (control_bits v.there) AreCommands Failed w.this.control (slot_at v.this.slots 0) = refused (control_bits v.there) AreCommands w.this.control (slot_at v.this.slots 0) (v.going 0) t.this.control (ap v.going (sym zero) ∙ e) in
         record { message = control_bits v.there a.what; in_slot = ap (slot_at v.this.slots) zero ∙ a.written; fits = omega (arith, zero) }
     go false z =
-        let a : Answers (text_bits v.there on) (IsTextOn on) Failed (w.this.texts on) (slot_at v.this.slots on) = refused (text_bits v.there on) (IsTextOn on) (w.this.texts on) (slot_at v.this.slots on) (v.going on) (t.this.texts on z) e in
-        record { message = text_bits v.there on a.what; in_slot = a.written; fits = small on a.fits.0 }
+        let a : Answers (text_as_message v.there on) (IsTextOn on) Failed (w.this.texts on) (slot_at v.this.slots on) = refused (text_as_message v.there on) (IsTextOn on) (w.this.texts on) (slot_at v.this.slots on) (v.going on) (t.this.texts on z) e in
+        record { message = text_as_message v.there on a.what; in_slot = a.written; fits = small on a.fits.0 }
 
-pub dead-out : (on : ℕ) (w : hosts.World) (v : World) → Tied w v → v.going on ≡ Dead → IsOut on (slot_at v.this.slots on)
+pub dead-out : (on : ℕ) (w : hosts.TwoNodes) (v : World) → Tied w v → v.going on ≡ Dead → IsOut on (slot_at v.this.slots on)
 dead-out on w v t e = go (on == 0) refl
   where
     go : (b : Bool) → (on == 0) ≡ b → IsOut on (slot_at v.this.slots on)
@@ -128,12 +128,12 @@ dead-out on w v t e = go (on == 0) refl
         let a : Answers (control_bits v.there) AreCommands Died w.this.control (slot_at v.this.slots 0) = found_dead (control_bits v.there) AreCommands w.this.control (slot_at v.this.slots 0) (v.going 0) t.this.control (ap v.going (sym zero) ∙ e) in
         record { message = control_bits v.there a.what; in_slot = ap (slot_at v.this.slots) zero ∙ a.written; fits = omega (arith, zero) }
     go false z =
-        let a : Answers (text_bits v.there on) (IsTextOn on) Died (w.this.texts on) (slot_at v.this.slots on) = found_dead (text_bits v.there on) (IsTextOn on) (w.this.texts on) (slot_at v.this.slots on) (v.going on) (t.this.texts on z) e in
-        record { message = text_bits v.there on a.what; in_slot = a.written; fits = small on a.fits.0 }
+        let a : Answers (text_as_message v.there on) (IsTextOn on) Died (w.this.texts on) (slot_at v.this.slots on) = found_dead (text_as_message v.there on) (IsTextOn on) (w.this.texts on) (slot_at v.this.slots on) (v.going on) (t.this.texts on z) e in
+        record { message = text_as_message v.there on a.what; in_slot = a.written; fits = small on a.fits.0 }
 
 -- the subnet loses a message
 
-lose-passes : (on k : ℕ) (w : hosts.World) (v : World) (h : Holds) → Tied w v → v.going on ≡ h → Passes v.here (flight_at This k v) (told_deed k (loses on h v).1) (flight_at This k (loses on h v).0)
+lose-passes : (on k : ℕ) (w : hosts.TwoNodes) (v : World) (h : Holds) → Tied w v → v.going on ≡ h → Passes v.here (flight_at This k v) (told_deed k (loses on h v).1) (flight_at This k (loses on h v).0)
 lose-passes on k w v Free t e = refl
 lose-passes on k w v Delivered t e = refl
 lose-passes on k w v Lost t e = refl
@@ -150,7 +150,7 @@ lose-passes on k w v (Accepted m) t e = go (on == k) refl
     go true f = subst (λ (j : ℕ). on_link j v.this.slots (set_at on Lost v.going) ≡ on_link j v.this.slots v.going) (eqb-true on k f) at_on
     go false f = unmoved on k v.this.slots v.this.slots v.going (set_at on Lost v.going) (all_apart on (slot_at v.this.slots)) (set_at-apart on Lost v.going) f
 
-die-passes : (on k : ℕ) (w : hosts.World) (v : World) (h : Holds) → Tied w v → v.going on ≡ h → Passes v.here (flight_at This k v) (told_deed k (dies on h v).1) (flight_at This k (dies on h v).0)
+die-passes : (on k : ℕ) (w : hosts.TwoNodes) (v : World) (h : Holds) → Tied w v → v.going on ≡ h → Passes v.here (flight_at This k v) (told_deed k (dies on h v).1) (flight_at This k (dies on h v).0)
 die-passes on k w v Free t e = refl
 die-passes on k w v Delivered t e = refl
 die-passes on k w v Lost t e = refl
@@ -169,7 +169,7 @@ die-passes on k w v (Accepted m) t e = go (on == k) refl
 
 -- a message is delivered
 
-deliver-passes : (on k : ℕ) (w : hosts.World) (v : World) (h : Holds) → Tied w v → v.going on ≡ h → Passes v.here (flight_at This k v) (told_deed k (delivers on h v).1) (flight_at This k (delivers on h v).0)
+deliver-passes : (on k : ℕ) (w : hosts.TwoNodes) (v : World) (h : Holds) → Tied w v → v.going on ≡ h → Passes v.here (flight_at This k v) (told_deed k (delivers on h v).1) (flight_at This k (delivers on h v).0)
 deliver-passes on k w v Free t e = refl
 deliver-passes on k w v Delivered t e = refl
 deliver-passes on k w v Lost t e = refl
@@ -190,18 +190,18 @@ deliver-passes on k w v (Accepted m) t e =
 
 -- the slots of the host to which it comes are as they were
 
-that-slots : (on : ℕ) (w : hosts.World) (v : World) (m : List Bool) → Tied w v → v.going on ≡ Accepted m → (after_received (from_host v.here m) v.that).slots ≡ v.that.slots
+that-slots : (on : ℕ) (w : hosts.TwoNodes) (v : World) (m : List Bool) → Tied w v → v.going on ≡ Accepted m → (state_after_received (from_host v.here m) v.that).slots ≡ v.that.slots
 that-slots on w v m t e = go (on == 0) refl
   where
-    go : (b : Bool) → (on == 0) ≡ b → (after_received (from_host v.here m) v.that).slots ≡ v.that.slots
+    go : (b : Bool) → (on == 0) ≡ b → (state_after_received (from_host v.here m) v.that).slots ≡ v.that.slots
     go true z =
         let c : Comes (control_bits v.there) AreCommands w.this.control (slot_at v.this.slots 0) m = delivered (control_bits v.there) AreCommands w.this.control (slot_at v.this.slots 0) (v.going 0) m t.this.control (ap v.going (sym (eqb-true on 0 z)) ∙ e) in
         ap (λ (s : PeerState). s.slots) (control-heard w v m t c) ∙ hears_all-slots c.what v.that
     go false z =
-        let c : Comes (text_bits v.there on) (IsTextOn on) (w.this.texts on) (slot_at v.this.slots on) m = delivered (text_bits v.there on) (IsTextOn on) (w.this.texts on) (slot_at v.this.slots on) (v.going on) m (t.this.texts on z) e in
+        let c : Comes (text_as_message v.there on) (IsTextOn on) (w.this.texts on) (slot_at v.this.slots on) m = delivered (text_as_message v.there on) (IsTextOn on) (w.this.texts on) (slot_at v.this.slots on) (v.going on) m (t.this.texts on z) e in
         ap (λ (s : PeerState). s.slots) (text-heard on w v m t z c)
 
-deliver-that : (on k : ℕ) (w : hosts.World) (v : World) (h : Holds) → Tied w v → v.going on ≡ h → flight_at That k (delivers on h v).0 ≡ flight_at That k v
+deliver-that : (on k : ℕ) (w : hosts.TwoNodes) (v : World) (h : Holds) → Tied w v → v.going on ≡ h → flight_at That k (delivers on h v).0 ≡ flight_at That k v
 deliver-that on k w v Free t e = refl
 deliver-that on k w v Delivered t e = refl
 deliver-that on k w v Lost t e = refl
@@ -210,7 +210,7 @@ deliver-that on k w v (Accepted m) t e = ap (λ (sl : LinkSlots). on_link k sl v
 
 -- a message is answered
 
-answer-passes : (on k : ℕ) (w : hosts.World) (v : World) (h : Holds) → Tied w v → v.going on ≡ h → Passes v.here (flight_at This k v) (told_deed k (answers_for on h v).1) (flight_at This k (answers_for on h v).0)
+answer-passes : (on k : ℕ) (w : hosts.TwoNodes) (v : World) (h : Holds) → Tied w v → v.going on ≡ h → Passes v.here (flight_at This k v) (told_deed k (answers_for on h v).1) (flight_at This k (answers_for on h v).0)
 answer-passes on k w v Free t e = refl
 answer-passes on k w v (Accepted m) t e = refl
 answer-passes on k w v Delivered t e = subst (λ (x : LinkSlots). Passes v.here (on_link k v.this.slots v.going) (if_on (on == k) honest.Taken) (on_link k x u)) (sym now) (
@@ -224,10 +224,10 @@ answer-passes on k w v Delivered t e = subst (λ (x : LinkSlots). Passes v.here 
     sl : LinkSlots
     sl = with_slot v.this.slots on slots.Empty
 
-    u : Subnet
+    u : TransitByLink
     u = set_at on Free v.going
 
-    now : (after_received (answer_bits rfnm v.there on) v.this).slots ≡ sl
+    now : (state_after_received (answer_bits rfnm v.there on) v.this).slots ≡ sl
     now = ap (λ (s : PeerState). s.slots) ((answer_comes-is v.there on v.this t.this.number o.fits).0 ∙ answered-is on Rfnm o.message v.this o.in_slot)
 
     before : on_link on v.this.slots v.going ≡ Here
@@ -246,10 +246,10 @@ answer-passes on k w v Lost t e = subst (λ (x : LinkSlots). Passes v.here (on_l
     sl : LinkSlots
     sl = with_slot v.this.slots on (slots.Ready o.message)
 
-    u : Subnet
+    u : TransitByLink
     u = set_at on Free v.going
 
-    now : (after_received (answer_bits incomplete v.there on) v.this).slots ≡ sl
+    now : (state_after_received (answer_bits incomplete v.there on) v.this).slots ≡ sl
     now = ap (λ (s : PeerState). s.slots) ((answer_comes-is v.there on v.this t.this.number o.fits).1 ∙ answered-is on Incomplete o.message v.this o.in_slot)
 
     before : on_link on v.this.slots v.going ≡ Away o.message
@@ -268,10 +268,10 @@ answer-passes on k w v Dead t e = subst (λ (x : LinkSlots). Passes v.here (on_l
     sl : LinkSlots
     sl = with_slot v.this.slots on (slots.Held o.message)
 
-    u : Subnet
+    u : TransitByLink
     u = set_at on Free v.going
 
-    now : (after_received (answer_bits destination_dead v.there on) v.this).slots ≡ sl
+    now : (state_after_received (answer_bits destination_dead v.there on) v.this).slots ≡ sl
     now = ap (λ (s : PeerState). s.slots) ((answer_comes-is v.there on v.this t.this.number o.fits).2 ∙ answered-is on answer_kinds.Dead o.message v.this o.in_slot)
 
     before : on_link on v.this.slots v.going ≡ Away o.message
@@ -297,7 +297,7 @@ made-link number on p m o e = go (on == 0) refl e
     go true z e = by_commands (next_commands p.phase.waiting) e ∙ sym (eqb-true on 0 z)
     go false z e = by_text (answer (cut_in on p.ends)) e
 
-ready-link : (on : ℕ) (w : hosts.World) (v : World) (r : List Bool) → is_wrong_link on ≡ false → Tied w v → slot_at v.this.slots on ≡ slots.Ready r → link_in r ≡ on
+ready-link : (on : ℕ) (w : hosts.TwoNodes) (v : World) (r : List Bool) → is_wrong_link on ≡ false → Tied w v → slot_at v.this.slots on ≡ slots.Ready r → link_in r ≡ on
 ready-link on w v r f t s = go (on == 0) refl
   where
     go : (b : Bool) → (on == 0) ≡ b → link_in r ≡ on
@@ -306,16 +306,16 @@ ready-link on w v r f t s = go (on == 0) refl
         let a : Again (control_bits v.there) AreCommands w.this.control r = again (control_bits v.there) AreCommands w.this.control (slot_at v.this.slots 0) (v.going 0) r t.this.control (ap (slot_at v.this.slots) (sym zero) ∙ s) in
         ap link_in a.written ∙ link-of v.there 0 8 (bits_of_bytes (spellings a.what)) (omega arith) ∙ sym zero
     go false z =
-        let a : Again (text_bits v.there on) (IsTextOn on) (w.this.texts on) r = again (text_bits v.there on) (IsTextOn on) (w.this.texts on) (slot_at v.this.slots on) (v.going on) r (t.this.texts on z) s in
+        let a : Again (text_as_message v.there on) (IsTextOn on) (w.this.texts on) r = again (text_as_message v.there on) (IsTextOn on) (w.this.texts on) (slot_at v.this.slots on) (v.going on) r (t.this.texts on z) s in
         ap link_in a.written ∙ link-of v.there on a.what.of_size a.what.bits (small on f)
 
-pub out-link : (on : ℕ) (w : hosts.World) (v : World) (m : List Bool) (s : LinkSlot) → is_wrong_link on ≡ false → Tied w v → slot_at v.this.slots on ≡ s → output_by s v.there on v.this.peer ≡ Some m → link_in m ≡ on
+pub out-link : (on : ℕ) (w : hosts.TwoNodes) (v : World) (m : List Bool) (s : LinkSlot) → is_wrong_link on ≡ false → Tied w v → slot_at v.this.slots on ≡ s → output_by s v.there on v.this.peer ≡ Some m → link_in m ≡ on
 out-link on w v m slots.Empty f t s e = made-link v.there on v.this.peer m (small on f) e
 out-link on w v m (slots.Ready r) f t s e = let x : r ≡ m = cc e in ap link_in (sym x) ∙ ready-link on w v r f t s
 out-link on w v m (slots.Travelling r) f t s e = absurd (cc e)
 out-link on w v m (slots.Held r) f t s e = absurd (cc e)
 
-out-passes : (k : ℕ) (w : hosts.World) (v : World) (o : Option (ℕ × List Bool)) → Tied w v → next_of v.there v.this ≡ o → Passes v.here (flight_at This k v) (told_deed k (goes o v).1) (flight_at This k (goes o v).0)
+out-passes : (k : ℕ) (w : hosts.TwoNodes) (v : World) (o : Option (ℕ × List Bool)) → Tied w v → next_of v.there v.this ≡ o → Passes v.here (flight_at This k v) (told_deed k (goes o v).1) (flight_at This k (goes o v).0)
 out-passes k w v None t e = refl
 out-passes k w v (Some out) t e = subst (λ (j : ℕ). Passes v.here (on_link k v.this.slots v.going) (if_on (j == k) (Sent m)) (on_link k sl (set_at j (Accepted m) v.going))) (sym link) (
     either v.here on k (Sent m) (λ (j : ℕ). on_link j v.this.slots v.going) (λ (j : ℕ). on_link j sl u)
@@ -337,7 +337,7 @@ out-passes k w v (Some out) t e = subst (λ (j : ℕ). Passes v.here (on_link k 
     sl : LinkSlots
     sl = with_slot v.this.slots on (slots.Travelling m)
 
-    u : Subnet
+    u : TransitByLink
     u = set_at on (Accepted m) v.going
 
     after : on_link on sl u ≡ Away m
@@ -382,7 +382,7 @@ woken-flight (slots.Ready m) h = refl
 woken-flight (slots.Travelling m) h = refl
 woken-flight (slots.Held m) h = refl
 
-call-passes : (asked : Asked) (k : ℕ) (s : PeerState) (u : Subnet) → on_link k (after_call asked s).slots u ≡ on_link k s.slots u
+call-passes : (asked : Asked) (k : ℕ) (s : PeerState) (u : TransitByLink) → on_link k (state_after_asked asked s).slots u ≡ on_link k s.slots u
 call-passes (Asks pair call) k s u = refl
 call-passes (Asks_echo byte) k s u = refl
 call-passes Asks_reset k s u = refl
@@ -390,7 +390,7 @@ call-passes Asks_wake k s u = ap (λ (x : LinkSlot). flight_of x (u k)) (slot_at
 
 -- each move
 
-move-passes : (st : worlds.Step) (k : ℕ) (w : hosts.World) (v : World) → Tied w v → Passes v.here (flight_at This k v) (told_deed k (moves st v).1) (flight_at This k (moves st v).0)
+move-passes : (st : worlds.WorldStep) (k : ℕ) (w : hosts.TwoNodes) (v : World) → Tied w v → Passes v.here (flight_at This k v) (told_deed k (moves st v).1) (flight_at This k (moves st v).0)
 move-passes (Call_is_made asked) k w v t = call-passes asked k v.this v.going
 move-passes Goes_out k w v t = out-passes k w v (next_of v.there v.this) t refl
 move-passes (Is_delivered on) k w v t = deliver-passes on k w v (v.going on) t refl
@@ -398,7 +398,7 @@ move-passes (Is_lost on) k w v t = lose-passes on k w v (v.going on) t refl
 move-passes (Finds_dead on) k w v t = die-passes on k w v (v.going on) t refl
 move-passes (Is_answered on) k w v t = answer-passes on k w v (v.going on) t refl
 
-move-that : (st : worlds.Step) (k : ℕ) (w : hosts.World) (v : World) → Tied w v → flight_at That k (moves st v).0 ≡ flight_at That k v
+move-that : (st : worlds.WorldStep) (k : ℕ) (w : hosts.TwoNodes) (v : World) → Tied w v → flight_at That k (moves st v).0 ≡ flight_at That k v
 move-that (Call_is_made asked) k w v t = refl
 move-that Goes_out k w v t = out-that k v (next_of v.there v.this)
 move-that (Is_delivered on) k w v t = deliver-that on k w v (v.going on) t refl
@@ -406,12 +406,12 @@ move-that (Is_lost on) k w v t = lose-that on k v (v.going on)
 move-that (Finds_dead on) k w v t = die-that on k v (v.going on)
 move-that (Is_answered on) k w v t = answer-that on k v (v.going on)
 
-pub step-passes : (at_side : Side) (st : worlds.Step) (v : World) → IsOfModel v → (side : Side) (k : ℕ)
-    → Passes (number_of_side v.here v.there side) (flight_at side k v) (deed_of side k (record { side = at_side; told = (at at_side st v).1 })) (flight_at side k (at at_side st v).0)
+pub step-passes : (at_side : Party) (st : worlds.WorldStep) (v : World) → IsOfModel v → (side : Party) (k : ℕ)
+    → Passes (number_of_side v.here v.there side) (flight_at side k v) (deed_told side k (record { side = at_side; told = (at at_side st v).1 })) (flight_at side k (at at_side st v).0)
 step-passes This st v t This k = move-passes st k t.0 v t.1
 step-passes This st v t That k = move-that st k t.0 v t.1
-step-passes That st v t That k = move-passes st k (hosts.swap t.0) (worlds.swap v) (tied-swapped t.0 v t.1)
-step-passes That st v t This k = move-that st k (hosts.swap t.0) (worlds.swap v) (tied-swapped t.0 v t.1)
+step-passes That st v t That k = move-passes st k (hosts.nodes_swapped t.0) (worlds.swap v) (tied-swapped t.0 v t.1)
+step-passes That st v t This k = move-that st k (hosts.nodes_swapped t.0) (worlds.swap v) (tied-swapped t.0 v t.1)
 
 -- the hosts keep their numbers
 
@@ -450,7 +450,7 @@ answers-numbers on Delivered v = (refl, refl)
 answers-numbers on Lost v = (refl, refl)
 answers-numbers on Dead v = (refl, refl)
 
-moves-numbers : (st : worlds.Step) (v : World) → Numbers v (moves st v).0
+moves-numbers : (st : worlds.WorldStep) (v : World) → Numbers v (moves st v).0
 moves-numbers (Call_is_made asked) v = (refl, refl)
 moves-numbers Goes_out v = goes-numbers (next_of v.there v.this) v
 moves-numbers (Is_delivered on) v = delivers-numbers on (v.going on) v
@@ -458,21 +458,21 @@ moves-numbers (Is_lost on) v = loses-numbers on (v.going on) v
 moves-numbers (Finds_dead on) v = dies-numbers on (v.going on) v
 moves-numbers (Is_answered on) v = answers-numbers on (v.going on) v
 
-at-number : (at_side : Side) (st : worlds.Step) (v : World) (side : Side) → number_of_side (at at_side st v).0.here (at at_side st v).0.there side ≡ number_of_side v.here v.there side
+at-number : (at_side : Party) (st : worlds.WorldStep) (v : World) (side : Party) → number_of_side (at at_side st v).0.here (at at_side st v).0.there side ≡ number_of_side v.here v.there side
 at-number This st v This = (moves-numbers st v).0
 at-number This st v That = (moves-numbers st v).1
 at-number That st v This = (moves-numbers st (worlds.swap v)).1
 at-number That st v That = (moves-numbers st (worlds.swap v)).0
 
-pub flies : (es : List Event) (v : World) → AreEvents es → IsOfModel v → (side : Side) (k : ℕ) → Flies (number_of_side v.here v.there side) (flight_at side k v) (deeds side k (notes_from es v))
+pub flies : (es : List WorldEvent) (v : World) → AreEvents es → IsOfModel v → (side : Party) (k : ℕ) → Flies (number_of_side v.here v.there side) (flight_at side k v) (deeds_told side k (notes_from es v))
 flies [] v ok t side k = tt
 flies (e ∷ es) v ok t side k = (
   flight_at side k (step e v).0,
   step-passes e.side e.step v t side k,
-  subst (λ (n : ℕ). Flies n (flight_at side k (step e v).0) (deeds side k (notes_from es (step e v).0))) (at-number e.side e.step v side)
+  subst (λ (n : ℕ). Flies n (flight_at side k (step e v).0) (deeds_told side k (notes_from es (step e v).0))) (at-number e.side e.step v side)
       (flies es (step e v).0 ok.1 (step-ties e.side e.step v ok.0 t) side k),
 )
 
-pub new-idle : (v : World) → IsNewWorld v → (side : Side) (k : ℕ) → flight_at side k v ≡ Idle
+pub new-idle : (v : World) → IsNewWorld v → (side : Party) (k : ℕ) → flight_at side k v ≡ Idle
 new-idle v n This k = ap (λ (s : PeerState). flight_of (slot_at s.slots k) (v.going k)) n.this ∙ ap (λ (x : LinkSlot). flight_of x (v.going k)) (slot_at-no_slots k)
 new-idle v n That k = ap (λ (s : PeerState). flight_of (slot_at s.slots k) (v.coming k)) n.that ∙ ap (λ (x : LinkSlot). flight_of x (v.coming k)) (slot_at-no_slots k)

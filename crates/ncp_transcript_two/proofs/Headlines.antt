@@ -1,13 +1,13 @@
 -- The headline, of transcripts.
 use Rattle.std.proofs.Common.{◌≡◌, ◌≢◌, ℕ, ◌==◌, Bool, true, false, if◌then◌else◌, List, [], ◌∷◌, None, Some, refl, sym, ap, ◌∙◌, subst}
 use Rattle.std.proofs.lemmas.Bool.{eq-eqb, ne_eqb}
-use Rattle.ncp_proof_resets.specs.Resets.{Side}
+use Rattle.ncp_proof_resets.specs.Resets.{Party}
 use Rattle.ncp_host.specs.PeerState.{new_state}
 use Rattle.ncp_subnet.specs.Subnet.{has_way, new_subnet}
 use Rattle.ncp_subnet.proofs.NewRows.{has_way-new, transit-new}
-use Rattle.ncp_transcript_two.specs.World.{World, Event, swap, run_from, notes_from}
+use Rattle.ncp_transcript_two.specs.World.{World, WorldEvent, swap, world_run_from, notes_from}
 use Rattle.ncp_transcript_two.specs.World as worlds
-use Rattle.ncp_transcript_two.specs.Honest.{IsHonest, IsBeginning, Repeats, number_of_side, sent, came, deeds}
+use Rattle.ncp_transcript_two.specs.Honest.{IsHonest, IsBeginningWithin, Repeats, number_of_side, sent, came, deeds_told}
 use Rattle.ncp_transcript_two.specs.Refused.{any_refused}
 use Rattle.ncp_transcript_two.specs.Watch.{Both, no_histories, histories_from}
 use Rattle.ncp_transcript_two.specs.Tie.{IsNewWorld, Tied}
@@ -68,7 +68,7 @@ module _ (ns : List Note) (w : Hosts) (t : IsTranscript ns w) where
   f : Follows ns (began w) first
   f = follows ns (began w) t.run stands (new-ties first new)
 
-  last : run_from f.events first ≡ seen w
+  last : world_run_from f.events first ≡ seen w
   last = f.state ∙ ap seen (sym t.state)
 
   pub of-rules : IsOfRules ns w
@@ -84,24 +84,24 @@ module _ (ns : List Note) (w : Hosts) (t : IsTranscript ns w) where
       let m = watched-all in
       let r = reached-run m.1.reached in (
         r.0,
-        subst (λ (x : hosts.World). Tied x (seen w)) (sym r.1) m.1,
-        ap (λ (x : hosts.World). x.this.pasts) r.1 ∙ ap (λ (b : Both). b.this) m.2,
-        ap (λ (x : hosts.World). x.that.pasts) r.1 ∙ ap (λ (b : Both). b.that) m.2,
+        subst (λ (x : hosts.TwoNodes). Tied x (seen w)) (sym r.1) m.1,
+        ap (λ (x : hosts.TwoNodes). x.this.pasts) r.1 ∙ ap (λ (b : Both). b.this) m.2,
+        ap (λ (x : hosts.TwoNodes). x.that.pasts) r.1 ∙ ap (λ (b : Both). b.that) m.2,
       )
 
   pub none-is-refused : any_refused (told ns) ≡ false
-  none-is-refused = subst (λ (ms : List worlds.Note). any_refused ms ≡ false) f.said (none-refused f.events first f.are (new-ties first new))
+  none-is-refused = subst (λ (ms : List worlds.WorldNote). any_refused ms ≡ false) f.said (none-refused f.events first f.are (new-ties first new))
 
-  each : (side : Side) (on : ℕ) → Flies (number_of_side w.number_a w.number_b side) Idle (deeds side on (told ns))
+  each : (side : Party) (on : ℕ) → Flies (number_of_side w.number_a w.number_b side) Idle (deeds_told side on (told ns))
   each side on =
-      subst (λ (ms : List worlds.Note). Flies (number_of_side w.number_a w.number_b side) Idle (deeds side on ms)) f.said
-      (subst (λ (g : Flight). Flies (number_of_side w.number_a w.number_b side) g (deeds side on (notes_from f.events first))) (new-idle first new side on) (flies f.events first f.are (new-ties first new) side on))
+      subst (λ (ms : List worlds.WorldNote). Flies (number_of_side w.number_a w.number_b side) Idle (deeds_told side on ms)) f.said
+      (subst (λ (g : Flight). Flies (number_of_side w.number_a w.number_b side) g (deeds_told side on (notes_from f.events first))) (new-idle first new side on) (flies f.events first f.are (new-ties first new) side on))
 
   pub is-honest : IsHonest w.number_a w.number_b (told ns)
-  is-honest side on = honest (number_of_side w.number_a w.number_b side) Idle (deeds side on (told ns)) (each side on)
+  is-honest side on = honest (number_of_side w.number_a w.number_b side) Idle (deeds_told side on (told ns)) (each side on)
 
-  pub came-begins : (side : Side) (on : ℕ) → IsBeginning 1 (came side on (told ns)) (sent (number_of_side w.number_a w.number_b side) side on (told ns))
-  came-begins side on = begins (number_of_side w.number_a w.number_b side) Idle true (deeds side on (told ns)) refl (each side on)
+  pub came-begins : (side : Party) (on : ℕ) → IsBeginningWithin 1 (came side on (told ns)) (sent (number_of_side w.number_a w.number_b side) side on (told ns))
+  came-begins side on = begins (number_of_side w.number_a w.number_b side) Idle true (deeds_told side on (told ns)) refl (each side on)
 
-  pub goes-again : (side : Side) (on : ℕ) → Repeats side on (told ns)
-  goes-again side on = repeats (number_of_side w.number_a w.number_b side) Idle [] true (deeds side on (told ns)) refl tt (each side on)
+  pub goes-again : (side : Party) (on : ℕ) → Repeats side on (told ns)
+  goes-again side on = repeats (number_of_side w.number_a w.number_b side) Idle [] true (deeds_told side on (told ns)) refl tt (each side on)

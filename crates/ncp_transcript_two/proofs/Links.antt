@@ -9,8 +9,8 @@ use Rattle.ncp_slot.proofs.Places.{slot_at-with_slot_other}
 use Rattle.ncp_proof_resets.specs.Delivery.{Link, undelivered}
 use Rattle.ncp_proof_resets.specs.Delivery as model
 use Rattle.ncp_proof_machine.specs.Hosts.{TextOut, set_link}
-use Rattle.ncp_transcript_two.specs.Subnet.{Holds, Accepted, Delivered, Lost, Dead, Subnet, set_at}
-use Rattle.ncp_transcript_two.specs.Tie.{Place, Nowhere, Waits, Goes, Came, Failed, Died, Kept, model_of, slot_of, holds_of, OfMessage, Carries, text_bits, IsTextOn}
+use Rattle.ncp_transcript_two.specs.Subnet.{Holds, Accepted, Delivered, Lost, Dead, TransitByLink, set_at}
+use Rattle.ncp_transcript_two.specs.Tie.{Whereabouts, Nowhere, Waits, Goes, Came, Failed, Died, Kept, model_of, slot_of, holds_of, OfMessage, Carries, text_as_message, IsTextOn}
 
 module _ {M : Type 0} (write : M → List Bool) (P : M → Type 0) where
   pub carried : (l k : Link M) (s r : LinkSlot) (h i : Holds) → k ≡ l → r ≡ s → i ≡ h → Carries write P l s h → Carries write P k r i
@@ -19,7 +19,7 @@ module _ {M : Type 0} (write : M → List Bool) (P : M → Type 0) where
   pub lost : (l : Link M) (s : LinkSlot) (h : Holds) (m : List Bool) → Carries write P l s h → h ≡ Accepted m → Carries write P (record l { subnet = undelivered model.Lost l.subnet }) s Lost
   lost l s h m c e = go c.place c.model c.in_slot (sym c.in_subnet ∙ e) c.fits
     where
-      go : (p : Place M) → l ≡ model_of p → s ≡ slot_of write p → holds_of write p ≡ Accepted m → OfMessage P p → Carries write P (record l { subnet = undelivered model.Lost l.subnet }) s Lost
+      go : (p : Whereabouts M) → l ≡ model_of p → s ≡ slot_of write p → holds_of write p ≡ Accepted m → OfMessage P p → Carries write P (record l { subnet = undelivered model.Lost l.subnet }) s Lost
       go Nowhere a b d f = absurd (cc d)
       go (Waits x) a b d f = absurd (cc d)
       go (Goes x) a b d f = record { place = Failed x; model = ap (λ (k : Link M). (let n : Link M = record k { subnet = undelivered model.Lost k.subnet } in n)) a; in_slot = b; in_subnet = refl; fits = f }
@@ -31,7 +31,7 @@ module _ {M : Type 0} (write : M → List Bool) (P : M → Type 0) where
   pub died : (l : Link M) (s : LinkSlot) (h : Holds) (m : List Bool) → Carries write P l s h → h ≡ Accepted m → Carries write P (record l { subnet = undelivered model.Dead l.subnet }) s Dead
   died l s h m c e = go c.place c.model c.in_slot (sym c.in_subnet ∙ e) c.fits
     where
-      go : (p : Place M) → l ≡ model_of p → s ≡ slot_of write p → holds_of write p ≡ Accepted m → OfMessage P p → Carries write P (record l { subnet = undelivered model.Dead l.subnet }) s Dead
+      go : (p : Whereabouts M) → l ≡ model_of p → s ≡ slot_of write p → holds_of write p ≡ Accepted m → OfMessage P p → Carries write P (record l { subnet = undelivered model.Dead l.subnet }) s Dead
       go Nowhere a b d f = absurd (cc d)
       go (Waits x) a b d f = absurd (cc d)
       go (Goes x) a b d f = record { place = Died x; model = ap (λ (k : Link M). (let n : Link M = record k { subnet = undelivered model.Dead k.subnet } in n)) a; in_slot = b; in_subnet = refl; fits = f }
@@ -44,7 +44,7 @@ module _ {M : Type 0} (write : M → List Bool) (P : M → Type 0) where
   pub wakes : (l : Link M) (s : LinkSlot) (h : Holds) → Carries write P l s h → Carries write P (record { slot = woken l.slot; subnet = l.subnet }) (woken s) h
   wakes l s h c = go c.place c.model c.in_slot c.in_subnet c.fits
     where
-      go : (p : Place M) → l ≡ model_of p → s ≡ slot_of write p → h ≡ holds_of write p → OfMessage P p → Carries write P (record { slot = woken l.slot; subnet = l.subnet }) (woken s) h
+      go : (p : Whereabouts M) → l ≡ model_of p → s ≡ slot_of write p → h ≡ holds_of write p → OfMessage P p → Carries write P (record { slot = woken l.slot; subnet = l.subnet }) (woken s) h
       go Nowhere a b d f = record { place = Nowhere; model = ap (λ (k : Link M). (let n : Link M = record { slot = woken k.slot; subnet = k.subnet } in n)) a; in_slot = ap (λ (x : LinkSlot). woken x) b; in_subnet = d; fits = f }
       go (Waits x) a b d f = record { place = Waits x; model = ap (λ (k : Link M). (let n : Link M = record { slot = woken k.slot; subnet = k.subnet } in n)) a; in_slot = ap (λ (x : LinkSlot). woken x) b; in_subnet = d; fits = f }
       go (Goes x) a b d f = record { place = Goes x; model = ap (λ (k : Link M). (let n : Link M = record { slot = woken k.slot; subnet = k.subnet } in n)) a; in_slot = ap (λ (x : LinkSlot). woken x) b; in_subnet = d; fits = f }
@@ -63,7 +63,7 @@ module _ {M : Type 0} (write : M → List Bool) (P : M → Type 0) where
   pub delivered : (l : Link M) (s : LinkSlot) (h : Holds) (m : List Bool) → Carries write P l s h → h ≡ Accepted m → Comes l s m
   delivered l s h m c e = go c.place c.model c.in_slot (sym c.in_subnet ∙ e) c.fits
     where
-      go : (p : Place M) → l ≡ model_of p → s ≡ slot_of write p → holds_of write p ≡ Accepted m → OfMessage P p → Comes l s m
+      go : (p : Whereabouts M) → l ≡ model_of p → s ≡ slot_of write p → holds_of write p ≡ Accepted m → OfMessage P p → Comes l s m
       go Nowhere a b d f = absurd (cc d)
       go (Waits x) a b d f = absurd (cc d)
       go (Goes x) a b d f = record {
@@ -78,7 +78,7 @@ module _ {M : Type 0} (write : M → List Bool) (P : M → Type 0) where
       go (Died x) a b d f = absurd (cc d)
       go (Kept x) a b d f = absurd (cc d)
 
-  pub record Answers (p : M → Place M) (l : Link M) (s : LinkSlot) : Type 0 where
+  pub record Answers (p : M → Whereabouts M) (l : Link M) (s : LinkSlot) : Type 0 where
     pub what : M
     pub there : l ≡ model_of (p what)
     pub written : s ≡ slots.Travelling (write what)
@@ -87,7 +87,7 @@ module _ {M : Type 0} (write : M → List Bool) (P : M → Type 0) where
   pub taken : (l : Link M) (s : LinkSlot) (h : Holds) → Carries write P l s h → h ≡ Delivered → Answers Came l s
   taken l s h c e = go c.place c.model c.in_slot (sym c.in_subnet ∙ e) c.fits
     where
-      go : (p : Place M) → l ≡ model_of p → s ≡ slot_of write p → holds_of write p ≡ Delivered → OfMessage P p → Answers Came l s
+      go : (p : Whereabouts M) → l ≡ model_of p → s ≡ slot_of write p → holds_of write p ≡ Delivered → OfMessage P p → Answers Came l s
       go Nowhere a b d f = absurd (cc d)
       go (Waits x) a b d f = absurd (cc d)
       go (Goes x) a b d f = absurd (cc d)
@@ -99,7 +99,7 @@ module _ {M : Type 0} (write : M → List Bool) (P : M → Type 0) where
   pub refused : (l : Link M) (s : LinkSlot) (h : Holds) → Carries write P l s h → h ≡ Lost → Answers Failed l s
   refused l s h c e = go c.place c.model c.in_slot (sym c.in_subnet ∙ e) c.fits
     where
-      go : (p : Place M) → l ≡ model_of p → s ≡ slot_of write p → holds_of write p ≡ Lost → OfMessage P p → Answers Failed l s
+      go : (p : Whereabouts M) → l ≡ model_of p → s ≡ slot_of write p → holds_of write p ≡ Lost → OfMessage P p → Answers Failed l s
       go Nowhere a b d f = absurd (cc d)
       go (Waits x) a b d f = absurd (cc d)
       go (Goes x) a b d f = absurd (cc d)
@@ -111,7 +111,7 @@ module _ {M : Type 0} (write : M → List Bool) (P : M → Type 0) where
   pub found_dead : (l : Link M) (s : LinkSlot) (h : Holds) → Carries write P l s h → h ≡ Dead → Answers Died l s
   found_dead l s h c e = go c.place c.model c.in_slot (sym c.in_subnet ∙ e) c.fits
     where
-      go : (p : Place M) → l ≡ model_of p → s ≡ slot_of write p → holds_of write p ≡ Dead → OfMessage P p → Answers Died l s
+      go : (p : Whereabouts M) → l ≡ model_of p → s ≡ slot_of write p → holds_of write p ≡ Dead → OfMessage P p → Answers Died l s
       go Nowhere a b d f = absurd (cc d)
       go (Waits x) a b d f = absurd (cc d)
       go (Goes x) a b d f = absurd (cc d)
@@ -124,7 +124,7 @@ module _ {M : Type 0} (write : M → List Bool) (P : M → Type 0) where
   pub away : (l : Link M) (s : LinkSlot) (h : Holds) (m : List Bool) → Carries write P l s h → h ≡ Accepted m → (x : M) × P x × (s ≡ slots.Travelling m)
   away l s h m c e = go c.place c.in_slot (sym c.in_subnet ∙ e) c.fits
     where
-      go : (p : Place M) → s ≡ slot_of write p → holds_of write p ≡ Accepted m → OfMessage P p → (x : M) × P x × (s ≡ slots.Travelling m)
+      go : (p : Whereabouts M) → s ≡ slot_of write p → holds_of write p ≡ Accepted m → OfMessage P p → (x : M) × P x × (s ≡ slots.Travelling m)
       go Nowhere b d f = absurd (cc d)
       go (Waits x) b d f = absurd (cc d)
       go (Goes x) b d f = let same : write x ≡ m = cc d in (x, f, b ∙ ap (λ (x : List Bool). slots.Travelling x) same)
@@ -136,7 +136,7 @@ module _ {M : Type 0} (write : M → List Bool) (P : M → Type 0) where
   pub nothing : (l : Link M) (s : LinkSlot) (h : Holds) → Carries write P l s h → s ≡ slots.Empty → l ≡ model_of Nowhere
   nothing l s h c e = go c.place c.model (sym c.in_slot ∙ e)
     where
-      go : (p : Place M) → l ≡ model_of p → slot_of write p ≡ slots.Empty → l ≡ model_of Nowhere
+      go : (p : Whereabouts M) → l ≡ model_of p → slot_of write p ≡ slots.Empty → l ≡ model_of Nowhere
       go Nowhere a d = a
       go (Waits x) a d = absurd (cc d)
       go (Goes x) a d = absurd (cc d)
@@ -154,7 +154,7 @@ module _ {M : Type 0} (write : M → List Bool) (P : M → Type 0) where
   pub again : (l : Link M) (s : LinkSlot) (h : Holds) (m : List Bool) → Carries write P l s h → s ≡ slots.Ready m → Again l m
   again l s h m c e = go c.place c.model (sym c.in_slot ∙ e) c.fits
     where
-      go : (p : Place M) → l ≡ model_of p → slot_of write p ≡ slots.Ready m → OfMessage P p → Again l m
+      go : (p : Whereabouts M) → l ≡ model_of p → slot_of write p ≡ slots.Ready m → OfMessage P p → Again l m
       go Nowhere a d f = absurd (cc d)
       go (Waits x) a d f = record { what = x; there = a; written = sym (cc d); fits = f }
       go (Goes x) a d f = absurd (cc d)
@@ -165,29 +165,29 @@ module _ {M : Type 0} (write : M → List Bool) (P : M → Type 0) where
 
 -- All links, of which one has changed.
 
-abbrev pub Texts : ℕ → (ℕ → Link TextOut) → LinkSlots → Subnet → Type 0
-Texts there t s u = (k : ℕ) → (k == 0) ≡ false → Carries (text_bits there k) (IsTextOn k) (t k) (slot_at s k) (u k)
+abbrev pub Texts : ℕ → (ℕ → Link TextOut) → LinkSlots → TransitByLink → Type 0
+Texts there t s u = (k : ℕ) → (k == 0) ≡ false → Carries (text_as_message there k) (IsTextOn k) (t k) (slot_at s k) (u k)
 
 abbrev pub Apart : {A : Type 0} → ℕ → (ℕ → A) → (ℕ → A) → Type 0
 Apart on f g = (k : ℕ) → (k == on) ≡ false → g k ≡ f k
 
-pub texts_changed : (there on : ℕ) (t t' : ℕ → Link TextOut) (s s' : LinkSlots) (u u' : Subnet)
+pub texts_changed : (there on : ℕ) (t t' : ℕ → Link TextOut) (s s' : LinkSlots) (u u' : TransitByLink)
     → Apart on t t' → Apart on (slot_at s) (slot_at s') → Apart on u u'
-    → ((on == 0) ≡ false → Carries (text_bits there on) (IsTextOn on) (t' on) (slot_at s' on) (u' on))
+    → ((on == 0) ≡ false → Carries (text_as_message there on) (IsTextOn on) (t' on) (slot_at s' on) (u' on))
     → Texts there t s u → Texts there t' s' u'
 texts_changed there on t t' s s' u u' p q r new old k z = go (k == on) refl
   where
-    go : (b : Bool) → (k == on) ≡ b → Carries (text_bits there k) (IsTextOn k) (t' k) (slot_at s' k) (u' k)
-    go true e = subst (λ (j : ℕ). (j == 0) ≡ false → Carries (text_bits there j) (IsTextOn j) (t' j) (slot_at s' j) (u' j)) (sym (eqb-true k on e)) new z
-    go false e = carried (text_bits there k) (IsTextOn k) (t k) (t' k) (slot_at s k) (slot_at s' k) (u k) (u' k) (p k e) (q k e) (r k e) (old k z)
+    go : (b : Bool) → (k == on) ≡ b → Carries (text_as_message there k) (IsTextOn k) (t' k) (slot_at s' k) (u' k)
+    go true e = subst (λ (j : ℕ). (j == 0) ≡ false → Carries (text_as_message there j) (IsTextOn j) (t' j) (slot_at s' j) (u' j)) (sym (eqb-true k on e)) new z
+    go false e = carried (text_as_message there k) (IsTextOn k) (t k) (t' k) (slot_at s k) (slot_at s' k) (u k) (u' k) (p k e) (q k e) (r k e) (old k z)
 
 pub all_apart : {A : Type 0} (on : ℕ) (f : ℕ → A) → Apart on f f
 all_apart on f k e = refl
 
-pub set_at-apart : (on : ℕ) (h : Holds) (u : Subnet) → Apart on u (set_at on h u)
+pub set_at-apart : (on : ℕ) (h : Holds) (u : TransitByLink) → Apart on u (set_at on h u)
 set_at-apart on h u k e = rw e refl
 
-pub set_at-same : (on : ℕ) (h : Holds) (u : Subnet) → set_at on h u on ≡ h
+pub set_at-same : (on : ℕ) (h : Holds) (u : TransitByLink) → set_at on h u on ≡ h
 set_at-same on h u = rw (eq-eqb on on refl) refl
 
 pub set_link-apart : (on : ℕ) (l : Link TextOut) (t : ℕ → Link TextOut) → Apart on t (set_link on l t)

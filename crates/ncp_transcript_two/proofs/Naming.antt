@@ -19,8 +19,8 @@ use Rattle.ncp_transcript_two.specs.declared.event.Event.TheVariants as events
 use Rattle.ncp_transcript_two.specs.declared.note.Move.TheVariants as moves
 use Rattle.ncp_transcript_two.specs.declared.note.Note.{Note}
 use Rattle.ncp_transcript_two.specs.declared.note.Note.TheVariants as notes
-use Rattle.ncp_transcript_two.specs.Between.{Hosts, other, number_of, after_note, after_notes}
-use Rattle.ncp_transcript_two.specs.Happening.{Noted, came, answered}
+use Rattle.ncp_transcript_two.specs.Between.{Hosts, other, side_number, hosts_after_note, hosts_after_notes}
+use Rattle.ncp_transcript_two.specs.Happening.{Noted, note_of_coming, note_of_answering}
 use Rattle.ncp_transcript_two.specs.Transcript.{began, IsTranscript}
 use Rattle.ncp_transcript_two.specs.Seen.{seen}
 use Rattle.ncp_transcript_two.specs.Naming.{IsMessageFrom, IsAnswerAbout}
@@ -46,7 +46,7 @@ abbrev pub AnswerNamed : Option (List Bool) → ℕ → ℕ → Hosts → Type 0
 AnswerNamed None number link w = Unit {0}
 AnswerNamed (Some bits) number link w = IsAnswerAbout number link (note_of_bits bits w.a)
 
-module _ (w : Hosts) (k : Stand w) (x : hosts.World) (t : Tied x (seen w)) where
+module _ (w : Hosts) (k : Stand w) (x : hosts.TwoNodes) (t : Tied x (seen w)) where
   come-named : (link : ℕ) (h : Holds) → (seen w).going link ≡ h → ComeNamed (arriving w.number_a h) w.number_a link w
   come-named link Free e = tt
   come-named link Delivered e = tt
@@ -78,25 +78,25 @@ module _ (w : Hosts) (k : Stand w) (x : hosts.World) (t : Tied x (seen w)) where
 abbrev Named : Note → Hosts → Type 0
 Named (notes.Called side note) w = Unit {0}
 Named (notes.Out side note) w = Unit {0}
-Named (notes.Came side link note) w = IsMessageFrom (number_of side w) link note
+Named (notes.Came side link note) w = IsMessageFrom (side_number side w) link note
 Named (notes.Lost side link) w = Unit {0}
 Named (notes.FoundDead side link) w = Unit {0}
-Named (notes.Answered side link note) w = IsAnswerAbout (number_of (other side) w) link note
+Named (notes.Answered side link note) w = IsAnswerAbout (side_number (other side) w) link note
 Named (notes.Nothing side link wanted) w = Unit {0}
 
-a-came : (link : ℕ) (o : Option (List Bool)) (w : Hosts) → ComeNamed o w.number_a link w → Named (came A link o w) w
+a-came : (link : ℕ) (o : Option (List Bool)) (w : Hosts) → ComeNamed o w.number_a link w → Named (note_of_coming A link o w) w
 a-came link None w n = tt
 a-came link (Some bits) w n = n
 
-b-came : (link : ℕ) (o : Option (List Bool)) (w : Hosts) → ComeNamed o w.number_b link (turned w) → Named (came B link o w) w
+b-came : (link : ℕ) (o : Option (List Bool)) (w : Hosts) → ComeNamed o w.number_b link (turned w) → Named (note_of_coming B link o w) w
 b-came link None w n = tt
 b-came link (Some bits) w n = n
 
-a-answered : (link : ℕ) (o : Option (List Bool)) (w : Hosts) → AnswerNamed o w.number_b link w → Named (answered A link o w) w
+a-answered : (link : ℕ) (o : Option (List Bool)) (w : Hosts) → AnswerNamed o w.number_b link w → Named (note_of_answering A link o w) w
 a-answered link None w n = tt
 a-answered link (Some bits) w n = n
 
-b-answered : (link : ℕ) (o : Option (List Bool)) (w : Hosts) → AnswerNamed o w.number_a link (turned w) → Named (answered B link o w) w
+b-answered : (link : ℕ) (o : Option (List Bool)) (w : Hosts) → AnswerNamed o w.number_a link (turned w) → Named (note_of_answering B link o w) w
 b-answered link None w n = tt
 b-answered link (Some bits) w n = n
 
@@ -108,8 +108,8 @@ dead-named : (side : Side) (link : ℕ) (b : Bool) (w : Hosts) → Named (if b t
 dead-named side link true w = tt
 dead-named side link false w = tt
 
-module _ (w : Hosts) (k : Stand w) (x : hosts.World) (t : Tied x (seen w)) where
-  back : Tied (hosts.swap x) (seen (turned w))
+module _ (w : Hosts) (k : Stand w) (x : hosts.TwoNodes) (t : Tied x (seen w)) where
+  back : Tied (hosts.nodes_swapped x) (seen (turned w))
   back = tied-swapped x (seen w) t
 
   named : (event : Event) (note : Note) → Noted event note w → Named note w
@@ -118,29 +118,29 @@ module _ (w : Hosts) (k : Stand w) (x : hosts.World) (t : Tied x (seen w)) where
   named (events.Lose side link) note n = subst (λ (m : Note). Named m w) (sym n) (lost-named side link _ w)
   named (events.Dead side link) note n = subst (λ (m : Note). Named m w) (sym n) (dead-named side link _ w)
   named (events.Deliver A link) note n = subst (λ (m : Note). Named m w) (sym n) (a-came link (arriving w.number_a ((seen w).going link)) w (come-named w k x t link ((seen w).going link) refl))
-  named (events.Deliver B link) note n = subst (λ (m : Note). Named m w) (sym n) (b-came link (arriving w.number_b ((seen w).coming link)) w (come-named (turned w) (stand-turned w k) (hosts.swap x) back link ((seen w).coming link) refl))
+  named (events.Deliver B link) note n = subst (λ (m : Note). Named m w) (sym n) (b-came link (arriving w.number_b ((seen w).coming link)) w (come-named (turned w) (stand-turned w k) (hosts.nodes_swapped x) back link ((seen w).coming link) refl))
   named (events.Answer A link) note n = subst (λ (m : Note). Named m w) (sym n) (a-answered link (answer_about w.number_b link ((seen w).going link)) w (answer-named w k x t link ((seen w).going link) refl))
-  named (events.Answer B link) note n = subst (λ (m : Note). Named m w) (sym n) (b-answered link (answer_about w.number_a link ((seen w).coming link)) w (answer-named (turned w) (stand-turned w k) (hosts.swap x) back link ((seen w).coming link) refl))
+  named (events.Answer B link) note n = subst (λ (m : Note). Named m w) (sym n) (b-answered link (answer_about w.number_a link ((seen w).coming link)) w (answer-named (turned w) (stand-turned w k) (hosts.nodes_swapped x) back link ((seen w).coming link) refl))
 
 -- the numbers of the hosts stay
 
-began_all : (ns : List Note) (w : Hosts) → began (after_notes ns w) ≡ began w
+began_all : (ns : List Note) (w : Hosts) → began (hosts_after_notes ns w) ≡ began w
 began_all [] w = refl
-began_all (n ∷ ns) w = began_all ns (after_note n w) ∙ began_noted n w
+began_all (n ∷ ns) w = began_all ns (hosts_after_note n w) ∙ began_noted n w
 
-number_stays : (side : Side) (ns : List Note) (w : Hosts) → number_of side (after_notes ns (began w)) ≡ number_of side w
+number_stays : (side : Side) (ns : List Note) (w : Hosts) → side_number side (hosts_after_notes ns (began w)) ≡ side_number side w
 number_stays A ns w = ap (λ (x : Hosts). x.number_a) (began_all ns (began w))
 number_stays B ns w = ap (λ (x : Hosts). x.number_b) (began_all ns (began w))
 
 module _ (before after : List Note) (w : Hosts) where
-  at : (note : Note) → IsTranscript (before ++ note ∷ after) w → Named note (after_notes before (began w))
+  at : (note : Note) → IsTranscript (before ++ note ∷ after) w → Named note (hosts_after_notes before (began w))
   at note t =
       let s = said_at before after note (began w) t.run in
       let m = stands-at before (began w) (run_before before (note ∷ after) (began w) t.run) (stands (before ++ note ∷ after) w t) (new-ties (seen (began w)) (new (before ++ note ∷ after) w t)) in
-      named (after_notes before (began w)) m.0 m.1.0 m.1.1 s.0 note s.1
+      named (hosts_after_notes before (began w)) m.0 m.1.0 m.1.1 s.0 note s.1
 
-  pub came-named : (side : Side) (link : ℕ) (note : HostNote) → IsTranscript (before ++ notes.Came side link note ∷ after) w → IsMessageFrom (number_of side w) link note
+  pub came-named : (side : Side) (link : ℕ) (note : HostNote) → IsTranscript (before ++ notes.Came side link note ∷ after) w → IsMessageFrom (side_number side w) link note
   came-named side link note t = subst (λ (n : ℕ). IsMessageFrom n link note) (number_stays side before w) (at (notes.Came side link note) t)
 
-  pub answered-named : (side : Side) (link : ℕ) (note : HostNote) → IsTranscript (before ++ notes.Answered side link note ∷ after) w → IsAnswerAbout (number_of (other side) w) link note
+  pub answered-named : (side : Side) (link : ℕ) (note : HostNote) → IsTranscript (before ++ notes.Answered side link note ∷ after) w → IsAnswerAbout (side_number (other side) w) link note
   answered-named side link note t = subst (λ (n : ℕ). IsAnswerAbout n link note) (number_stays (other side) before w) (at (notes.Answered side link note) t)

@@ -83,15 +83,15 @@ module _ (h : Host) (bits : List Bool) (l : Leader) (one : numbers_of h.peers �
       ap (λ (r : Result Leader _). arrivals.received_with r bits h) led
       ∙ ap (λ (b : Bool). if b then arrivals.received_from (state_of h l.host) l bits else cases.Other l.kind) kind
       ∙ ap (λ (o : Option PeerState). arrivals.received_from o l bits) (has-peer l.host h one)
-      ∙ ap (λ (r : Result Leader _). worlds.received_with r bits (had_for l.host h)) (sym led)
+      ∙ ap (λ (r : Result Leader _). worlds.state_received_with r bits (had_for l.host h)) (sym led)
 
-  pub had-received : had_for l.host (arrivals.after_received bits h) ≡ worlds.after_received bits (had_for l.host h)
+  pub had-received : had_for l.host (arrivals.after_received bits h) ≡ worlds.state_after_received bits (had_for l.host h)
   had-received =
       ap (λ (r : Result Leader _). had_for l.host (arrivals.after_with r bits h)) led
       ∙ ap (λ (b : Bool). had_for l.host (if b then arrivals.after_from (state_of h l.host) l bits h else arrivals.one_other h)) kind
       ∙ ap (λ (o : Option PeerState). had_for l.host (arrivals.after_from o l bits h)) (has-peer l.host h one)
       ∙ had-changed l.host (after_bits l bits) h one
-      ∙ ap (λ (r : Result Leader _). worlds.after_with r bits (had_for l.host h)) (sym led)
+      ∙ ap (λ (r : Result Leader _). worlds.state_after_with r bits (had_for l.host h)) (sym led)
 
 -- they are noted as a message, or as an answer
 

@@ -35,13 +35,13 @@ use Rattle.ncp_transcript.specs.Noting.{note_of_bits, note_of_message, note_of_o
 use Rattle.ncp_transcript_two.specs.Subnet.{Holds, Free, Accepted, Delivered, Lost, Dead, set_at, link_in, from_host, answer_bits}
 use Rattle.ncp_transcript_two.specs.World.{World, Told, Out, In, Went_lost, Went_dead, Answered, Nothing, Goes_out, Is_delivered, Is_lost, Finds_dead, Is_answered, goes, delivers, loses, dies, answers_for}
 use Rattle.ncp_transcript_two.specs.World as worlds
-use Rattle.ncp_transcript_two.specs.Tie.{Place, Nowhere, Waits, Goes, Came, Failed, Died, Kept, slot_of, holds_of, Carries, control_bits, text_bits, AreCommands, IsTextOn, Tied}
+use Rattle.ncp_transcript_two.specs.Tie.{Whereabouts, Nowhere, Waits, Goes, Came, Failed, Died, Kept, slot_of, holds_of, Carries, control_bits, text_as_message, AreCommands, IsTextOn, Tied}
 use Rattle.ncp_transcript_two.specs.declared.side.Side.TheVariants.{A}
 use Rattle.ncp_transcript_two.specs.declared.note.Move.TheVariants as wanted
 use Rattle.ncp_transcript_two.specs.declared.note.Note.{Note}
 use Rattle.ncp_transcript_two.specs.declared.note.Note.TheVariants as notes
-use Rattle.ncp_transcript_two.specs.Between.{Hosts, is_regular, taken, sent_out, after_note}
-use Rattle.ncp_transcript_two.specs.Happening.{came, answered}
+use Rattle.ncp_transcript_two.specs.Between.{Hosts, is_regular, accepted_from, sent_out, hosts_after_note}
+use Rattle.ncp_transcript_two.specs.Happening.{note_of_coming, note_of_answering}
 use Rattle.ncp_transcript_two.specs.Seen.{had_for, seen, told_out, told_of}
 use Rattle.ncp_transcript_two.proofs.Accepting.{taken_yes, both, of_le}
 use Rattle.ncp_transcript_two.proofs.OnePeer.{had-changed, next-message, had-sent, received-same, had-received, noted-message, noted-answer}
@@ -54,7 +54,7 @@ use Rattle.ncp_transcript_two.proofs.SeenSteps.{Stand, Does, seen_with}
 
 -- The leader of a message that the subnet has, as it was sent and as it comes.
 
-pub sent-led : (on : ℕ) (x : hosts.World) (v : World) (m : List Bool) → Tied x v → v.going on ≡ Accepted m → (leader_in m ≡ Ok (leader_to v.there on)) × (leader_in (from_host v.here m) ≡ Ok (leader_to v.here on))
+pub sent-led : (on : ℕ) (x : hosts.TwoNodes) (v : World) (m : List Bool) → Tied x v → v.going on ≡ Accepted m → (leader_in m ≡ Ok (leader_to v.there on)) × (leader_in (from_host v.here m) ≡ Ok (leader_to v.here on))
 sent-led on x v m t e = go (on == 0) refl
   where
     by_control : v.going 0 ≡ Accepted m → (leader_in m ≡ Ok (leader_to v.there 0)) × (leader_in (from_host v.here m) ≡ Ok (leader_to v.here 0))
@@ -68,7 +68,7 @@ sent-led on x v m t e = go (on == 0) refl
     go : (b : Bool) → (on == 0) ≡ b → (leader_in m ≡ Ok (leader_to v.there on)) × (leader_in (from_host v.here m) ≡ Ok (leader_to v.here on))
     go true z = subst (λ (k : ℕ). v.going k ≡ Accepted m → (leader_in m ≡ Ok (leader_to v.there k)) × (leader_in (from_host v.here m) ≡ Ok (leader_to v.here k))) (sym (eqb-true on 0 z)) by_control e
     go false z =
-        let c : Comes (text_bits v.there on) (IsTextOn on) (x.this.texts on) (slot_at v.this.slots on) m = delivered (text_bits v.there on) (IsTextOn on) (x.this.texts on) (slot_at v.this.slots on) (v.going on) m (t.this.texts on z) e in (
+        let c : Comes (text_as_message v.there on) (IsTextOn on) (x.this.texts on) (slot_at v.this.slots on) m = delivered (text_as_message v.there on) (IsTextOn on) (x.this.texts on) (slot_at v.this.slots on) (v.going on) m (t.this.texts on z) e in (
           ap leader_in c.written ∙ led v.there on c.what.of_size c.what.bits t.this.number (small on c.fits.0) c.fits.1,
           ap (λ (b : List Bool). leader_in (from_host v.here b)) c.written ∙ ap leader_in (from_host-message v.here v.there on c.what.of_size c.what.bits) ∙ led v.here on c.what.of_size c.what.bits t.that.number (small on c.fits.0) c.fits.1,
         )
@@ -91,7 +91,7 @@ free-of write P l s h c number on p m o = go c.place c.in_slot c.in_subnet
     held : (r : List Bool) → s ≡ slots.Held r → h ≡ Free
     held r e = let none : None ≡ Some m = ap (λ (x : LinkSlot). output_by x number on p) (sym e) ∙ o in absurd (cc none)
 
-    go : (place : Place _) → s ≡ slot_of write place → h ≡ holds_of write place → h ≡ Free
+    go : (place : Whereabouts _) → s ≡ slot_of write place → h ≡ holds_of write place → h ≡ Free
     go Nowhere a b = b
     go (Waits x) a b = b
     go (Goes x) a b = stuck (write x) a
@@ -104,7 +104,7 @@ pub record Leaves (v : World) (out : ℕ × List Bool) : Type 0 where
   led : leader_in out.1 ≡ Ok (leader_to v.there (link_in out.1))
   free : v.going (link_in out.1) ≡ Free
 
-pub leaves : (x : hosts.World) (v : World) (out : ℕ × List Bool) → Tied x v → next_of v.there v.this ≡ Some out → Leaves v out
+pub leaves : (x : hosts.TwoNodes) (v : World) (out : ℕ × List Bool) → Tied x v → next_of v.there v.this ≡ Some out → Leaves v out
 leaves x v out t e = record { led = first; free = subst (λ (k : ℕ). v.going k ≡ Free) (sym link) (go (out.0 == 0) refl) }
   where
     f : Found v.there v.this out
@@ -125,10 +125,10 @@ leaves x v out t e = record { led = first; free = subst (λ (k : ℕ). v.going k
     go true z =
         let zero : out.0 ≡ 0 = eqb-true out.0 0 z in
         ap v.going zero ∙ free-of (control_bits v.there) AreCommands x.this.control (slot_at v.this.slots 0) (v.going 0) t.this.control v.there out.0 v.this.peer out.1 (ap (λ (k : ℕ). output_by (slot_at v.this.slots k) v.there out.0 v.this.peer) (sym zero) ∙ f.1)
-    go false z = free-of (text_bits v.there out.0) (IsTextOn out.0) (x.this.texts out.0) (slot_at v.this.slots out.0) (v.going out.0) (t.this.texts out.0 z) v.there out.0 v.this.peer out.1 f.1
+    go false z = free-of (text_as_message v.there out.0) (IsTextOn out.0) (x.this.texts out.0) (slot_at v.this.slots out.0) (v.going out.0) (t.this.texts out.0 z) v.there out.0 v.this.peer out.1 f.1
 
-module _ (w : Hosts) (k : Stand w) (x : hosts.World) (t : Tied x (seen w)) where
-  takes : (out : ℕ × List Bool) → next_of w.number_b (had_for w.number_b w.a) ≡ Some out → taken w.number_a out.1 w.subnet ≡ with_transit w.subnet w.number_a w.number_b (link_in out.1) (Accepted out.1)
+module _ (w : Hosts) (k : Stand w) (x : hosts.TwoNodes) (t : Tied x (seen w)) where
+  takes : (out : ℕ × List Bool) → next_of w.number_b (had_for w.number_b w.a) ≡ Some out → accepted_from w.number_a out.1 w.subnet ≡ with_transit w.subnet w.number_a w.number_b (link_in out.1) (Accepted out.1)
   takes out e =
       let m : List Bool = out.1 in
       let go : Leaves (seen w) out = leaves x (seen w) out t e in
@@ -161,9 +161,9 @@ module _ (w : Hosts) (k : Stand w) (x : hosts.World) (t : Tied x (seen w)) where
   -- A message comes.
 
   abbrev Comes_as : ℕ → Note → Type 0
-  Comes_as link n = Does (told_of n) (seen w) (seen (after_note n w))
+  Comes_as link n = Does (told_of n) (seen w) (seen (hosts_after_note n w))
 
-  pub deliver-does : (link : ℕ) (h : Holds) → (seen w).going link ≡ h → Comes_as link (came A link (arriving w.number_a h) w)
+  pub deliver-does : (link : ℕ) (h : Holds) → (seen w).going link ≡ h → Comes_as link (note_of_coming A link (arriving w.number_a h) w)
   deliver-does link Free e = (Is_delivered link, tt, ap (λ (h : Holds). delivers link h (seen w)) e)
   deliver-does link Delivered e = (Is_delivered link, tt, ap (λ (h : Holds). delivers link h (seen w)) e)
   deliver-does link Lost e = (Is_delivered link, tt, ap (λ (h : Holds). delivers link h (seen w)) e)
@@ -172,13 +172,13 @@ module _ (w : Hosts) (k : Stand w) (x : hosts.World) (t : Tied x (seen w)) where
       let bits : List Bool = from_host w.number_a m in
       let l : Leader = leader_to w.number_a link in
       let front : leader_in bits ≡ Ok l = (sent-led link x (seen w) m t e).1 in
-      let that : had_for w.number_a (arrivals.after_received bits w.b) ≡ worlds.after_received bits (had_for w.number_a w.b) = had-received w.b bits l k.b front refl in
+      let that : had_for w.number_a (arrivals.after_received bits w.b) ≡ worlds.state_after_received bits (had_for w.number_a w.b) = had-received w.b bits l k.b front refl in
       let got : arrivals.received_in bits w.b ≡ worlds.received bits (had_for w.number_a w.b) = received-same w.b bits l k.b front refl in
       subst (λ (n : HostNote). Comes_as link (notes.Came A link n)) (sym (noted-message w.b bits l front refl)) (
         Is_delivered link,
         tt,
         ap (λ (h : Holds). delivers link h (seen w)) e
-            ∙ (λ i. (sym (seen_with w k.differ link Delivered w.a (arrivals.after_received bits w.b) (had_for w.number_b w.a) (worlds.after_received bits (had_for w.number_a w.b)) refl that) i, In link bits (sym got i))),
+            ∙ (λ i. (sym (seen_with w k.differ link Delivered w.a (arrivals.after_received bits w.b) (had_for w.number_b w.a) (worlds.state_after_received bits (had_for w.number_a w.b)) refl that) i, In link bits (sym got i))),
       )
 
   -- It is lost, or finds its destination dead.
@@ -208,31 +208,31 @@ module _ (w : Hosts) (k : Stand w) (x : hosts.World) (t : Tied x (seen w)) where
   -- It is answered.
 
   answers : (link kind : ℕ) (how : Answer) → link < 2 ^ 8 → kind ≤ 15 → is_answer kind ≡ true → is_kind kind ≡ true → answer_of kind ≡ how
-      → answers_for link ((seen w).going link) (seen w) ≡ worlds.answers link how (answer_bits kind w.number_b link) (seen w)
+      → answers_for link ((seen w).going link) (seen w) ≡ worlds.world_answers link how (answer_bits kind w.number_b link) (seen w)
       → Comes_as link (notes.Answered A link (note_of_bits (answer_bits kind w.number_b link) w.a))
   answers link kind how small few is says name does =
       let bits : List Bool = answer_bits kind w.number_b link in
       let l : Leader = answer_leader kind w.number_b link in
       let front : leader_in bits ≡ Ok l = answer-led kind w.number_b link (record { flags = omega arith; kind = few; host = k.fits_b; link = small; low = omega arith }) in
       let got : arrivals.received_in bits w.a ≡ worlds.received bits (had_for w.number_b w.a) = received-same w.a bits l k.a front says in
-      let this : had_for w.number_b (changed w.number_b (answer_comes link (answer_of kind)) w.a) ≡ worlds.after_received bits (had_for w.number_b w.a) =
+      let this : had_for w.number_b (changed w.number_b (answer_comes link (answer_of kind)) w.a) ≡ worlds.state_after_received bits (had_for w.number_b w.a) =
       had-changed w.number_b (answer_comes link (answer_of kind)) w.a k.a ∙ sym (answer-comes kind link few small is) in
       subst (λ (n : HostNote). Comes_as link (notes.Answered A link n)) (sym (noted-answer w.a bits l k.a front is)) (
         Is_answered link,
         tt,
         does
-            ∙ (λ i. (sym (seen_with w k.differ link Free (changed w.number_b (answer_comes link (answer_of kind)) w.a) w.b (worlds.after_received bits (had_for w.number_b w.a)) (had_for w.number_a w.b) this refl) i, Answered link (sym name i) (sym got i))),
+            ∙ (λ i. (sym (seen_with w k.differ link Free (changed w.number_b (answer_comes link (answer_of kind)) w.a) w.b (worlds.state_after_received bits (had_for w.number_b w.a)) (had_for w.number_a w.b) this refl) i, Answered link (sym name i) (sym got i))),
       )
     where
-      answer-comes : (kind link : ℕ) → kind ≤ 15 → link < 2 ^ 8 → is_answer kind ≡ true → worlds.after_received (answer_bits kind w.number_b link) (had_for w.number_b w.a) ≡ answer_comes link (answer_of kind) (had_for w.number_b w.a)
+      answer-comes : (kind link : ℕ) → kind ≤ 15 → link < 2 ^ 8 → is_answer kind ≡ true → worlds.state_after_received (answer_bits kind w.number_b link) (had_for w.number_b w.a) ≡ answer_comes link (answer_of kind) (had_for w.number_b w.a)
       answer-comes kind link few small is =
           let l : Leader = answer_leader kind w.number_b link in
           let bits : List Bool = answer_bits kind w.number_b link in
           let no : (kind == 0) ≡ false = grind (arith, is) in
-          ap (λ (r : Result Leader _). worlds.after_with r bits (had_for w.number_b w.a)) (answer-led kind w.number_b link (record { flags = omega arith; kind = few; host = k.fits_b; link = small; low = omega arith }))
+          ap (λ (r : Result Leader _). worlds.state_after_with r bits (had_for w.number_b w.a)) (answer-led kind w.number_b link (record { flags = omega arith; kind = few; host = k.fits_b; link = small; low = omega arith }))
           ∙ ap (λ (b : Bool). if b then message_after link bits (message_in bits) (had_for w.number_b w.a) else answer_comes link (answer_of kind) (had_for w.number_b w.a)) no
 
-  pub answer-does : (link : ℕ) (h : Holds) → (seen w).going link ≡ h → Comes_as link (answered A link (answer_about w.number_b link h) w)
+  pub answer-does : (link : ℕ) (h : Holds) → (seen w).going link ≡ h → Comes_as link (note_of_answering A link (answer_about w.number_b link h) w)
   answer-does link Free e = (Is_answered link, tt, ap (λ (h : Holds). answers_for link h (seen w)) e)
   answer-does link (Accepted m) e = (Is_answered link, tt, ap (λ (h : Holds). answers_for link h (seen w)) e)
   answer-does link Delivered e = answers link rfnm Rfnm (delivered-out link x (seen w) t e).fits (omega arith) refl refl refl (ap (λ (h : Holds). answers_for link h (seen w)) e)

@@ -27,7 +27,7 @@ use Rattle.ncp_transcript_two.specs.World as worlds
 use Rattle.ncp_transcript_two.specs.Tie.{IsAsked, IsMove}
 use Rattle.ncp_transcript_two.specs.declared.side.Side.TheVariants.{A}
 use Rattle.ncp_transcript_two.specs.Between.{Hosts, host_notes_it}
-use Rattle.ncp_transcript_two.specs.Seen.{state_or_new, had_for, seen, asked_by, done, told_call, Fits}
+use Rattle.ncp_transcript_two.specs.Seen.{state_or_new, had_for, seen, asked_by, done, told_call, NoteFits}
 use Rattle.ncp_transcript_two.proofs.OnePeer.{only-peer, had-changed}
 
 -- the hosts are each other's only peers, and messages go between them
@@ -43,7 +43,7 @@ pub record Stand (w : Hosts) : Type 0 where
 -- what was told happens by the rules, on this side; where nothing was told nothing changes
 abbrev pub Does : Option Told → World → World → Type 0
 Does None v x = x ≡ v
-Does (Some told) v x = (st : worlds.Step) × IsMove st × (moves st v ≡ (x, told))
+Does (Some told) v x = (st : worlds.WorldStep) × IsMove st × (moves st v ≡ (x, told))
 
 -- The subnet, seen by its links.
 
@@ -80,22 +80,22 @@ module _ (w : Hosts) (k : Stand w) where
 
   -- one that answers no more
   done-does : (call : Call) (asked : Asked) (peer : ℕ) (f : PeerState → Result (Unit {0}) CallFault)
-      → asked_by call ≡ Some asked → transcripts.after_call call w.a ≡ changed peer (worlds.after_call asked) w.a → ((s : PeerState) → worlds.reply_to asked s ≡ Replied (f s))
-      → Fits (told_call (done_or_refused call (if_known (state_of w.a peer) f)))
+      → asked_by call ≡ Some asked → transcripts.after_call call w.a ≡ changed peer (worlds.state_after_asked asked) w.a → ((s : PeerState) → worlds.reply_to asked s ≡ Replied (f s))
+      → NoteFits (told_call (done_or_refused call (if_known (state_of w.a peer) f)))
       → Does (told_call (done_or_refused call (if_known (state_of w.a peer) f))) (seen w) (seen (host_notes_it A (done_or_refused call (if_known (state_of w.a peer) f)) w))
   done-does call asked peer f by after says fits = go (state_of w.a peer) refl fits
     where
       made : (s : PeerState) → state_of w.a peer ≡ Some s → f s ≡ Ok tt → IsAsked asked → Does (Some (Called asked (Replied (Ok tt)))) (seen w) (seen (record w { a = transcripts.after_call call w.a }))
       made s e d fits =
-          let p : worlds.after_call asked (had_for w.number_b w.a) ≡ had_for w.number_b (transcripts.after_call call w.a) = sym (ap (had_for w.number_b) after ∙ had_after peer s (worlds.after_call asked) e) in
+          let p : worlds.state_after_asked asked (had_for w.number_b w.a) ≡ had_for w.number_b (transcripts.after_call call w.a) = sym (ap (had_for w.number_b) after ∙ had_after peer s (worlds.state_after_asked asked) e) in
           let q : worlds.reply_to asked (had_for w.number_b w.a) ≡ Replied (Ok tt) = says (had_for w.number_b w.a) ∙ ap Replied (ap f (the_state peer s e) ∙ d) in
           (Call_is_made asked, fits, λ i. (record (seen w) { this = p i }, Called asked (q i)))
 
-      by_reply : (s : PeerState) → state_of w.a peer ≡ Some s → (r : Result (Unit {0}) CallFault) → f s ≡ r → Fits (told_call (done_or_refused call r)) → Does (told_call (done_or_refused call r)) (seen w) (seen (host_notes_it A (done_or_refused call r) w))
+      by_reply : (s : PeerState) → state_of w.a peer ≡ Some s → (r : Result (Unit {0}) CallFault) → f s ≡ r → NoteFits (told_call (done_or_refused call r)) → Does (told_call (done_or_refused call r)) (seen w) (seen (host_notes_it A (done_or_refused call r) w))
       by_reply s e (Err fault) d fits = refl
-      by_reply s e (Ok u) d fits = subst (λ (o : Option Asked). Fits (done o) → Does (done o) (seen w) (seen (record w { a = transcripts.after_call call w.a }))) (sym by) (made s e d) fits
+      by_reply s e (Ok u) d fits = subst (λ (o : Option Asked). NoteFits (done o) → Does (done o) (seen w) (seen (record w { a = transcripts.after_call call w.a }))) (sym by) (made s e d) fits
 
-      go : (o : Option PeerState) → state_of w.a peer ≡ o → Fits (told_call (done_or_refused call (if_known o f))) → Does (told_call (done_or_refused call (if_known o f))) (seen w) (seen (host_notes_it A (done_or_refused call (if_known o f)) w))
+      go : (o : Option PeerState) → state_of w.a peer ≡ o → NoteFits (told_call (done_or_refused call (if_known o f))) → Does (told_call (done_or_refused call (if_known o f))) (seen w) (seen (host_notes_it A (done_or_refused call (if_known o f)) w))
       go None e fits = refl
       go (Some s) e fits = by_reply s e (f s) refl fits
 
@@ -105,18 +105,18 @@ module _ (w : Hosts) (k : Stand w) where
   abbrev taken_by : Pair → ℕ → PeerState → Result (List Bool) CallFault
   taken_by pair bytes s = reply_of_take (comes_of pair (Take bytes) s.peer)
 
-  take-does : (peer : ℕ) (pair : Pair) (bytes : ℕ) → Fits (told_call (Taken peer pair bytes (if_known (state_of w.a peer) (taken_by pair bytes))))
+  take-does : (peer : ℕ) (pair : Pair) (bytes : ℕ) → NoteFits (told_call (Taken peer pair bytes (if_known (state_of w.a peer) (taken_by pair bytes))))
       → Does (told_call (Taken peer pair bytes (if_known (state_of w.a peer) (taken_by pair bytes)))) (seen w) (seen (host_notes_it A (Taken peer pair bytes (if_known (state_of w.a peer) (taken_by pair bytes))) w))
   take-does peer pair bytes fits = go (state_of w.a peer) refl fits
     where
-      by_reply : (s : PeerState) → state_of w.a peer ≡ Some s → (r : Result (List Bool) CallFault) → taken_by pair bytes s ≡ r → Fits (told_call (Taken peer pair bytes r)) → Does (told_call (Taken peer pair bytes r)) (seen w) (seen (host_notes_it A (Taken peer pair bytes r) w))
+      by_reply : (s : PeerState) → state_of w.a peer ≡ Some s → (r : Result (List Bool) CallFault) → taken_by pair bytes s ≡ r → NoteFits (told_call (Taken peer pair bytes r)) → Does (told_call (Taken peer pair bytes r)) (seen w) (seen (host_notes_it A (Taken peer pair bytes r) w))
       by_reply s e (Err fault) d fits = refl
       by_reply s e (Ok text) d fits =
-          let p : states.calls pair (Take bytes) (had_for w.number_b w.a) ≡ had_for w.number_b (changed peer (states.calls pair (Take bytes)) w.a) = sym (had_after peer s (states.calls pair (Take bytes)) e) in
+          let p : states.state_calls pair (Take bytes) (had_for w.number_b w.a) ≡ had_for w.number_b (changed peer (states.state_calls pair (Take bytes)) w.a) = sym (had_after peer s (states.state_calls pair (Take bytes)) e) in
           let q : taken_by pair bytes (had_for w.number_b w.a) ≡ Ok text = ap (taken_by pair bytes) (the_state peer s e) ∙ d in
           (Call_is_made (Asks pair (Take bytes)), fits, λ i. (record (seen w) { this = p i }, Called (Asks pair (Take bytes)) (worlds.Took (q i))))
 
-      go : (o : Option PeerState) → state_of w.a peer ≡ o → Fits (told_call (Taken peer pair bytes (if_known o (taken_by pair bytes)))) → Does (told_call (Taken peer pair bytes (if_known o (taken_by pair bytes)))) (seen w) (seen (host_notes_it A (Taken peer pair bytes (if_known o (taken_by pair bytes))) w))
+      go : (o : Option PeerState) → state_of w.a peer ≡ o → NoteFits (told_call (Taken peer pair bytes (if_known o (taken_by pair bytes)))) → Does (told_call (Taken peer pair bytes (if_known o (taken_by pair bytes)))) (seen w) (seen (host_notes_it A (Taken peer pair bytes (if_known o (taken_by pair bytes))) w))
       go None e fits = refl
       go (Some s) e fits = by_reply s e (taken_by pair bytes s) refl fits
 
@@ -125,7 +125,7 @@ module _ (w : Hosts) (k : Stand w) where
   reading-does call told (Ok x) stays = stays x
   reading-does call told (Err fault) stays = refl
 
-  answer-does : (call : Call) → Fits (told_call (answer_to call w.a)) → Does (told_call (answer_to call w.a)) (seen w) (seen (host_notes_it A (answer_to call w.a) w))
+  answer-does : (call : Call) → NoteFits (told_call (answer_to call w.a)) → Does (told_call (answer_to call w.a)) (seen w) (seen (host_notes_it A (answer_to call w.a) w))
   answer-does (calls.Reset peer) fits = done-does (calls.Reset peer) Asks_reset peer (λ s. reset_answer s.peer.phase) refl refl (λ s. refl) fits
   answer-does (calls.AskSend peer local remote size room) fits = done-does (calls.AskSend peer local remote size room) (Asks (sockets local remote) (Ask_to_send size room)) peer (λ s. reply (comes_of (sockets local remote) (Ask_to_send size room) s.peer)) refl refl (λ s. refl) fits
   answer-does (calls.AskReceive peer local remote room) fits = done-does (calls.AskReceive peer local remote room) (Asks (sockets local remote) (Ask_to_receive room)) peer (λ s. reply (comes_of (sockets local remote) (Ask_to_receive room) s.peer)) refl refl (λ s. refl) fits
@@ -146,6 +146,6 @@ module _ (w : Hosts) (k : Stand w) where
   answer-does (calls.Kept peer link) fits = refl
   answer-does calls.Ignored fits = refl
 
-  pub call-does : (call : Call) (note : HostNote) → CallNoted call note w.a → Fits (told_call note) → Does (told_call note) (seen w) (seen (host_notes_it A note w))
-  call-does call note (inl e) fits = subst (λ (n : HostNote). Fits (told_call n) → Does (told_call n) (seen w) (seen (host_notes_it A n w))) (sym e) (answer-does call) fits
+  pub call-does : (call : Call) (note : HostNote) → CallNoted call note w.a → NoteFits (told_call note) → Does (told_call note) (seen w) (seen (host_notes_it A note w))
+  call-does call note (inl e) fits = subst (λ (n : HostNote). NoteFits (told_call n) → Does (told_call n) (seen w) (seen (host_notes_it A n w))) (sym e) (answer-does call) fits
   call-does call note (inr want) fits = subst (λ (n : HostNote). Does (told_call n) (seen w) (seen (host_notes_it A n w))) (sym want.said) refl

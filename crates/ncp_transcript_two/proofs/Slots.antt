@@ -9,27 +9,27 @@ use Rattle.ncp_terms.specs.declared.fault.CommandFault.{CommandFault}
 use Rattle.ncp_control.specs.Reading.{commands_in, fault_in}
 use Rattle.ncp_host.specs.Counting.{one_more}
 use Rattle.ncp_host.specs.PeerState.{PeerState, control_link}
-use Rattle.ncp_host.specs.Hearing.{hears, hears_all, hears_last, hears_text, control_size, control_after, text_after, is_wrong_link, message_after}
+use Rattle.ncp_host.specs.Hearing.{state_hears, state_hears_all, hears_last, state_hears_text, control_size, state_after_control, state_after_text, is_wrong_link, message_after}
 
 pub slots_if : (b : Bool) (s t : PeerState) → (if b then s else t).slots ≡ (if b then s.slots else t.slots)
 slots_if true s t = refl
 slots_if false s t = refl
 
-pub hears_all-slots : (cs : List Command) (s : PeerState) → (hears_all cs s).slots ≡ s.slots
+pub hears_all-slots : (cs : List Command) (s : PeerState) → (state_hears_all cs s).slots ≡ s.slots
 hears_all-slots [] s = refl
-hears_all-slots (c ∷ cs) s = hears_all-slots cs (hears c s)
+hears_all-slots (c ∷ cs) s = hears_all-slots cs (state_hears c s)
 
 hears_last-slots : (f : Option CommandFault) (s : PeerState) → (hears_last f s).slots ≡ s.slots
 hears_last-slots None s = refl
 hears_last-slots (Some f) s = refl
 
-hears_text-slots : (cs : List Command) (f : Option CommandFault) (s : PeerState) → (hears_text cs f s).slots ≡ s.slots
-hears_text-slots cs f s = hears_last-slots f (hears_all cs s) ∙ hears_all-slots cs s
+hears_text-slots : (cs : List Command) (f : Option CommandFault) (s : PeerState) → (state_hears_text cs f s).slots ≡ s.slots
+hears_text-slots cs f s = hears_last-slots f (state_hears_all cs s) ∙ hears_all-slots cs s
 
-control-slots : (m : Message) (s : PeerState) → (control_after m s).slots ≡ s.slots
+control-slots : (m : Message) (s : PeerState) → (state_after_control m s).slots ≡ s.slots
 control-slots m s = go (m.size == control_size)
   where
-    go : (b : Bool) → (if b then hears_text (commands_in (bytes_of m.text)) (fault_in (bytes_of m.text)) s else record s { counts = record s.counts { wrong_size = one_more s.counts.wrong_size } }).slots ≡ s.slots
+    go : (b : Bool) → (if b then state_hears_text (commands_in (bytes_of m.text)) (fault_in (bytes_of m.text)) s else record s { counts = record s.counts { wrong_size = one_more s.counts.wrong_size } }).slots ≡ s.slots
     go true = hears_text-slots (commands_in (bytes_of m.text)) (fault_in (bytes_of m.text)) s
     go false = refl
 
@@ -37,7 +37,7 @@ pub message-slots : (on : ℕ) (bits : List Bool) (r : Result Message MessageFau
 message-slots on bits (Err fault) s = refl
 message-slots on bits (Ok m) s = go (is_wrong_link on) (on == control_link)
   where
-    go : (a b : Bool) → (if a then record s { counts = record s.counts { wrong_link = one_more s.counts.wrong_link } } else if b then control_after m s else text_after on (take FRONT_BITS bits) m s).slots ≡ s.slots
+    go : (a b : Bool) → (if a then record s { counts = record s.counts { wrong_link = one_more s.counts.wrong_link } } else if b then state_after_control m s else state_after_text on (take FRONT_BITS bits) m s).slots ≡ s.slots
     go true b = refl
     go false true = control-slots m s
     go false false = refl

@@ -1,7 +1,7 @@
 -- One link, as its deeds tell it: a machine of four states, and what follows of a list that it passes.
 use Rattle.std.proofs.Common.{◌≡◌, ℕ, Bool, true, false, List, [], ◌∷◌, refl, sym, ap, ◌∙◌, arith, subst}
 use Rattle.ncp_transcript_two.specs.Subnet.{from_host}
-use Rattle.ncp_transcript_two.specs.Honest.{Deed, Sent, Comes, Taken, Refused, Other, Place, Clear, Flying, Landed, HonestFrom, sent_from, coming, RepeatsFrom, IsBeginning}
+use Rattle.ncp_transcript_two.specs.Honest.{MessageDeed, Sent, Comes, Taken, Refused, Other, InFlight, Clear, Flying, Landed, HonestFrom, sent_from, messages_coming, RepeatsFrom, IsBeginningWithin}
 
 pub data Flight : Type 0 where
   Idle : Flight
@@ -9,7 +9,7 @@ pub data Flight : Type 0 where
   Away : (m : List Bool) → Flight
   Here : Flight
 
-abbrev pub Passes : ℕ → Flight → Deed → Flight → Type 0
+abbrev pub Passes : ℕ → Flight → MessageDeed → Flight → Type 0
 Passes number f Other g = g ≡ f
 Passes number Idle (Sent m) g = g ≡ Away m
 Passes number (Again m) (Sent n) g = (n ≡ m) × (g ≡ Away m)
@@ -18,18 +18,18 @@ Passes number (Away m) Refused g = g ≡ Again m
 Passes number Here Taken g = g ≡ Idle
 Passes number f d g = ⊥
 
-abbrev pub Flies : ℕ → Flight → List Deed → Type 0
+abbrev pub Flies : ℕ → Flight → List MessageDeed → Type 0
 Flies number f [] = Unit {0}
 Flies number f (d ∷ ds) = (g : Flight) × Passes number f d g × Flies number g ds
 
-abbrev pub place_of : Flight → Place
+abbrev pub place_of : Flight → InFlight
 place_of Idle = Clear
 place_of (Again m) = Clear
 place_of (Away m) = Flying m
 place_of Here = Landed
 
 -- such a link is honest
-pub honest : (number : ℕ) (f : Flight) (ds : List Deed) → Flies number f ds → HonestFrom number (place_of f) ds
+pub honest : (number : ℕ) (f : Flight) (ds : List MessageDeed) → Flies number f ds → HonestFrom number (place_of f) ds
 honest number f [] k = tt
 honest number f (Other ∷ ds) k = honest number f ds (subst (λ (g : Flight). Flies number g ds) k.1 k.2)
 honest number Idle (Sent m ∷ ds) k = honest number (Away m) ds (subst (λ (g : Flight). Flies number g ds) k.1 k.2)
@@ -54,7 +54,7 @@ Fresh (Again m) b = b ≡ false
 Fresh (Away m) b = Unit {0}
 Fresh Here b = Unit {0}
 
-pub begins : (number : ℕ) (f : Flight) (b : Bool) (ds : List Deed) → Fresh f b → Flies number f ds → IsBeginning 1 (coming ds) (to_come number f (sent_from number b ds))
+pub begins : (number : ℕ) (f : Flight) (b : Bool) (ds : List MessageDeed) → Fresh f b → Flies number f ds → IsBeginningWithin 1 (messages_coming ds) (to_come number f (sent_from number b ds))
 begins number Idle b [] r k = ([], refl, omega arith)
 begins number (Again m) b [] r k = (from_host number m ∷ [], refl, omega arith)
 begins number (Away m) b [] r k = (from_host number m ∷ [], refl, omega arith)
@@ -78,7 +78,7 @@ IsLast (Again m) last = m ≡ last
 IsLast (Away m) last = m ≡ last
 IsLast Here last = Unit {0}
 
-pub repeats : (number : ℕ) (f : Flight) (last : List Bool) (b : Bool) (ds : List Deed) → Fresh f b → IsLast f last → Flies number f ds → RepeatsFrom last b ds
+pub repeats : (number : ℕ) (f : Flight) (last : List Bool) (b : Bool) (ds : List MessageDeed) → Fresh f b → IsLast f last → Flies number f ds → RepeatsFrom last b ds
 repeats number f last b [] r l k = tt
 repeats number f last b (Other ∷ ds) r l k = repeats number f last b ds r l (subst (λ (g : Flight). Flies number g ds) k.1 k.2)
 repeats number Idle last true (Sent m ∷ ds) r l k = repeats number (Away m) m true ds tt refl (subst (λ (g : Flight). Flies number g ds) k.1 k.2)

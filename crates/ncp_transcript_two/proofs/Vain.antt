@@ -23,20 +23,20 @@ use Rattle.ncp_transcript_two.specs.declared.note.Move.{Move}
 use Rattle.ncp_transcript_two.specs.declared.note.Move.TheVariants as moves
 use Rattle.ncp_transcript_two.specs.declared.note.Note.{Note}
 use Rattle.ncp_transcript_two.specs.declared.note.Note.TheVariants as notes
-use Rattle.ncp_transcript_two.specs.Between.{Hosts, other, number_of, host_of, transit_of, after_note, after_notes}
-use Rattle.ncp_transcript_two.specs.Happening.{came, answered, Noted}
+use Rattle.ncp_transcript_two.specs.Between.{Hosts, other, side_number, host_of, transit_of, hosts_after_note, hosts_after_notes}
+use Rattle.ncp_transcript_two.specs.Happening.{note_of_coming, note_of_answering, Noted}
 use Rattle.ncp_transcript_two.specs.Transcript.{IsSaid, IsRun, began, IsTranscript}
 use Rattle.ncp_transcript_two.specs.Vain.{CannotBe}
 
 -- a note of a run says what the rules say at the state before it
-pub said_at : (before after : List Note) (note : Note) (w : Hosts) → IsRun (before ++ note ∷ after) w → IsSaid note (after_notes before w)
+pub said_at : (before after : List Note) (note : Note) (w : Hosts) → IsRun (before ++ note ∷ after) w → IsSaid note (hosts_after_notes before w)
 said_at [] after note w r = r.0
-said_at (first ∷ before) after note w r = said_at before after note (after_note first w) r.1
+said_at (first ∷ before) after note w r = said_at before after note (hosts_after_note first w) r.1
 
 -- and the notes before it are a run
 pub run_before : (before more : List Note) (w : Hosts) → IsRun (before ++ more) w → IsRun before w
 run_before [] more w r = tt
-run_before (first ∷ before) more w r = (r.0, run_before before more (after_note first w) r.1)
+run_before (first ∷ before) more w r = (r.0, run_before before more (hosts_after_note first w) r.1)
 
 -- what the note of an event is not
 
@@ -114,12 +114,12 @@ out_in_vain : (o : Option (List Bool)) → is_nothing (note_of_message o) ≡ tr
 out_in_vain None e = refl
 out_in_vain (Some m) e = absurd (cc e)
 
-came_in_vain : (side : Side) (link : ℕ) (o : Option (List Bool)) (w : Hosts) → arriving (number_of side w) (transit_of side link w) ≡ o → InVain (came side link o w) w
-came_in_vain side link None w e = cannot_come (number_of side w) (transit_of side link w) e
+came_in_vain : (side : Side) (link : ℕ) (o : Option (List Bool)) (w : Hosts) → arriving (side_number side w) (transit_of side link w) ≡ o → InVain (note_of_coming side link o w) w
+came_in_vain side link None w e = cannot_come (side_number side w) (transit_of side link w) e
 came_in_vain side link (Some bits) w e = bits_say bits (host_of (other side) w)
 
-answered_in_vain : (side : Side) (link : ℕ) (o : Option (List Bool)) (w : Hosts) → answer_about (number_of (other side) w) link (transit_of side link w) ≡ o → InVain (answered side link o w) w
-answered_in_vain side link None w e = cannot_answer (number_of (other side) w) link (transit_of side link w) e
+answered_in_vain : (side : Side) (link : ℕ) (o : Option (List Bool)) (w : Hosts) → answer_about (side_number (other side) w) link (transit_of side link w) ≡ o → InVain (note_of_answering side link o w) w
+answered_in_vain side link None w e = cannot_answer (side_number (other side) w) link (transit_of side link w) e
 answered_in_vain side link (Some bits) w e = bits_say bits (host_of side w)
 
 lost_in_vain : (side : Side) (link : ℕ) (b : Bool) (w : Hosts) → is_accepted (transit_of side link w) ≡ b → InVain (if b then notes.Lost side link else notes.Nothing side link moves.Lose) w
@@ -133,19 +133,19 @@ dead_in_vain side link false w e = e
 pub in_vain : (event : Event) (note : Note) (w : Hosts) → Noted event note w → InVain note w
 in_vain (events.Call side call) note w k = subst (λ (n : Note). InVain n w) (sym k.said) (call_says call k.of_host (host_of side w) k.noted)
 in_vain (events.Out side) note w k = subst (λ (n : Note). InVain n w) (sym k) (out_in_vain (next_output (host_of side w)))
-in_vain (events.Deliver side link) note w k = subst (λ (n : Note). InVain n w) (sym k) (came_in_vain side link (arriving (number_of side w) (transit_of side link w)) w refl)
+in_vain (events.Deliver side link) note w k = subst (λ (n : Note). InVain n w) (sym k) (came_in_vain side link (arriving (side_number side w) (transit_of side link w)) w refl)
 in_vain (events.Lose side link) note w k = subst (λ (n : Note). InVain n w) (sym k) (lost_in_vain side link (is_accepted (transit_of side link w)) w refl)
 in_vain (events.Dead side link) note w k = subst (λ (n : Note). InVain n w) (sym k) (dead_in_vain side link (is_accepted (transit_of side link w)) w refl)
-in_vain (events.Answer side link) note w k = subst (λ (n : Note). InVain n w) (sym k) (answered_in_vain side link (answer_about (number_of (other side) w) link (transit_of side link w)) w refl)
+in_vain (events.Answer side link) note w k = subst (λ (n : Note). InVain n w) (sym k) (answered_in_vain side link (answer_about (side_number (other side) w) link (transit_of side link w)) w refl)
 
 module _ (before after : List Note) (w : Hosts) where
-  at : (note : Note) → IsTranscript (before ++ note ∷ after) w → InVain note (after_notes before (began w))
-  at note t = let s = said_at before after note (began w) t.run in in_vain s.0 note (after_notes before (began w)) s.1
+  at : (note : Note) → IsTranscript (before ++ note ∷ after) w → InVain note (hosts_after_notes before (began w))
+  at note t = let s = said_at before after note (began w) t.run in in_vain s.0 note (hosts_after_notes before (began w)) s.1
 
-  pub moves-vain : (side : Side) (link : ℕ) (wanted : Move) → IsTranscript (before ++ notes.Nothing side link wanted ∷ after) w → CannotBe wanted (transit_of side link (after_notes before (began w)))
+  pub moves-vain : (side : Side) (link : ℕ) (wanted : Move) → IsTranscript (before ++ notes.Nothing side link wanted ∷ after) w → CannotBe wanted (transit_of side link (hosts_after_notes before (began w)))
   moves-vain side link wanted t = at (notes.Nothing side link wanted) t
 
-  pub out-vain : (side : Side) → IsTranscript (before ++ notes.Out side of_host.Nothing ∷ after) w → next_output (host_of side (after_notes before (began w))) ≡ None
+  pub out-vain : (side : Side) → IsTranscript (before ++ notes.Out side of_host.Nothing ∷ after) w → next_output (host_of side (hosts_after_notes before (began w))) ≡ None
   out-vain side t = at (notes.Out side of_host.Nothing) t refl
 
   pub called-vain : (side : Side) → IsTranscript (before ++ notes.Called side of_host.Nothing ∷ after) w → ⊥

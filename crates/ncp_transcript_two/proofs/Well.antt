@@ -21,15 +21,15 @@ use Rattle.ncp_model.specs.declared.call_fault.CallFault.TheVariants.{Busy, Queu
 use Rattle.ncp_model.specs.Texts.{made_by_text, hear_text, Rfnm, cut, cut_bits, may_send, bytes_to_send}
 use Rattle.ncp_model.specs.Ends.{Ends, count, any, is_by_peer, hears_link, uses_link, free_link, sender_on, receiver_on, pair_of, end_of, leads_to, hear, text_in, cut_at, cut_in, answered_at, answered_in, map_after, map_after_at, no_ends}
 use Rattle.ncp_model.specs.Echo.{echo_answer, echo_asked}
-use Rattle.ncp_model.specs.Happenings.{Happening, Happened, happens, happened, of_hearing, of_text}
+use Rattle.ncp_model.specs.Happenings.{Happening, Happened, happens, happened, of_hearing, outcome_of_text}
 use Rattle.ncp_model.specs.Happenings as all
 use Rattle.ncp_model.specs.Leading.{passes, comes}
 use Rattle.ncp_proof_watch.specs.Sound.{SoundAt}
 use Rattle.ncp_proof_watch.specs.Limits.{InLimitsAt}
-use Rattle.ncp_model.specs.Phase.{Phase, up, is_reset, is_other, is_rst, is_rrp, has_place, queued, goes_down, makes, makes_all, is_resetting, answers, asks}
+use Rattle.ncp_model.specs.Phase.{Phase, up, is_reset, is_other, is_rst, is_rrp, has_place, queued, goes_down, phase_makes, makes_all, is_resetting, phase_answers, phase_asks}
 use Rattle.ncp_model.specs.Phase as phases
 use Rattle.ncp_model.specs.Sending.{is_full, next_commands}
-use Rattle.ncp_model.specs.Peers.{Peer, Call, Ask_to_send, Ask_to_receive, Close, Give, Take, Allocate, Call_back, Interrupt}
+use Rattle.ncp_model.specs.Peers.{Peer, PairCall, Ask_to_send, Ask_to_receive, Close, Give, Take, Allocate, Call_back, Interrupt}
 use Rattle.ncp_model.specs.Peers as peers
 use Rattle.ncp_proof_machine.proofs.EndsGood.{Good, Changes, same_or, act-changes, put-changes}
 use Rattle.ncp_model.proofs.FreeLinks.{lowest-upto}
@@ -73,14 +73,14 @@ wait-if false q r k l = l
 down-wait : (q : Phase) → AllWait q → AllWait (goes_down q)
 down-wait q k = All-filter is_reset IsCommand q.waiting k
 
-makes-wait : (c : Command) (q : Phase) → IsCommand c → AllWait q → AllWait (makes c q)
+makes-wait : (c : Command) (q : Phase) → IsCommand c → AllWait q → AllWait (phase_makes c q)
 makes-wait c q f k = wait-if (up q && is_other c) (if has_place q then queued c q else goes_down q) q (wait-if (has_place q) (queued c q) (goes_down q) (All-push IsCommand q.waiting c k f) (down-wait q k)) k
 
 makes_all-wait : (cs : List Command) (q : Phase) → Each cs → AllWait q → AllWait (makes_all cs q)
 makes_all-wait [] q f k = k
-makes_all-wait (c ∷ cs) q f k = makes_all-wait cs (makes c q) f.1 (makes-wait c q f.0 k)
+makes_all-wait (c ∷ cs) q f k = makes_all-wait cs (phase_makes c q) f.1 (makes-wait c q f.0 k)
 
-answers-wait : (q : Phase) → AllWait q → AllWait (answers q)
+answers-wait : (q : Phase) → AllWait q → AllWait (phase_answers q)
 answers-wait q k = go q.owe (list_any is_rrp q.waiting)
   where
     go : (a b : Bool) → AllWait (if a then record q { down = false; owe = false; waiting = if b then q.waiting else q.waiting ++ Rrp ∷ [] } else q)
@@ -88,7 +88,7 @@ answers-wait q k = go q.owe (list_any is_rrp q.waiting)
     go true false = All-push IsCommand q.waiting Rrp k tt
     go false b = k
 
-asks-wait : (q : Phase) → AllWait q → AllWait (asks q)
+asks-wait : (q : Phase) → AllWait q → AllWait (phase_asks q)
 asks-wait q k = go q.want (list_any is_rst q.waiting)
   where
     go : (a b : Bool) → AllWait (if a then record q { down = false; want = false; wait = true; waiting = if b then q.waiting else q.waiting ++ Rst ∷ [] } else q)
@@ -96,8 +96,8 @@ asks-wait q k = go q.want (list_any is_rst q.waiting)
     go true false = All-push IsCommand q.waiting Rst k tt
     go false b = k
 
-settles-wait : (b : Bool) (q : Phase) → AllWait q → AllWait (phases.settles b q)
-settles-wait true q k = asks-wait (answers q) (answers-wait q k)
+settles-wait : (b : Bool) (q : Phase) → AllWait q → AllWait (phases.phase_settles b q)
+settles-wait true q k = asks-wait (phase_answers q) (answers-wait q k)
 settles-wait false q k = k
 
 purge-wait : (q : Phase) → AllWait q → All IsCommand (filter is_reset q.waiting)
@@ -125,7 +125,7 @@ if-well : (b : Bool) (p q : Peer) → Well p → Well q → Well (if b then p el
 if-well true p q k l = k
 if-well false p q k l = l
 
-called-fits : (call : Call) (full : Bool) (m : Ends) → IsCall call → Fits (peers.called call full m)
+called-fits : (call : PairCall) (full : Bool) (m : Ends) → IsCall call → Fits (peers.called call full m)
 called-fits (Ask_to_send of_size with_room) full m k = k
 called-fits (Ask_to_receive with_room) full m k = let l : free_link m ≤ 2 + 70 = lowest-upto (λ (on : ℕ). not (any (uses_link on) m)) 70 2 in omega (arith, l)
 called-fits Close full m k = tt
@@ -135,7 +135,7 @@ called-fits (Allocate a b) full m k = k
 called-fits (Call_back a b) full m k = k
 called-fits Interrupt full m k = tt
 
-pub calls-well : (pair : Pair) (call : Call) (p : Peer) → IsPair pair → IsCall call → InLimitsAt pair (get p.ends pair) → Well p → Well (peers.calls pair call p)
+pub calls-well : (pair : Pair) (call : PairCall) (p : Peer) → IsPair pair → IsCall call → InLimitsAt pair (get p.ends pair) → Well p → Well (peers.calls pair call p)
 calls-well pair call p i f l k =
     let what : Happening = peers.called call (is_full p.phase) p.ends in
     let ok : Fits what = called-fits call (is_full p.phase) p.ends f in
@@ -158,12 +158,12 @@ echo-well byte p f k =
 
 pub reset-well : (q : Bool) (p : Peer) → Well p → Well (peers.calls_reset q p)
 reset-well q p k = if-well (is_resetting p.phase) p (peers.cleared (phases.resets q p.phase) p) k
-    (record { waiting = wait-if (is_resetting p.phase) p.phase (phases.settles q (phases.wants_reset p.phase)) k.waiting (settles-wait q (phases.wants_reset p.phase) (purge-wait p.phase k.waiting)); ends = none-well })
+    (record { waiting = wait-if (is_resetting p.phase) p.phase (phases.phase_settles q (phases.wants_reset p.phase)) k.waiting (settles-wait q (phases.wants_reset p.phase) (purge-wait p.phase k.waiting)); ends = none-well })
 
 pub settles-well : (q : Bool) (p : Peer) → Well p → Well (peers.settles q p)
 settles-well q p k = record { waiting = settles-wait q p.phase k.waiting; ends = k.ends }
 
-pub sends-well : (p : Peer) → Well p → Well (peers.sends p)
+pub sends-well : (p : Peer) → Well p → Well (peers.peer_sends p)
 sends-well p k = record { waiting = All-drop IsCommand (length (next_commands p.phase.waiting)) p.phase.waiting k.waiting; ends = k.ends }
 
 -- ---- a command comes
@@ -216,7 +216,7 @@ echo_replies-each : (c : Command) → IsCommand c → Each (peers.echo_replies c
 echo_replies-each (commands.Eco byte) f = (f, tt)
 echo_replies-each c f = tt
 
-other-wait : (c : Command) (r : phases.Reaction) (q : Phase) → Each r.replies → AllWait q → AllWait (phases.hears c r q)
+other-wait : (c : Command) (r : phases.Reaction) (q : Phase) → Each r.replies → AllWait q → AllWait (phases.phase_hears c r q)
 other-wait Rst r q f k = settles-wait r.quiet (phases.owes_answer q) (purge-wait q k)
 other-wait Rrp r q f k = k
 other-wait c r q f k = wait-if (up q) (if r.full then goes_down q else makes_all r.replies q) q (wait-if r.full (goes_down q) (makes_all r.replies q) (down-wait q k) (makes_all-wait r.replies q f k)) k
@@ -227,7 +227,7 @@ other-well q c p f g k =
     let r : phases.Reaction = peers.reaction q c p in
     record {
       waiting = other-wait c r p.phase (each-append (made_by_hearing (answer (hear c p.ends))) (peers.echo_replies c) w.0 (echo_replies-each c f)) k.waiting;
-      ends = keeps-well (up (phases.hears c r p.phase)) (map_after_at p.ends (leads_to c p.ends) (hear c p.ends)) w.1;
+      ends = keeps-well (up (phases.phase_hears c r p.phase)) (map_after_at p.ends (leads_to c p.ends) (hear c p.ends)) w.1;
     }
 
 pub hears-well : (q : Bool) (c : Command) (p : Peer) → IsCommand c → Good p.ends → Well p → Well (peers.hears q c p)
@@ -253,7 +253,7 @@ text-made on head of_size text m f g k = go (pair_of (receiver_on on m)) refl
     go (Some pair) e =
         let what : Happening = all.Text_comes head of_size text in
         let l = led (uses_link on) m pair e in
-        let same : happens pair what (get m pair) ≡ happened (get m pair) took (made_by_text head text) of_text = ap (λ (x : Option End). happened (get m pair) (hear_text of_size text x) (made_by_text head text) of_text) l.0 in
+        let same : happens pair what (get m pair) ≡ happened (get m pair) took (made_by_text head text) outcome_of_text = ap (λ (x : Option End). happened (get m pair) (hear_text of_size text x) (made_by_text head text) outcome_of_text) l.0 in
         let i : IsPair pair = passes-pair (uses_link on) pair (get m pair) l.1 (k pair) in (
           subst Each (ap (λ (d : Happened). d.made) same) (made-fits pair what (get m pair) i f (fits-of pair (get m pair) (k pair)) (g.limits pair)),
           changed-well m (map_after m pair took) pair what (act-changes m pair what took (ap (λ (d : Happened). d.after) same)) i f k,

@@ -34,9 +34,9 @@ other A = B
 other B = A
 
 -- the number for which a side is a name
-abbrev pub number_of : Side → Hosts → ℕ
-number_of A w = w.number_a
-number_of B w = w.number_b
+abbrev pub side_number : Side → Hosts → ℕ
+side_number A w = w.number_a
+side_number B w = w.number_b
 
 abbrev pub host_of : Side → Hosts → Host
 host_of A w = w.a
@@ -48,10 +48,10 @@ with_host B h w = record w { b = h }
 
 -- what is in transit on a link of a side
 abbrev pub transit_of : Side → ℕ → Hosts → OnLink
-transit_of side link w = transit_at w.subnet (number_of side w) (number_of (other side) w) link
+transit_of side link w = transit_at w.subnet (side_number side w) (side_number (other side) w) link
 
 abbrev pub with_transit_of : Side → ℕ → OnLink → Hosts → Hosts
-with_transit_of side link transit w = record w { subnet = with_transit w.subnet (number_of side w) (number_of (other side) w) link transit }
+with_transit_of side link transit w = record w { subnet = with_transit w.subnet (side_number side w) (side_number (other side) w) link transit }
 
 -- The subnet takes a message of a host where it is regular, goes to a host of the subnet, and nothing is in
 -- transit on its link; else the subnet stays.
@@ -63,33 +63,33 @@ abbrev pub is_taken : Subnet → ℕ → List Bool → Bool
 is_taken subnet from message =
     is_regular message && has_way subnet from (host_in message) && is_free (transit_at subnet from (host_in message) (link_in message))
 
-unfoldable pub taken : ℕ → List Bool → Subnet → Subnet
-taken from message subnet =
+unfoldable pub accepted_from : ℕ → List Bool → Subnet → Subnet
+accepted_from from message subnet =
     if is_taken subnet from message then with_transit subnet from (host_in message) (link_in message) (Accepted message) else subnet
 
 -- the subnet after what a host noted of its output
-abbrev pub after_out : ℕ → HostNote → Subnet → Subnet
-after_out from (host_notes.Out message) subnet = taken from message subnet
-after_out from other subnet = subnet
+abbrev pub subnet_after_out : ℕ → HostNote → Subnet → Subnet
+subnet_after_out from (host_notes.Out message) subnet = accepted_from from message subnet
+subnet_after_out from other subnet = subnet
 
 -- a host after what it noted
 abbrev pub host_notes_it : Side → HostNote → Hosts → Hosts
 host_notes_it side note w = with_host side (transcripts.after_note note (host_of side w)) w
 
 abbrev pub sent_out : Side → HostNote → Hosts → Hosts
-sent_out side note w = record (host_notes_it side note w) { subnet = after_out (number_of side w) note w.subnet }
+sent_out side note w = record (host_notes_it side note w) { subnet = subnet_after_out (side_number side w) note w.subnet }
 
 -- after a note of the world
-abbrev pub after_note : Note → Hosts → Hosts
-after_note (notes.Called side note) w = host_notes_it side note w
-after_note (notes.Out side note) w = sent_out side note w
-after_note (notes.Came side link note) w = host_notes_it (other side) note (with_transit_of side link Delivered w)
-after_note (notes.Lost side link) w = with_transit_of side link Lost w
-after_note (notes.FoundDead side link) w = with_transit_of side link Dead w
-after_note (notes.Answered side link note) w = host_notes_it side note (with_transit_of side link Free w)
-after_note (notes.Nothing side link wanted) w = w
+abbrev pub hosts_after_note : Note → Hosts → Hosts
+hosts_after_note (notes.Called side note) w = host_notes_it side note w
+hosts_after_note (notes.Out side note) w = sent_out side note w
+hosts_after_note (notes.Came side link note) w = host_notes_it (other side) note (with_transit_of side link Delivered w)
+hosts_after_note (notes.Lost side link) w = with_transit_of side link Lost w
+hosts_after_note (notes.FoundDead side link) w = with_transit_of side link Dead w
+hosts_after_note (notes.Answered side link note) w = host_notes_it side note (with_transit_of side link Free w)
+hosts_after_note (notes.Nothing side link wanted) w = w
 
 -- the first note first
-abbrev pub after_notes : List Note → Hosts → Hosts
-after_notes [] w = w
-after_notes (note ∷ rest) w = after_notes rest (after_note note w)
+abbrev pub hosts_after_notes : List Note → Hosts → Hosts
+hosts_after_notes [] w = w
+hosts_after_notes (note ∷ rest) w = hosts_after_notes rest (hosts_after_note note w)

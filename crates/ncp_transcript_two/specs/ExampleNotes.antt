@@ -1,11 +1,11 @@
 -- Notes and ledgers of the examples.
-use Rattle.ncp_proof_resets.specs.Resets.{Side}
-use Rattle.ncp_transcript_two.specs.World.{Told, Note}
+use Rattle.ncp_proof_resets.specs.Resets.{Party}
+use Rattle.ncp_transcript_two.specs.World.{Told, WorldNote}
 use Rattle.ncp_transcript_two.specs.declared.ledger.Amount.{Amount}
 use Rattle.ncp_transcript_two.specs.declared.ledger.Ledger.{Ledger}
 
 -- at a side, this is told
-abbrev pub noted_at : Side → Told → Note
+abbrev pub noted_at : Party → Told → WorldNote
 noted_at side what = record { side = side; told = what }
 
 -- what is outstanding, and where it is: in the counters, in ALLs, in a text, in RETs

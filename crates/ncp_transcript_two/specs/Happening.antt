@@ -12,7 +12,7 @@ use Rattle.ncp_transcript_two.specs.declared.note.Move.TheVariants as moves
 use Rattle.ncp_transcript_two.specs.declared.note.Note.{Note}
 use Rattle.ncp_transcript_two.specs.declared.note.Note.TheVariants as notes
 use Rattle.ncp_transcript_two.specs.Seen.{CallFits}
-use Rattle.ncp_transcript_two.specs.Between.{Hosts, other, number_of, host_of, transit_of}
+use Rattle.ncp_transcript_two.specs.Between.{Hosts, other, side_number, host_of, transit_of}
 
 -- a call, whose numbers have their places in commands, is noted with what the host notes of it
 pub record IsCalled (side : Side) (call : Call) (note : Note) (w : Hosts) : Type 0 where
@@ -22,13 +22,13 @@ pub record IsCalled (side : Side) (call : Call) (note : Note) (w : Hosts) : Type
   pub fits : CallFits call
 
 -- bits come from the subnet, or there are none
-abbrev pub came : Side → ℕ → Option (List Bool) → Hosts → Note
-came side link None w = notes.Nothing side link moves.Deliver
-came side link (Some bits) w = notes.Came side link (note_of_bits bits (host_of (other side) w))
+abbrev pub note_of_coming : Side → ℕ → Option (List Bool) → Hosts → Note
+note_of_coming side link None w = notes.Nothing side link moves.Deliver
+note_of_coming side link (Some bits) w = notes.Came side link (note_of_bits bits (host_of (other side) w))
 
-abbrev pub answered : Side → ℕ → Option (List Bool) → Hosts → Note
-answered side link None w = notes.Nothing side link moves.Answer
-answered side link (Some bits) w = notes.Answered side link (note_of_bits bits (host_of side w))
+abbrev pub note_of_answering : Side → ℕ → Option (List Bool) → Hosts → Note
+note_of_answering side link None w = notes.Nothing side link moves.Answer
+note_of_answering side link (Some bits) w = notes.Answered side link (note_of_bits bits (host_of side w))
 
 -- where a message has not come, it may be lost or find its destination dead
 abbrev pub note_of_loss : Side → ℕ → Hosts → Note
@@ -41,10 +41,10 @@ abbrev pub note_of_out : Side → Hosts → Note
 note_of_out side w = notes.Out side (note_of_output (host_of side w))
 
 abbrev pub note_of_delivery : Side → ℕ → Hosts → Note
-note_of_delivery side link w = came side link (arriving (number_of side w) (transit_of side link w)) w
+note_of_delivery side link w = note_of_coming side link (arriving (side_number side w) (transit_of side link w)) w
 
 abbrev pub note_of_answer : Side → ℕ → Hosts → Note
-note_of_answer side link w = answered side link (answer_about (number_of (other side) w) link (transit_of side link w)) w
+note_of_answer side link w = note_of_answering side link (answer_about (side_number (other side) w) link (transit_of side link w)) w
 
 abbrev pub Noted : Event → Note → Hosts → Type 0
 Noted (events.Call side call) note w = IsCalled side call note w

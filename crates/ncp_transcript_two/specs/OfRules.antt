@@ -1,7 +1,7 @@
 -- A transcript of a world is a run of the rules, and of the model.
 use Rattle.std.specs.Prelude.{◌≡◌, List}
 use Rattle.ncp_proof_machine.specs.Hosts as hosts
-use Rattle.ncp_transcript_two.specs.World.{Event, run_from, notes_from}
+use Rattle.ncp_transcript_two.specs.World.{WorldEvent, world_run_from, notes_from}
 use Rattle.ncp_transcript_two.specs.Watch.{Both, no_histories, histories_from}
 use Rattle.ncp_transcript_two.specs.Tie.{AreEvents, Tied}
 use Rattle.ncp_transcript_two.specs.declared.note.Note.{Note}
@@ -16,7 +16,7 @@ histories_of ns w = histories ns (began w) no_histories
 -- there are events of the rules that lead to what is seen, with what the notes tell, and with their histories
 abbrev pub IsOfRules : List Note → Hosts → Type 0
 IsOfRules ns w =
-    (events : List Event) × AreEvents events × (run_from events (seen (began w)) ≡ seen w) × (notes_from events (seen (began w)) ≡ told ns)
+    (events : List WorldEvent) × AreEvents events × (world_run_from events (seen (began w)) ≡ seen w) × (notes_from events (seen (began w)) ≡ told ns)
     × (histories_from events (seen (began w)) no_histories ≡ histories_of ns w)
 
 -- there are events of the model after which its two hosts have these histories, and what is seen stands for
@@ -24,5 +24,5 @@ IsOfRules ns w =
 -- transit, is the written form of what they have there
 abbrev pub IsOfModelsHosts : List Note → Hosts → Type 0
 IsOfModelsHosts ns w =
-    (events : List hosts.Event) × Tied (hosts.run events) (seen w)
+    (events : List hosts.NodeEvent) × Tied (hosts.run events) (seen w)
     × ((hosts.run events).this.pasts ≡ (histories_of ns w).this) × ((hosts.run events).that.pasts ≡ (histories_of ns w).that)

@@ -4,19 +4,19 @@ use Rattle.ncp_model.specs.declared.outcomes.Took.{Took}
 use Rattle.ncp_model.specs.declared.outcomes.Took.TheVariants as took
 use Rattle.ncp_host.specs.declared.received.Received.{Received}
 use Rattle.ncp_host.specs.declared.received.Received.TheVariants as cases
-use Rattle.ncp_transcript_two.specs.World.{Told, In, Answered, Note}
+use Rattle.ncp_transcript_two.specs.World.{Told, In, Answered, WorldNote}
 
 -- a text that is not connected, of the wrong size, or beyond the allocation
-abbrev pub is_bad_text : Took → Bool
-is_bad_text took.WrongSize = true
-is_bad_text took.Over = true
-is_bad_text took.NotOpen = true
-is_bad_text t = false
+abbrev pub is_refused_text : Took → Bool
+is_refused_text took.WrongSize = true
+is_refused_text took.Over = true
+is_refused_text took.NotOpen = true
+is_refused_text t = false
 
 -- such a text, or bits that are no message, of another type, from no peer, or on a link that carries nothing,
 -- or a control message of the wrong byte size, or an answer to nothing
 abbrev pub is_refused : Received → Bool
-is_refused (cases.Text t) = is_bad_text t
+is_refused (cases.Text t) = is_refused_text t
 is_refused (cases.Fault fault) = true
 is_refused cases.WrongLink = true
 is_refused cases.WrongSize = true
@@ -31,6 +31,6 @@ refuses (In on m r) = is_refused r
 refuses (Answered on how r) = is_refused r
 refuses told = false
 
-abbrev pub any_refused : List Note → Bool
+abbrev pub any_refused : List WorldNote → Bool
 any_refused [] = false
 any_refused (n ∷ ns) = refuses n.told || any_refused ns

@@ -20,7 +20,7 @@ use Rattle.ncp_transcript_two.specs.declared.side.Side.{Side}
 use Rattle.ncp_transcript_two.specs.declared.side.Side.TheVariants.{A, B}
 use Rattle.ncp_transcript_two.specs.declared.note.Note.{Note}
 use Rattle.ncp_transcript_two.specs.declared.note.Note.TheVariants as notes
-use Rattle.ncp_transcript_two.specs.Between.{Hosts, after_note}
+use Rattle.ncp_transcript_two.specs.Between.{Hosts, hosts_after_note}
 
 abbrev pub state_or_new : Option PeerState → PeerState
 state_or_new None = new_state
@@ -41,7 +41,7 @@ seen w = record {
   coming = λ on. transit_at w.subnet w.number_b w.number_a on;
 }
 
-abbrev pub as_rules : Side → rules.Side
+abbrev pub as_rules : Side → rules.Party
 as_rules A = This
 as_rules B = That
 
@@ -101,28 +101,28 @@ side_of (notes.FoundDead side link) = side
 side_of (notes.Answered side link note) = side
 side_of (notes.Nothing side link wanted) = side
 
-abbrev pub notes_of : rules.Side → Option Told → List worlds.Note
+abbrev pub notes_of : rules.Party → Option Told → List worlds.WorldNote
 notes_of side None = []
 notes_of side (Some told) = record { side = side; told = told } ∷ []
 
 -- a transcript, as the rules note it
-abbrev pub told : List Note → List worlds.Note
+abbrev pub told : List Note → List worlds.WorldNote
 told [] = []
 told (note ∷ rest) = notes_of (as_rules (side_of note)) (told_of note) ++ told rest
 
 -- the histories after notes
-abbrev pub watched : rules.Side → Option Told → World → Both → Both
+abbrev pub watched : rules.Party → Option Told → World → Both → Both
 watched side None v p = p
-watched side (Some told) v p = watch.after_note side told v p
+watched side (Some told) v p = watch.histories_after_note side told v p
 
 abbrev pub histories : List Note → Hosts → Both → Both
 histories [] w p = p
-histories (note ∷ rest) w p = histories rest (after_note note w) (watched (as_rules (side_of note)) (told_of note) (seen w) p)
+histories (note ∷ rest) w p = histories rest (hosts_after_note note w) (watched (as_rules (side_of note)) (told_of note) (seen w) p)
 
 -- the numbers of a call have their places in commands
-abbrev pub Fits : Option Told → Type 0
-Fits (Some (Called asked reply)) = IsAsked asked
-Fits other = Unit {0}
+abbrev pub NoteFits : Option Told → Type 0
+NoteFits (Some (Called asked reply)) = IsAsked asked
+NoteFits other = Unit {0}
 
 abbrev pub CallFits : Call → Type 0
-CallFits call = Fits (done (asked_by call))
+CallFits call = NoteFits (done (asked_by call))

@@ -14,13 +14,13 @@ if_same B B note = note ∷ []
 if_same side by note = []
 
 -- a message that comes is a note of the other host than its sender; what the subnet does is none of a host
-abbrev pub note_at : Side → Note → List HostNote
-note_at side (notes.Called by note) = if_same side by note
-note_at side (notes.Out by note) = if_same side by note
-note_at side (notes.Came by link note) = if_same side (other by) note
-note_at side (notes.Answered by link note) = if_same side by note
-note_at side rest = []
+abbrev pub notes_at_side : Side → Note → List HostNote
+notes_at_side side (notes.Called by note) = if_same side by note
+notes_at_side side (notes.Out by note) = if_same side by note
+notes_at_side side (notes.Came by link note) = if_same side (other by) note
+notes_at_side side (notes.Answered by link note) = if_same side by note
+notes_at_side side rest = []
 
 abbrev pub notes_at : Side → List Note → List HostNote
 notes_at side [] = []
-notes_at side (note ∷ rest) = note_at side note ++ notes_at side rest
+notes_at side (note ∷ rest) = notes_at_side side note ++ notes_at side rest

@@ -11,11 +11,11 @@ abbrev pub Holds : Type 0
 Holds = OnLink
 
 -- and for each link
-abbrev pub Subnet : Type 0
-Subnet = ℕ → Holds
+abbrev pub TransitByLink : Type 0
+TransitByLink = ℕ → Holds
 
-abbrev pub new_subnet : Subnet
-new_subnet on = Free
+abbrev pub none_in_transit : TransitByLink
+none_in_transit on = Free
 
-abbrev pub set_at : ℕ → Holds → Subnet → Subnet
+abbrev pub set_at : ℕ → Holds → TransitByLink → TransitByLink
 set_at on holds u k = if k == on then holds else u k

@@ -12,29 +12,29 @@ use Rattle.ncp_model.specs.declared.pair.Pair.{Pair}
 use Rattle.ncp_model.specs.declared.limits.TheConstants.{MAX_CONTROL}
 use Rattle.ncp_model.specs.End.{End}
 use Rattle.ncp_proof_resets.specs.Delivery.{Link, Empty, Ready, Travelling, Held, Free, Accepted, Delivered, Lost, Dead}
-use Rattle.ncp_proof_resets.specs.Resets.{Side}
-use Rattle.ncp_model.specs.Peers.{Peer, Call, Ask_to_send, Allocate, Call_back}
+use Rattle.ncp_proof_resets.specs.Resets.{Party}
+use Rattle.ncp_model.specs.Peers.{Peer, PairCall, Ask_to_send, Allocate, Call_back}
 use Rattle.ncp_proof_machine.specs.Hosts.{TextOut, Node, peer_of}
 use Rattle.ncp_proof_machine.specs.Hosts as hosts
 use Rattle.ncp_host.specs.PeerState.{PeerState, new_state, control_link}
 use Rattle.ncp_host.specs.Hearing.{control_size, is_wrong_link}
 use Rattle.ncp_host.specs.Output.{message_to}
-use Rattle.ncp_transcript_two.specs.Subnet.{Holds, Subnet}
+use Rattle.ncp_transcript_two.specs.Subnet.{Holds, TransitByLink}
 use Rattle.ncp_transcript_two.specs.Subnet as bits
 use Rattle.ncp_transcript_two.specs.World.{World, Asked, Asks, Asks_echo, Asks_reset, Asks_wake}
 use Rattle.ncp_transcript_two.specs.World as worlds
 
 -- Where a message of a link is.
-pub data Place (M : Type 0) : Type 0 where
-  Nowhere : Place M
-  Waits : (m : M) → Place M  -- at its host, to go out again
-  Goes : (m : M) → Place M  -- with the subnet
-  Came : (m : M) → Place M
-  Failed : (m : M) → Place M
-  Died : (m : M) → Place M  -- its destination was found dead
-  Kept : (m : M) → Place M  -- at its host, until the user asks for it
+pub data Whereabouts (M : Type 0) : Type 0 where
+  Nowhere : Whereabouts M
+  Waits : (m : M) → Whereabouts M  -- at its host, to go out again
+  Goes : (m : M) → Whereabouts M  -- with the subnet
+  Came : (m : M) → Whereabouts M
+  Failed : (m : M) → Whereabouts M
+  Died : (m : M) → Whereabouts M  -- its destination was found dead
+  Kept : (m : M) → Whereabouts M  -- at its host, until the user asks for it
 
-abbrev pub model_of : {M : Type 0} → Place M → Link M
+abbrev pub model_of : {M : Type 0} → Whereabouts M → Link M
 model_of Nowhere = record { slot = Empty; subnet = Free }
 model_of (Waits m) = record { slot = Ready m; subnet = Free }
 model_of (Goes m) = record { slot = Travelling m; subnet = Accepted m }
@@ -43,7 +43,7 @@ model_of (Failed m) = record { slot = Travelling m; subnet = Lost }
 model_of (Died m) = record { slot = Travelling m; subnet = Dead }
 model_of (Kept m) = record { slot = Held m; subnet = Free }
 
-abbrev pub slot_of : {M : Type 0} → (M → List Bool) → Place M → LinkSlot
+abbrev pub slot_of : {M : Type 0} → (M → List Bool) → Whereabouts M → LinkSlot
 slot_of write Nowhere = slots.Empty
 slot_of write (Waits m) = slots.Ready (write m)
 slot_of write (Goes m) = slots.Travelling (write m)
@@ -52,7 +52,7 @@ slot_of write (Failed m) = slots.Travelling (write m)
 slot_of write (Died m) = slots.Travelling (write m)
 slot_of write (Kept m) = slots.Held (write m)
 
-abbrev pub holds_of : {M : Type 0} → (M → List Bool) → Place M → Holds
+abbrev pub holds_of : {M : Type 0} → (M → List Bool) → Whereabouts M → Holds
 holds_of write Nowhere = bits.Free
 holds_of write (Waits m) = bits.Free
 holds_of write (Goes m) = bits.Accepted (write m)
@@ -62,7 +62,7 @@ holds_of write (Died m) = bits.Dead
 holds_of write (Kept m) = bits.Free
 
 -- what holds of the message, if there is one
-abbrev pub OfMessage : {M : Type 0} → (M → Type 0) → Place M → Type 0
+abbrev pub OfMessage : {M : Type 0} → (M → Type 0) → Whereabouts M → Type 0
 OfMessage P Nowhere = Unit {0}
 OfMessage P (Waits m) = P m
 OfMessage P (Goes m) = P m
@@ -73,7 +73,7 @@ OfMessage P (Kept m) = P m
 
 -- a link of the model, and the slot and the subnet of bits that stand for it
 pub record Carries {M : Type 0} (write : M → List Bool) (P : M → Type 0) (link : Link M) (slot : LinkSlot) (holds : Holds) : Type 0 where
-  pub place : Place M
+  pub place : Whereabouts M
   pub model : link ≡ model_of place
   pub in_slot : slot ≡ slot_of write place
   pub in_subnet : holds ≡ holds_of write place
@@ -83,8 +83,8 @@ pub record Carries {M : Type 0} (write : M → List Bool) (P : M → Type 0) (li
 abbrev pub control_bits : ℕ → List Command → List Bool
 control_bits number cs = message_to number control_link control_size (bits_of_bytes (spellings cs))
 
-abbrev pub text_bits : ℕ → ℕ → TextOut → List Bool
-text_bits number on t = message_to number on t.of_size t.bits
+abbrev pub text_as_message : ℕ → ℕ → TextOut → List Bool
+text_as_message number on t = message_to number on t.of_size t.bits
 
 -- what can be written
 abbrev pub AreCommands : List Command → Type 0
@@ -101,7 +101,7 @@ IsTextOn on t = (is_wrong_link on ≡ false) × IsText t.of_size t.bits
 abbrev pub IsPair : Pair → Type 0
 IsPair pair = (pair.local < 2 ^ 32) × (pair.remote < 2 ^ 32)
 
-abbrev pub IsCall : Call → Type 0
+abbrev pub IsCall : PairCall → Type 0
 IsCall (Ask_to_send of_size with_room) = of_size < 2 ^ 8
 IsCall (Allocate of_messages of_bits) = (of_messages < 2 ^ 16) × (of_bits < 2 ^ 32)
 IsCall (Call_back of_messages of_bits) = (of_messages < 2 ^ 8) × (of_bits < 2 ^ 8)
@@ -122,19 +122,19 @@ pub record Well (p : Peer) : Type 0 where
   pub ends : (pair : Pair) → EndWell pair (get p.ends pair)
 
 -- one host and what goes from it
-pub record Stands (there : ℕ) (n : Node) (s : PeerState) (u : Subnet) : Type 0 where
+pub record Stands (there : ℕ) (n : Node) (s : PeerState) (u : TransitByLink) : Type 0 where
   pub number : there < 2 ^ 8
   pub peer : s.peer ≡ peer_of n
   pub control : Carries (control_bits there) AreCommands n.control (slot_at s.slots 0) (u 0)
-  pub texts : (on : ℕ) → (on == 0) ≡ false → Carries (text_bits there on) (IsTextOn on) (n.texts on) (slot_at s.slots on) (u on)
+  pub texts : (on : ℕ) → (on == 0) ≡ false → Carries (text_as_message there on) (IsTextOn on) (n.texts on) (slot_at s.slots on) (u on)
   pub well : Well s.peer
 
 -- the model comes to this world
-pub data Reached : hosts.World → Type 0 where
+pub data Reached : hosts.TwoNodes → Type 0 where
   Begins : Reached hosts.start
-  Goes_on : {w : hosts.World} → Reached w → (side : Side) → (step : hosts.Step) → Reached (hosts.at side step w)
+  Goes_on : {w : hosts.TwoNodes} → Reached w → (side : Party) → (step : hosts.NodeStep) → Reached (hosts.node_at side step w)
 
-pub record Tied (w : hosts.World) (v : World) : Type 0 where
+pub record Tied (w : hosts.TwoNodes) (v : World) : Type 0 where
   pub reached : Reached w
   pub this : Stands v.there w.this v.this v.going
   pub that : Stands v.here w.that v.that v.coming
@@ -146,11 +146,11 @@ IsAsked (Asks_echo byte) = byte < 2 ^ 8
 IsAsked Asks_reset = Unit {0}
 IsAsked Asks_wake = Unit {0}
 
-abbrev pub IsMove : worlds.Step → Type 0
+abbrev pub IsMove : worlds.WorldStep → Type 0
 IsMove (worlds.Call_is_made asked) = IsAsked asked
 IsMove step = Unit {0}
 
-abbrev pub AreEvents : List worlds.Event → Type 0
+abbrev pub AreEvents : List worlds.WorldEvent → Type 0
 AreEvents [] = Unit {0}
 AreEvents (e ∷ es) = IsMove e.step × AreEvents es
 
@@ -165,4 +165,4 @@ pub record IsNewWorld (v : World) : Type 0 where
 
 -- the model comes to a world for which this one stands
 abbrev pub IsOfModel : World → Type 0
-IsOfModel v = (w : hosts.World) × Tied w v
+IsOfModel v = (w : hosts.TwoNodes) × Tied w v

@@ -2,7 +2,7 @@
 use Rattle.std.specs.Prelude.{◌≡◌, ◌≢◌, ◌<◌, ◌^◌, ℕ, List, [], ◌∷◌, ◌++◌}
 use Rattle.ncp_transcript_two.specs.declared.event.Event.{Event}
 use Rattle.ncp_transcript_two.specs.declared.note.Note.{Note}
-use Rattle.ncp_transcript_two.specs.Between.{Hosts, new_hosts, after_note, after_notes}
+use Rattle.ncp_transcript_two.specs.Between.{Hosts, new_hosts, hosts_after_note, hosts_after_notes}
 use Rattle.ncp_transcript_two.specs.Happening.{Noted}
 
 -- a note says what the rules say at the state before it: it is the note of an event there
@@ -12,7 +12,7 @@ IsSaid note w = (event : Event) × Noted event note w
 -- a run: each note says so at the state that the notes before it leave
 abbrev pub IsRun : List Note → Hosts → Type 0
 IsRun [] w = Unit {0}
-IsRun (note ∷ rest) w = IsSaid note w × IsRun rest (after_note note w)
+IsRun (note ∷ rest) w = IsSaid note w × IsRun rest (hosts_after_note note w)
 
 -- the hosts and the subnet as they were when they began
 abbrev pub began : Hosts → Hosts
@@ -25,12 +25,12 @@ pub record IsTranscript (notes : List Note) (now : Hosts) : Type 0 where
   pub fits_a : now.number_a < 2 ^ 8
   pub fits_b : now.number_b < 2 ^ 8
   pub run : IsRun notes (began now)
-  pub state : now ≡ after_notes notes (began now)
+  pub state : now ≡ hosts_after_notes notes (began now)
 
 -- the notes of events, one for each, in order
 abbrev pub AreNotes : List Event → List Note → Hosts → Type 0
 AreNotes [] [] w = Unit {0}
-AreNotes (event ∷ events) (note ∷ rest) w = Noted event note w × AreNotes events rest (after_note note w)
+AreNotes (event ∷ events) (note ∷ rest) w = Noted event note w × AreNotes events rest (hosts_after_note note w)
 AreNotes events rest w = ⊥
 
 -- a world with its transcript
@@ -45,7 +45,7 @@ new_world a b = record { hosts = new_hosts a b; notes = [] }
 -- says
 abbrev pub IsStep : Event → Noted_world → Noted_world → Type 0
 IsStep event before now =
-    (note : Note) × Noted event note before.hosts × (now.notes ≡ before.notes ++ note ∷ []) × (now.hosts ≡ after_note note before.hosts)
+    (note : Note) × Noted event note before.hosts × (now.notes ≡ before.notes ++ note ∷ []) × (now.hosts ≡ hosts_after_note note before.hosts)
 
 -- events one after the other
 abbrev pub AreSteps : List Event → Noted_world → Noted_world → Type 0

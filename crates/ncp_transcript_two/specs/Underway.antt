@@ -16,7 +16,7 @@ use Rattle.ncp_model.specs.End.{End, is_open, or_new}
 use Rattle.ncp_proof_machine.specs.Hosts.{past_of}
 use Rattle.ncp_proof_headline.specs.Headline.{sum_on}
 use Rattle.ncp_host.specs.PeerState.{PeerState}
-use Rattle.ncp_transcript_two.specs.Subnet.{Holds, Free, Accepted, Delivered, Lost, Dead, Subnet}
+use Rattle.ncp_transcript_two.specs.Subnet.{Holds, Free, Accepted, Delivered, Lost, Dead, TransitByLink}
 use Rattle.ncp_transcript_two.specs.World.{World}
 use Rattle.ncp_transcript_two.specs.Watch.{Both}
 use Rattle.ncp_model.specs.Pairs.{turned}
@@ -50,7 +50,7 @@ commands_out None = []
 commands_out (Some m) = commands_of m
 
 -- the commands that have not come: those of that message, then those that wait
-abbrev pub underway : PeerState → Subnet → List Command
+abbrev pub underway : PeerState → TransitByLink → List Command
 underway s u = commands_out (not_come (slot_at s.slots 0) (u 0)) ++ s.peer.phase.waiting
 
 abbrev pub how_many : Option (List Bool) → ℕ

@@ -16,21 +16,21 @@ use Rattle.ncp_model.specs.Happenings as all
 use Rattle.ncp_model.specs.Leading.{comes}
 use Rattle.ncp_model.specs.Phase.{up}
 use Rattle.ncp_model.specs.Sending.{is_full}
-use Rattle.ncp_proof_resets.specs.Resets.{Side, This, That}
-use Rattle.ncp_model.specs.Peers.{Peer, Call, called}
+use Rattle.ncp_proof_resets.specs.Resets.{Party, This, That}
+use Rattle.ncp_model.specs.Peers.{Peer, PairCall, called}
 use Rattle.ncp_proof_machine.specs.Hosts.{Pasts, pasts_after, pasts_after_at}
 use Rattle.ncp_host.specs.PeerState.{PeerState, control_link}
 use Rattle.ncp_host.specs.Hearing as hearing
-use Rattle.ncp_transcript_two.specs.World.{World, swap, Asked, Asks, Asks_echo, Asks_reset, Asks_wake, Told, Called, In, Event, step}
+use Rattle.ncp_transcript_two.specs.World.{World, swap, Asked, Asks, Asks_echo, Asks_reset, Asks_wake, Told, Called, In, WorldEvent, step}
 
-abbrev pub of_call : Pair → Call → Peer → Pasts → Pasts
-of_call pair call p pasts = if up p.phase then pasts_after pair (called call (is_full p.phase) p.ends) p.ends pasts else pasts
+abbrev pub pasts_after_call : Pair → PairCall → Peer → Pasts → Pasts
+pasts_after_call pair call p pasts = if up p.phase then pasts_after pair (called call (is_full p.phase) p.ends) p.ends pasts else pasts
 
-abbrev pub of_asked : Asked → Peer → Pasts → Pasts
-of_asked (Asks pair call) p pasts = of_call pair call p pasts
-of_asked (Asks_echo byte) p pasts = pasts
-of_asked Asks_reset p pasts = pasts
-of_asked Asks_wake p pasts = pasts
+abbrev pub pasts_after_asked : Asked → Peer → Pasts → Pasts
+pasts_after_asked (Asks pair call) p pasts = pasts_after_call pair call p pasts
+pasts_after_asked (Asks_echo byte) p pasts = pasts
+pasts_after_asked Asks_reset p pasts = pasts
+pasts_after_asked Asks_wake p pasts = pasts
 
 abbrev pub of_command : Command → Peer → Pasts → Pasts
 of_command Rst p pasts = pasts
@@ -39,14 +39,14 @@ of_command c p pasts = if up p.phase then pasts_after_at (leads_to c p.ends) (co
 
 abbrev pub of_commands : List Command → PeerState → Pasts → Pasts
 of_commands [] s pasts = pasts
-of_commands (c ∷ cs) s pasts = of_commands cs (hearing.hears c s) (of_command c s.peer pasts)
+of_commands (c ∷ cs) s pasts = of_commands cs (hearing.state_hears c s) (of_command c s.peer pasts)
 
-abbrev pub of_text : ℕ → List Bool → Message → Peer → Pasts → Pasts
-of_text on head m p pasts = if up p.phase then pasts_after_at (pair_of (receiver_on on p.ends)) (Some (all.Text_comes head m.size m.text)) p.ends pasts else pasts
+abbrev pub pasts_after_text : ℕ → List Bool → Message → Peer → Pasts → Pasts
+pasts_after_text on head m p pasts = if up p.phase then pasts_after_at (pair_of (receiver_on on p.ends)) (Some (all.Text_comes head m.size m.text)) p.ends pasts else pasts
 
-abbrev pub of_message : ℕ → List Bool → Result Message MessageFault → PeerState → Pasts → Pasts
-of_message on bits (Err fault) s pasts = pasts
-of_message on bits (Ok m) s pasts = if on == control_link then of_commands (commands_in (bytes_of m.text)) s pasts else of_text on (take FRONT_BITS bits) m s.peer pasts
+abbrev pub pasts_after_message : ℕ → List Bool → Result Message MessageFault → PeerState → Pasts → Pasts
+pasts_after_message on bits (Err fault) s pasts = pasts
+pasts_after_message on bits (Ok m) s pasts = if on == control_link then of_commands (commands_in (bytes_of m.text)) s pasts else pasts_after_text on (take FRONT_BITS bits) m s.peer pasts
 
 -- the histories at this host and at that one
 pub record Both : Type 0 where
@@ -60,15 +60,15 @@ abbrev pub turn : Both → Both
 turn p = record { this = p.that; that = p.this }
 
 -- a note of this host, in the world before it
-abbrev pub after_told : Told → World → Both → Both
-after_told (Called asked reply) v p = record p { this = of_asked asked v.this.peer p.this }
-after_told (In on m received) v p = record p { that = of_message on m (message_in m) v.that p.that }
-after_told told v p = p
+abbrev pub histories_after_told : Told → World → Both → Both
+histories_after_told (Called asked reply) v p = record p { this = pasts_after_asked asked v.this.peer p.this }
+histories_after_told (In on m received) v p = record p { that = pasts_after_message on m (message_in m) v.that p.that }
+histories_after_told told v p = p
 
-abbrev pub after_note : Side → Told → World → Both → Both
-after_note This told v p = after_told told v p
-after_note That told v p = turn (after_told told (swap v) (turn p))
+abbrev pub histories_after_note : Party → Told → World → Both → Both
+histories_after_note This told v p = histories_after_told told v p
+histories_after_note That told v p = turn (histories_after_told told (swap v) (turn p))
 
-abbrev pub histories_from : List Event → World → Both → Both
+abbrev pub histories_from : List WorldEvent → World → Both → Both
 histories_from [] v p = p
-histories_from (e ∷ es) v p = histories_from es (step e v).0 (after_note e.side (step e v).1.told v p)
+histories_from (e ∷ es) v p = histories_from es (step e v).0 (histories_after_note e.side (step e v).1.told v p)

@@ -11,30 +11,30 @@ use Rattle.ncp_terms.specs.declared.answer.Answer.TheVariants as answer_kinds
 use Rattle.ncp_model.specs.declared.pair.Pair.{Pair}
 use Rattle.ncp_model.specs.declared.call_fault.CallFault.{CallFault}
 use Rattle.ncp_model.specs.Phase.{reset_answer}
-use Rattle.ncp_model.specs.Peers.{Call, Take, comes_of, reply, reply_of_take, reply_of_echo}
-use Rattle.ncp_proof_resets.specs.Resets.{Side, This, That}
+use Rattle.ncp_model.specs.Peers.{PairCall, Take, comes_of, reply, reply_of_take, reply_of_echo}
+use Rattle.ncp_proof_resets.specs.Resets.{Party, This, That}
 use Rattle.ncp_host.specs.declared.received.Received.{Received}
 use Rattle.ncp_host.specs.declared.received.Received.TheVariants as cases
 use Rattle.ncp_host.specs.PeerState.{PeerState}
 use Rattle.ncp_host.specs.PeerState as states
 use Rattle.ncp_host.specs.Hearing.{rfnm, incomplete, destination_dead, after_bits, received_of}
 use Rattle.ncp_host.specs.Output.{next_of, after_output}
-use Rattle.ncp_transcript_two.specs.Subnet.{Holds, Free, Accepted, Delivered, Lost, Dead, Subnet, set_at, link_in, from_host, answer_bits}
+use Rattle.ncp_transcript_two.specs.Subnet.{Holds, Free, Accepted, Delivered, Lost, Dead, TransitByLink, set_at, link_in, from_host, answer_bits}
 
 pub record World : Type 0 where
   pub here : ℕ  -- this host's number
   pub there : ℕ  -- that host's number
   pub this : PeerState
   pub that : PeerState
-  pub going : Subnet  -- from this host to that one
-  pub coming : Subnet
+  pub going : TransitByLink  -- from this host to that one
+  pub coming : TransitByLink
 
 abbrev pub swap : World → World
 swap w = record { here = w.there; there = w.here; this = w.that; that = w.this; going = w.coming; coming = w.going }
 
 -- the calls of a user
 pub data Asked : Type 0 where
-  Asks : (pair : Pair) → (call : Call) → Asked
+  Asks : (pair : Pair) → (call : PairCall) → Asked
   Asks_echo : (byte : ℕ) → Asked
   Asks_reset : Asked
   Asks_wake : Asked  -- for what is held since its destination was dead
@@ -43,13 +43,13 @@ pub data Reply : Type 0 where
   Replied : (reply : Result (Unit {0}) CallFault) → Reply
   Took : (reply : Result (List Bool) CallFault) → Reply
 
-abbrev pub after_call : Asked → PeerState → PeerState
-after_call (Asks pair call) s = states.calls pair call s
-after_call (Asks_echo byte) s = states.calls_echo byte s
-after_call Asks_reset s = states.calls_reset s
-after_call Asks_wake s = states.calls_wake s
+abbrev pub state_after_asked : Asked → PeerState → PeerState
+state_after_asked (Asks pair call) s = states.state_calls pair call s
+state_after_asked (Asks_echo byte) s = states.state_calls_echo byte s
+state_after_asked Asks_reset s = states.state_calls_reset s
+state_after_asked Asks_wake s = states.state_calls_wake s
 
-abbrev pub reply_of_call : Pair → Call → PeerState → Reply
+abbrev pub reply_of_call : Pair → PairCall → PeerState → Reply
 reply_of_call pair (Take bytes) s = Took (reply_of_take (comes_of pair (Take bytes) s.peer))
 reply_of_call pair call s = Replied (reply (comes_of pair call s.peer))
 
@@ -61,33 +61,33 @@ reply_to Asks_wake s = Replied (Ok tt)
 
 -- Bits come to a host from its peer.
 
-abbrev pub after_with : Result Leader Short → List Bool → PeerState → PeerState
-after_with (Err short) bits s = s
-after_with (Ok leader) bits s = after_bits leader bits s
+abbrev pub state_after_with : Result Leader Short → List Bool → PeerState → PeerState
+state_after_with (Err short) bits s = s
+state_after_with (Ok leader) bits s = after_bits leader bits s
 
-abbrev pub received_with : Result Leader Short → List Bool → PeerState → Received
-received_with (Err short) bits s = cases.Short
-received_with (Ok leader) bits s = received_of leader bits s
+abbrev pub state_received_with : Result Leader Short → List Bool → PeerState → Received
+state_received_with (Err short) bits s = cases.Short
+state_received_with (Ok leader) bits s = received_of leader bits s
 
-abbrev pub after_received : List Bool → PeerState → PeerState
-after_received bits s = after_with (leader_in bits) bits s
+abbrev pub state_after_received : List Bool → PeerState → PeerState
+state_after_received bits s = state_after_with (leader_in bits) bits s
 
 abbrev pub received : List Bool → PeerState → Received
-received bits s = received_with (leader_in bits) bits s
+received bits s = state_received_with (leader_in bits) bits s
 
 -- What may happen.
 
-pub data Step : Type 0 where
-  Call_is_made : (asked : Asked) → Step
-  Goes_out : Step
-  Is_delivered : (on : ℕ) → Step  -- the message of this host on a link
-  Is_lost : (on : ℕ) → Step
-  Finds_dead : (on : ℕ) → Step  -- it finds its destination dead
-  Is_answered : (on : ℕ) → Step
+pub data WorldStep : Type 0 where
+  Call_is_made : (asked : Asked) → WorldStep
+  Goes_out : WorldStep
+  Is_delivered : (on : ℕ) → WorldStep  -- the message of this host on a link
+  Is_lost : (on : ℕ) → WorldStep
+  Finds_dead : (on : ℕ) → WorldStep  -- it finds its destination dead
+  Is_answered : (on : ℕ) → WorldStep
 
-pub record Event : Type 0 where
-  pub side : Side
-  pub step : Step
+pub record WorldEvent : Type 0 where
+  pub side : Party
+  pub step : WorldStep
 
 -- what is noted of it
 pub data Told : Type 0 where
@@ -99,19 +99,19 @@ pub data Told : Type 0 where
   Answered : (on : ℕ) → (how : Answer) → (received : Received) → Told
   Nothing : Told
 
-pub record Note : Type 0 where
-  pub side : Side  -- of the sender
+pub record WorldNote : Type 0 where
+  pub side : Party  -- of the sender
   pub told : Told
 
 abbrev pub goes : Option (ℕ × List Bool) → World → World × Told
 goes None w = (w, Nothing)
 goes (Some out) w = (record w { this = after_output out.0 out.1 w.this; going = set_at (link_in out.1) (Accepted out.1) w.going }, Out out.1)
 
-abbrev pub delivered : ℕ → List Bool → World → World × Told
-delivered on m w = (record w { that = after_received m w.that; going = set_at on Delivered w.going }, In on m (received m w.that))
+abbrev pub world_delivered : ℕ → List Bool → World → World × Told
+world_delivered on m w = (record w { that = state_after_received m w.that; going = set_at on Delivered w.going }, In on m (received m w.that))
 
 abbrev pub delivers : ℕ → Holds → World → World × Told
-delivers on (Accepted m) w = delivered on (from_host w.here m) w
+delivers on (Accepted m) w = world_delivered on (from_host w.here m) w
 delivers on holds w = (w, Nothing)
 
 abbrev pub loses : ℕ → Holds → World → World × Told
@@ -122,17 +122,17 @@ abbrev pub dies : ℕ → Holds → World → World × Told
 dies on (Accepted m) w = (record w { going = set_at on Dead w.going }, Went_dead on)
 dies on holds w = (w, Nothing)
 
-abbrev pub answers : ℕ → Answer → List Bool → World → World × Told
-answers on how bits w = (record w { this = after_received bits w.this; going = set_at on Free w.going }, Answered on how (received bits w.this))
+abbrev pub world_answers : ℕ → Answer → List Bool → World → World × Told
+world_answers on how bits w = (record w { this = state_after_received bits w.this; going = set_at on Free w.going }, Answered on how (received bits w.this))
 
 abbrev pub answers_for : ℕ → Holds → World → World × Told
-answers_for on Delivered w = answers on Rfnm (answer_bits rfnm w.there on) w
-answers_for on Lost w = answers on Incomplete (answer_bits incomplete w.there on) w
-answers_for on Dead w = answers on answer_kinds.Dead (answer_bits destination_dead w.there on) w
+answers_for on Delivered w = world_answers on Rfnm (answer_bits rfnm w.there on) w
+answers_for on Lost w = world_answers on Incomplete (answer_bits incomplete w.there on) w
+answers_for on Dead w = world_answers on answer_kinds.Dead (answer_bits destination_dead w.there on) w
 answers_for on holds w = (w, Nothing)
 
-abbrev pub moves : Step → World → World × Told
-moves (Call_is_made asked) w = (record w { this = after_call asked w.this }, Called asked (reply_to asked w.this))
+abbrev pub moves : WorldStep → World → World × Told
+moves (Call_is_made asked) w = (record w { this = state_after_asked asked w.this }, Called asked (reply_to asked w.this))
 moves Goes_out w = goes (next_of w.there w.this) w
 moves (Is_delivered on) w = delivers on (w.going on) w
 moves (Is_lost on) w = loses on (w.going on) w
@@ -142,19 +142,19 @@ moves (Is_answered on) w = answers_for on (w.going on) w
 abbrev pub turned_back : World × Told → World × Told
 turned_back did = (swap did.0, did.1)
 
-abbrev pub at : Side → Step → World → World × Told
+abbrev pub at : Party → WorldStep → World → World × Told
 at This step w = moves step w
 at That step w = turned_back (moves step (swap w))
 
-abbrev pub step : Event → World → World × Note
+abbrev pub step : WorldEvent → World → World × WorldNote
 step e w = ((at e.side e.step w).0, record { side = e.side; told = (at e.side e.step w).1 })
 
 -- a whole run, and its transcript
 
-abbrev pub run_from : List Event → World → World
-run_from [] w = w
-run_from (e ∷ es) w = run_from es (step e w).0
+abbrev pub world_run_from : List WorldEvent → World → World
+world_run_from [] w = w
+world_run_from (e ∷ es) w = world_run_from es (step e w).0
 
-abbrev pub notes_from : List Event → World → List Note
+abbrev pub notes_from : List WorldEvent → World → List WorldNote
 notes_from [] w = []
 notes_from (e ∷ es) w = (step e w).1 ∷ notes_from es (step e w).0

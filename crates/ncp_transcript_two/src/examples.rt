@@ -11,7 +11,7 @@ ghost use Rattle.ncp_transcript_two.specs.Subnet.{from_host};
 ghost use Rattle.ncp_transcript_two.specs.Subnet as subnets;
 ghost use Rattle.ncp_transcript_two.specs.ExampleNotes.{amounts, noted_at};
 ghost use Rattle.ncp_transcript_two.specs.World.{In, Answered};
-ghost use Rattle.ncp_transcript_two.specs.Honest.{Sent, Comes, Taken, Refused, Other, Clear, HonestFrom, sent_from, RepeatsFrom, IsBeginning, deeds};
+ghost use Rattle.ncp_transcript_two.specs.Honest.{Sent, Comes, Taken, Refused, Other, Clear, HonestFrom, sent_from, RepeatsFrom, IsBeginningWithin, deeds_told};
 ghost use Rattle.ncp_transcript_two.specs.Underway.{not_come};
 ghost use Rattle.ncp_transcript_two.specs.Ledgers.{amount, IsBalanced};
 ghost use Rattle.ncp_transcript_two.specs.Refused.{is_refused};
@@ -37,17 +37,17 @@ pub fn what_goes_out_again_is_not_sent_anew()
     ensures again { (m : List Bool) → sent_from 1 true (Sent m ∷ Refused ∷ Sent m ∷ []) ≡ from_host 1 m ∷ [] }
     ensures anew { (m n : List Bool) → sent_from 1 true (Sent m ∷ Taken ∷ Sent n ∷ []) ≡ from_host 1 m ∷ from_host 1 n ∷ [] }
     ensures another { (m n : List Bool) → (n ≡ m → ⊥) → RepeatsFrom [] true (Sent m ∷ Refused ∷ Sent n ∷ []) → ⊥ }
-    ensures two_behind { (m n : List Bool) → IsBeginning 1 [] (m ∷ n ∷ []) → ⊥ }
-    ensures one_behind { (m n : List Bool) → IsBeginning 1 (m ∷ []) (m ∷ n ∷ []) }
+    ensures two_behind { (m n : List Bool) → IsBeginningWithin 1 [] (m ∷ n ∷ []) → ⊥ }
+    ensures one_behind { (m n : List Bool) → IsBeginningWithin 1 (m ∷ []) (m ∷ n ∷ []) }
 {}
 
 /// What a note tells is of the messages of its own side on its own link alone.
 pub fn notes_are_of_one_side_and_one_link()
-    ensures came { (m : List Bool) (r : Received) → deeds This 2 (noted_at This (In 2 m r) ∷ []) ≡ Comes m ∷ [] }
-    ensures elsewhere { (m : List Bool) (r : Received) → deeds This 3 (noted_at This (In 2 m r) ∷ []) ≡ Other ∷ [] }
-    ensures of_that { (m : List Bool) (r : Received) → deeds That 2 (noted_at This (In 2 m r) ∷ []) ≡ Other ∷ [] }
-    ensures taken { (r : Received) → deeds That 2 (noted_at That (Answered 2 Rfnm r) ∷ []) ≡ Taken ∷ [] }
-    ensures refused { (r : Received) → deeds That 2 (noted_at That (Answered 2 Dead r) ∷ []) ≡ Refused ∷ [] }
+    ensures came { (m : List Bool) (r : Received) → deeds_told This 2 (noted_at This (In 2 m r) ∷ []) ≡ Comes m ∷ [] }
+    ensures elsewhere { (m : List Bool) (r : Received) → deeds_told This 3 (noted_at This (In 2 m r) ∷ []) ≡ Other ∷ [] }
+    ensures of_that { (m : List Bool) (r : Received) → deeds_told That 2 (noted_at This (In 2 m r) ∷ []) ≡ Other ∷ [] }
+    ensures taken { (r : Received) → deeds_told That 2 (noted_at That (Answered 2 Rfnm r) ∷ []) ≡ Taken ∷ [] }
+    ensures refused { (r : Received) → deeds_told That 2 (noted_at That (Answered 2 Dead r) ∷ []) ≡ Refused ∷ [] }
 {}
 
 /// A message is underway from the moment it is ready until it came: also while it is held, and where it was lost

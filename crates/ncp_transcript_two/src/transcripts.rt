@@ -13,7 +13,7 @@ ghost use Rattle.ncp_transcript.specs.declared.note.HostNote.{HostNote};
 ghost use Rattle.ncp_transcript.specs.declared.note.HostNote.TheVariants as of_host;
 ghost use Rattle.ncp_transcript_two.specs.declared.note.Move.{Move};
 ghost use Rattle.ncp_transcript_two.specs.declared.note.Note.TheVariants as of_world;
-ghost use Rattle.ncp_transcript_two.specs.Between.{Hosts, other, number_of, host_of, transit_of, after_notes};
+ghost use Rattle.ncp_transcript_two.specs.Between.{Hosts, other, side_number, host_of, transit_of, hosts_after_notes};
 ghost use Rattle.ncp_transcript_two.specs.Transcript.{IsRun, AreNotes, began, IsTranscript};
 ghost use Rattle.ncp_transcript_two.specs.Vain.{CannotBe};
 ghost use Rattle.ncp_transcript_two.specs.Naming.{IsMessageFrom, IsAnswerAbout};
@@ -46,7 +46,7 @@ pub fn transcripts_are_of_the_model()
 /// Each host of a world is one by itself: its own notes are a run of one host with one peer, and it is what
 /// they leave. So what is proved of every run of one host holds of it.
 pub fn each_host_is_by_itself()
-    ensures { (notes : List Note) (w : Hosts) (side : sides.Side) → IsTranscript notes w → runs.IsTranscript (notes_at side notes) (host_of side w) }
+    ensures { (notes : List Note) (w : Hosts) (side : sides.Side) → IsTranscript notes w → runs.IsHostTranscript (notes_at side notes) (host_of side w) }
 {}
 
 /// What transcripts keep of streams, allocation and what is underway. For each pair, either way: what a live
@@ -78,8 +78,8 @@ pub fn transcripts_are_honest()
 /// happen; of a host that was asked for its next message, where it has none to go out; of a call, or of what
 /// came to a host, never.
 pub fn nothing_is_noted_only_where_nothing_can_be()
-    ensures moves { (before after : List Note) (w : Hosts) (side : sides.Side) (link : ℕ) (wanted : Move) → IsTranscript (before ++ of_world.Nothing side link wanted ∷ after) w → CannotBe wanted (transit_of side link (after_notes before (began w))) }
-    ensures out { (before after : List Note) (w : Hosts) (side : sides.Side) → IsTranscript (before ++ of_world.Out side of_host.Nothing ∷ after) w → next_output (host_of side (after_notes before (began w))) ≡ None }
+    ensures moves { (before after : List Note) (w : Hosts) (side : sides.Side) (link : ℕ) (wanted : Move) → IsTranscript (before ++ of_world.Nothing side link wanted ∷ after) w → CannotBe wanted (transit_of side link (hosts_after_notes before (began w))) }
+    ensures out { (before after : List Note) (w : Hosts) (side : sides.Side) → IsTranscript (before ++ of_world.Out side of_host.Nothing ∷ after) w → next_output (host_of side (hosts_after_notes before (began w))) ≡ None }
     ensures called { (side : sides.Side) → IsNeverNoted (of_world.Called side of_host.Nothing) }
     ensures came { (side : sides.Side) (link : ℕ) → IsNeverNoted (of_world.Came side link of_host.Nothing) }
     ensures answered { (side : sides.Side) (link : ℕ) → IsNeverNoted (of_world.Answered side link of_host.Nothing) }
@@ -88,6 +88,6 @@ pub fn nothing_is_noted_only_where_nothing_can_be()
 /// What came from the subnet is noted with the host and the link of the note: a message as one from the host
 /// of the side, on this link; an answer as one about a message to the other host, on this link.
 pub fn what_came_has_the_host_and_the_link_of_its_note()
-    ensures came { (before after : List Note) (w : Hosts) (side : sides.Side) (link : ℕ) (note : HostNote) → IsTranscript (before ++ of_world.Came side link note ∷ after) w → IsMessageFrom (number_of side w) link note }
-    ensures answered { (before after : List Note) (w : Hosts) (side : sides.Side) (link : ℕ) (note : HostNote) → IsTranscript (before ++ of_world.Answered side link note ∷ after) w → IsAnswerAbout (number_of (other side) w) link note }
+    ensures came { (before after : List Note) (w : Hosts) (side : sides.Side) (link : ℕ) (note : HostNote) → IsTranscript (before ++ of_world.Came side link note ∷ after) w → IsMessageFrom (side_number side w) link note }
+    ensures answered { (before after : List Note) (w : Hosts) (side : sides.Side) (link : ℕ) (note : HostNote) → IsTranscript (before ++ of_world.Answered side link note ∷ after) w → IsAnswerAbout (side_number (other side) w) link note }
 {}

@@ -11,7 +11,7 @@ use Rattle.ncp_umpire.specs.declared.way.Way.TheVariants.{ToImp, FromImp}
 use Rattle.ncp_umpire.specs.declared.phase.Turn.{Turn}
 use Rattle.ncp_umpire.specs.declared.umpire.Umpire.{Umpire}
 use Rattle.ncp_umpire.specs.Events.{is_answer, event_behind}
-use Rattle.ncp_umpire.specs.Judged.{sees, fresh_out, after_out, after_answer, after_in, turn_at, after_said, after_event, after_record}
+use Rattle.ncp_umpire.specs.Judged.{sees, fresh_out, umpire_after_out, umpire_after_answer, after_in, turn_at, after_said, after_event, after_record}
 use Rattle.ncp_umpire.proofs.Passing.{to_host, goes_to}
 
 -- the same is kept, and room is there as before
@@ -23,17 +23,17 @@ said_keeps umpire at peer turn true (Ok message) = (refl, refl)
 said_keeps umpire at peer turn false (Ok message) = (refl, refl)
 said_keeps umpire at peer turn fresh (Err fault) = (refl, refl)
 
-pub out_keeps : (umpire : Umpire) (me n on : ℕ) (bits : List Bool) → leader_in bits ≡ Ok (to_host n on) → (n == me) ≡ false → Keeps (after_out (sees umpire me) me n on bits) (after_record umpire ToImp me bits)
+pub out_keeps : (umpire : Umpire) (me n on : ℕ) (bits : List Bool) → leader_in bits ≡ Ok (to_host n on) → (n == me) ≡ false → Keeps (umpire_after_out (sees umpire me) me n on bits) (after_record umpire ToImp me bits)
 out_keeps umpire me n on bits led apart =
     let v = sees umpire me in
-    let after = after_out v me n on bits in
+    let after = umpire_after_out v me n on bits in
     subst (λ (e : Event). Keeps after (after_event v me bits e)) (sym (goes_to me n on bits led apart))
     (said_keeps after me n (turn_at after me n me true) (fresh_out v me n on bits) (message_in bits))
 
 -- it is read on
 pub out_is : (umpire : Umpire) (me n on : ℕ) (bits : List Bool) → leader_in bits ≡ Ok (to_host n on) → (n == me) ≡ false
     → after_record umpire ToImp me bits
-    ≡ after_said (after_out (sees umpire me) me n on bits) me n (turn_at (after_out (sees umpire me) me n on bits) me n me true) (fresh_out (sees umpire me) me n on bits) (message_in bits)
+    ≡ after_said (umpire_after_out (sees umpire me) me n on bits) me n (turn_at (umpire_after_out (sees umpire me) me n on bits) me n me true) (fresh_out (sees umpire me) me n on bits) (message_in bits)
 out_is umpire me n on bits led apart = ap (λ (e : Event). after_event (sees umpire me) me bits e) (goes_to me n on bits led apart)
 
 -- what comes, by its leader: whether it names the host itself, is regular, and is an answer
@@ -82,5 +82,5 @@ in_keeps umpire me bits leader answer led o z a =
     (said_keeps after me leader.host (turn_at after me leader.host leader.host false) true (message_in bits))
 
 pub answer_is : (umpire : Umpire) (me : ℕ) (bits : List Bool) (leader : Leader) → leader_in bits ≡ Ok leader → (leader.host == me) ≡ false → (leader.kind == 0) ≡ false → is_answer leader.kind ≡ true
-    → after_record umpire FromImp me bits ≡ after_answer (sees umpire me) leader.kind me leader.host leader.link
+    → after_record umpire FromImp me bits ≡ umpire_after_answer (sees umpire me) leader.kind me leader.host leader.link
 answer_is umpire me bits leader led o z a = by_leader umpire me bits leader false false true led o z a

@@ -26,11 +26,11 @@ use Rattle.ncp_umpire.specs.declared.phase.Turn.{Turn}
 use Rattle.ncp_umpire.specs.declared.umpire.Umpire.{Umpire}
 use Rattle.ncp_umpire.specs.declared.view.View.{View}
 use Rattle.ncp_umpire.specs.Acts.{act_of}
-use Rattle.ncp_umpire.specs.Views.{is_waiting}
-use Rattle.ncp_umpire.specs.Phases.{by, sender, is_early, early_rule, early_finding, hears_reset, again_finding, unquiet_finding, first_finding, reset_findings, unasked_finding, reply_findings, bad_finding, act_findings, item_findings, items_findings, after_item, after_items, missing_finding}
-use Rattle.ncp_umpire.specs.Messages.{rule_of_message, reading_of}
+use Rattle.ncp_umpire.specs.Views.{awaits_reply}
+use Rattle.ncp_umpire.specs.Phases.{broken_by, sender, is_early, early_rule, early_finding, hears_reset, again_finding, unquiet_finding, first_finding, reset_findings, unasked_finding, reply_findings, bad_finding, act_findings, item_findings, items_findings, after_item, after_items, missing_finding}
+use Rattle.ncp_umpire.specs.Messages.{rule_of_message, judged_reading}
 use Rattle.ncp_umpire.specs.Events.{is_answer, event_behind, event_of}
-use Rattle.ncp_umpire.specs.Judged.{by_host, by_imp, view_of, is_roomy, items_said, control_findings, read_findings, said_findings, message_findings, sees, sees_both, is_crowded, judges_coming, slot_of, out_finding, fresh_out, after_out, false_rule, false_finding, stray_rule, stray_finding, answer_findings, unsent_at, unsent_finding, after_in, turn_at, event_findings, record_findings}
+use Rattle.ncp_umpire.specs.Judged.{by_host, by_imp, view_of, is_roomy, items_said, control_findings, read_findings, said_findings, message_findings, sees, sees_both, is_crowded, judges_coming, slot_of_link, out_finding, fresh_out, umpire_after_out, false_rule, false_finding, stray_rule, stray_finding, answer_findings, unsent_at, unsent_finding, after_in, turn_at, event_findings, record_findings}
 
 abbrev pub Pass : (Finding → Bool) → List Finding → Type 0
 Pass P found = list_all P found ≡ true
@@ -88,25 +88,25 @@ is_said rule.MissingRrp = true
 is_said other = false
 
 abbrev pub Says : (Finding → Bool) → Turn → Type 0
-Says P turn = (r : Rule) → is_said r ≡ true → P (by turn r) ≡ true
+Says P turn = (r : Rule) → is_said r ≡ true → P (broken_by turn r) ≡ true
 
 early : (P : Finding → Bool) (turn : Turn) → Says P turn → (what : Thing) (view : View) → Pass P (option_to_list (early_finding turn what view))
-early P turn s what view = unless P (not view.told || not (is_early turn what view)) (by turn (early_rule turn what view)) (s (early_rule turn what view) refl)
+early P turn s what view = unless P (not view.told || not (is_early turn what view)) (broken_by turn (early_rule turn what view)) (s (early_rule turn what view) refl)
 
 unquiet : (P : Finding → Bool) (turn : Turn) → Says P turn → (reply : Bool) (view : View) → Pass P (option_to_list (unquiet_finding reply turn view))
-unquiet P turn s reply view = mapped_unless P (not turn.sent || view.rests) (λ (link : ℕ). by turn (rule.Unquiet reply link)) turn.busy (λ link e. s (rule.Unquiet reply link) refl)
+unquiet P turn s reply view = mapped_unless P (not turn.sent || view.rests) (λ (link : ℕ). broken_by turn (rule.Unquiet reply link)) turn.busy (λ link e. s (rule.Unquiet reply link) refl)
 
 resets : (P : Finding → Bool) (turn : Turn) → Says P turn → (view : View) → Pass P (reset_findings turn view)
 resets P turn s view =
-    let again = unless P (not (is_waiting (sender turn view).wait)) (by turn rule.RstAgain) (s rule.RstAgain refl) in
-    let first = where_so P (turn.sent && view.owes && view.first && not view.rests) (by turn rule.RrpFirst) (s rule.RrpFirst refl) in
+    let again = unless P (not (awaits_reply (sender turn view).wait)) (broken_by turn rule.RstAgain) (s rule.RstAgain refl) in
+    let first = where_so P (turn.sent && view.owes && view.first && not view.rests) (broken_by turn rule.RrpFirst) (s rule.RrpFirst refl) in
     all_where P (hears_reset turn view) (option_to_list (again_finding turn view) ++ option_to_list (unquiet_finding false turn view) ++ option_to_list (first_finding turn view))
     (both P (option_to_list (again_finding turn view) ++ option_to_list (unquiet_finding false turn view)) (option_to_list (first_finding turn view))
     (both P (option_to_list (again_finding turn view)) (option_to_list (unquiet_finding false turn view)) again (unquiet P turn s false view)) first)
 
 replies : (P : Finding → Bool) (turn : Turn) → Says P turn → (view : View) → Pass P (reply_findings turn view)
 replies P turn s view =
-    let unasked = unless P (not ((sender turn view).asked == 0) || (sender turn view).admits) (by turn rule.RrpUnasked) (s rule.RrpUnasked refl) in
+    let unasked = unless P (not ((sender turn view).asked == 0) || (sender turn view).admits) (broken_by turn rule.RrpUnasked) (s rule.RrpUnasked refl) in
     all_where P view.told (option_to_list (unasked_finding turn view) ++ option_to_list (unquiet_finding true turn view))
     (both P (option_to_list (unasked_finding turn view)) (option_to_list (unquiet_finding true turn view)) unasked (unquiet P turn s true view))
 
@@ -117,7 +117,7 @@ act P turn s (Other what) view = early P turn s what view
 
 bad : (P : Finding → Bool) (turn : Turn) → Says P turn → (item : Result Command CommandFault) → Pass P (option_to_list (bad_finding turn item))
 bad P turn s (Ok command) = refl
-bad P turn s (Err fault) = one P (by turn (rule.Bad fault)) (s (rule.Bad fault) refl)
+bad P turn s (Err fault) = one P (broken_by turn (rule.Bad fault)) (s (rule.Bad fault) refl)
 
 pub items : (P : Finding → Bool) (turn : Turn) → Says P turn → (said : List (Result Command CommandFault)) (view : View) → Pass P (items_findings turn said view)
 items P turn s [] view = refl
@@ -130,7 +130,7 @@ control : (P : Finding → Bool) (turn : Turn) → Says P turn → (text : List 
 control P turn s text view =
     let after = after_items turn (items_said text) view in
     both P (items_findings turn (items_said text) view) (option_to_list (missing_finding turn (is_roomy text) after)) (items P turn s (items_said text) view)
-    (where_so P (turn.sent && is_roomy text && after.told && after.owes && not after.rests && not (is_some turn.busy)) (by turn rule.MissingRrp) (s rule.MissingRrp refl))
+    (where_so P (turn.sent && is_roomy text && after.told && after.owes && not after.rests && not (is_some turn.busy)) (broken_by turn rule.MissingRrp) (s rule.MissingRrp refl))
 
 read : (P : Finding → Bool) (turn : Turn) → Says P turn → (reading : Reading) (text : List Bool) (view : View) → Pass P (read_findings reading turn text view)
 read P turn s Stop text view = refl
@@ -139,16 +139,16 @@ read P turn s Control text view = control P turn s text view
 
 said : (P : Finding → Bool) (turn : Turn) → Says P turn → (umpire : Umpire) (at peer : ℕ) (fresh : Bool) (r : Result Message MessageFault) → Pass P (said_findings umpire at peer turn fresh r)
 said P turn s umpire at peer fresh (Err fault) = refl
-said P turn s umpire at peer fresh (Ok message) = all_where P fresh (read_findings (reading_of message) turn message.text (view_of umpire at peer)) (read P turn s (reading_of message) message.text (view_of umpire at peer))
+said P turn s umpire at peer fresh (Ok message) = all_where P fresh (read_findings (judged_reading message) turn message.text (view_of umpire at peer)) (read P turn s (judged_reading message) message.text (view_of umpire at peer))
 
 -- ---- a message
 
 pub message : (P : Finding → Bool) (turn : Turn) → Says P turn → (umpire : Umpire) (at peer : ℕ) (fresh : Bool) (link : ℕ) (bits : List Bool)
-    → ((r : Rule) → rule_of_message (message_in bits) link (length bits) ≡ Some r → P (by turn r) ≡ true)
+    → ((r : Rule) → rule_of_message (message_in bits) link (length bits) ≡ Some r → P (broken_by turn r) ≡ true)
     → Pass P (message_findings umpire at peer turn fresh link bits)
 message P turn s umpire at peer fresh link bits h =
-    both P (option_to_list (option_map (by turn) (rule_of_message (message_in bits) link (length bits)))) (said_findings umpire at peer turn fresh (message_in bits))
-    (mapped P (by turn) (rule_of_message (message_in bits) link (length bits)) h)
+    both P (option_to_list (option_map (broken_by turn) (rule_of_message (message_in bits) link (length bits)))) (said_findings umpire at peer turn fresh (message_in bits))
+    (mapped P (broken_by turn) (rule_of_message (message_in bits) link (length bits)) h)
     (said P turn s umpire at peer fresh (message_in bits))
 
 -- ---- what comes: the finding is the subnet's, or another host's
@@ -160,8 +160,8 @@ answer : (P : Finding → Bool) (me : ℕ) → SparesOthers P me → (umpire : U
 answer P me s umpire kind peer link =
     all_unless P umpire.full (option_to_list (false_finding umpire kind me peer link) ++ option_to_list (stray_finding umpire kind me peer link))
     (both P (option_to_list (false_finding umpire kind me peer link)) (option_to_list (stray_finding umpire kind me peer link))
-    (mapped_where P (sees_both umpire peer && not (is_crowded umpire me peer)) by_imp (false_rule (slot_of umpire me peer link) kind peer link) (λ r e. s.0 r))
-    (mapped P by_imp (stray_rule (slot_of umpire me peer link) kind link) (λ r e. s.0 r)))
+    (mapped_where P (sees_both umpire peer && not (is_crowded umpire me peer)) by_imp (false_rule (slot_of_link umpire me peer link) kind peer link) (λ r e. s.0 r))
+    (mapped P by_imp (stray_rule (slot_of_link umpire me peer link) kind link) (λ r e. s.0 r)))
 
 coming : (P : Finding → Bool) (me : ℕ) → SparesOthers P me → (umpire : Umpire) (bits : List Bool) (peer link : ℕ) → (peer == me) ≡ false → Pass P (event_findings umpire FromImp me bits (event.In peer link))
 coming P me s umpire bits peer link e =
@@ -197,17 +197,17 @@ goes_to me n on bits led apart = ap (event_behind ToImp me) led ∙ ap (λ (b : 
 pub goes_said : (P : Finding → Bool) (umpire : Umpire) (me n on : ℕ) (bits : List Bool) → leader_in bits ≡ Ok (to_host n on) → (n == me) ≡ false
     → Pass P (option_to_list (out_finding (sees umpire me) me n on bits))
     → ((r : Rule) → rule_of_message (message_in bits) on (length bits) ≡ Some r → P (by_host me r) ≡ true)
-    → Pass P (said_findings (after_out (sees umpire me) me n on bits) me n (turn_at (after_out (sees umpire me) me n on bits) me n me true) (fresh_out (sees umpire me) me n on bits) (message_in bits))
+    → Pass P (said_findings (umpire_after_out (sees umpire me) me n on bits) me n (turn_at (umpire_after_out (sees umpire me) me n on bits) me n me true) (fresh_out (sees umpire me) me n on bits) (message_in bits))
     → Pass P (record_findings umpire ToImp me bits)
 goes_said P umpire me n on bits led apart link own rest =
     let v = sees umpire me in
-    let after = after_out v me n on bits in
+    let after = umpire_after_out v me n on bits in
     let turn = turn_at after me n me true in
     let fresh = fresh_out v me n on bits in
     subst (λ (e : Event). Pass P (event_findings v ToImp me bits e)) (sym (goes_to me n on bits led apart))
     (both P (option_to_list (out_finding v me n on bits)) (message_findings after me n turn fresh on bits) link
-    (both P (option_to_list (option_map (by turn) (rule_of_message (message_in bits) on (length bits)))) (said_findings after me n turn fresh (message_in bits))
-    (mapped P (by turn) (rule_of_message (message_in bits) on (length bits)) own) rest))
+    (both P (option_to_list (option_map (broken_by turn) (rule_of_message (message_in bits) on (length bits)))) (said_findings after me n turn fresh (message_in bits))
+    (mapped P (broken_by turn) (rule_of_message (message_in bits) on (length bits)) own) rest))
 
 pub goes : (P : Finding → Bool) (umpire : Umpire) (me n on : ℕ) (bits : List Bool) → leader_in bits ≡ Ok (to_host n on) → (n == me) ≡ false
     → ((r : Rule) → is_said r ≡ true → P (by_host me r) ≡ true)
@@ -216,5 +216,5 @@ pub goes : (P : Finding → Bool) (umpire : Umpire) (me n on : ℕ) (bits : List
     → Pass P (record_findings umpire ToImp me bits)
 goes P umpire me n on bits led apart s link own =
     let v = sees umpire me in
-    let after = after_out v me n on bits in
+    let after = umpire_after_out v me n on bits in
     goes_said P umpire me n on bits led apart link own (said P (turn_at after me n me true) s after me n (fresh_out v me n on bits) (message_in bits))

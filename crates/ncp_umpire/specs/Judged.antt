@@ -31,10 +31,10 @@ use Rattle.ncp_umpire.specs.declared.phase.Turn.{Turn}
 use Rattle.ncp_umpire.specs.declared.umpire.Umpire.{Umpire}
 use Rattle.ncp_umpire.specs.Views.{new_view}
 use Rattle.ncp_umpire.specs.Tables.{view_in, with_view}
-use Rattle.ncp_umpire.specs.Slots.{place_of, slot_at, same_at, same_but_host_at, busy_link, gone_out, has_room, with_out, with_slot, with_answered, kept_at, is_unknown}
-use Rattle.ncp_umpire.specs.Phases.{by, early_finding, after_thing, items_findings, after_items, after_room, missing_finding}
+use Rattle.ncp_umpire.specs.Slots.{place_of, kept_slot, same_at, same_but_host_at, busy_link, gone_out, has_room, with_out, with_kept_slot, with_answered, kept_at, is_unknown}
+use Rattle.ncp_umpire.specs.Phases.{broken_by, early_finding, after_thing, items_findings, after_items, after_room, missing_finding}
 use Rattle.ncp_umpire.specs.Events.{event_of}
-use Rattle.ncp_umpire.specs.Messages.{rule_of_message, reading_of}
+use Rattle.ncp_umpire.specs.Messages.{rule_of_message, judged_reading}
 
 -- nothing was seen
 abbrev pub new_umpire : Bool → Umpire
@@ -50,17 +50,17 @@ has_seen umpire host = get_or umpire.seen host false
 abbrev pub view_of : Umpire → ℕ → ℕ → View
 view_of umpire at peer = let view = view_in umpire.views at peer in record view { told = view.told && not umpire.full }
 
-abbrev pub slot_of : Umpire → ℕ → ℕ → ℕ → Slot
-slot_of umpire from to link = slot_at (view_in umpire.views from to).known umpire.kept (place_of from to link umpire.kept)
+abbrev pub slot_of_link : Umpire → ℕ → ℕ → ℕ → Slot
+slot_of_link umpire from to link = kept_slot (view_in umpire.views from to).known umpire.kept (place_of from to link umpire.kept)
 
 -- whether the slot of link 0 is known
 abbrev pub knows_zero : Umpire → ℕ → ℕ → Bool
-knows_zero umpire at peer = not umpire.full && not (is_unknown (slot_of umpire at peer 0))
+knows_zero umpire at peer = not umpire.full && not (is_unknown (slot_of_link umpire at peer 0))
 
 -- who is blamed for what a message is that goes out of a host, or comes to it
-abbrev pub sender_of : Way → ℕ → Who
-sender_of ToImp at = Host at
-sender_of FromImp at = Imp
+abbrev pub blamed_for : Way → ℕ → Who
+blamed_for ToImp at = Host at
+blamed_for FromImp at = Imp
 
 -- ---- a message goes out
 
@@ -81,12 +81,12 @@ is_fresh slot.Came same = true
 is_fresh slot.Again same = not same
 
 -- another one than that which was not delivered: what that one carried never comes
-abbrev pub changes : Slot → Bool → Bool
-changes slot.Unknown same = false
-changes slot.Empty same = false
-changes slot.Out same = false
-changes slot.Came same = false
-changes slot.Again same = not same
+abbrev pub changes_slot : Slot → Bool → Bool
+changes_slot slot.Unknown same = false
+changes_slot slot.Empty same = false
+changes_slot slot.Out same = false
+changes_slot slot.Came same = false
+changes_slot slot.Again same = not same
 
 abbrev pub same_of : Umpire → ℕ → ℕ → ℕ → List Bool → Bool
 same_of umpire at peer link bits = same_at umpire.kept (place_of at peer link umpire.kept) bits
@@ -99,32 +99,32 @@ by_imp rule = record { who = Imp; rule = rule }
 
 abbrev pub out_finding : Umpire → ℕ → ℕ → ℕ → List Bool → Option Finding
 out_finding umpire at peer link bits =
-    if umpire.full then None else option_map (by_host at) (out_rule (slot_of umpire at peer link) (same_of umpire at peer link bits) link)
+    if umpire.full then None else option_map (by_host at) (out_rule (slot_of_link umpire at peer link) (same_of umpire at peer link bits) link)
 
 abbrev pub fresh_out : Umpire → ℕ → ℕ → ℕ → List Bool → Bool
-fresh_out umpire at peer link bits = umpire.full || is_fresh (slot_of umpire at peer link) (same_of umpire at peer link bits)
+fresh_out umpire at peer link bits = umpire.full || is_fresh (slot_of_link umpire at peer link) (same_of umpire at peer link bits)
 
 -- the message is out
-abbrev pub is_out : Slot → Bool
-is_out slot.Unknown = false
-is_out slot.Empty = false
-is_out slot.Out = true
-is_out slot.Came = true
-is_out slot.Again = false
+abbrev pub is_slot_out : Slot → Bool
+is_slot_out slot.Unknown = false
+is_slot_out slot.Empty = false
+is_slot_out slot.Out = true
+is_slot_out slot.Came = true
+is_slot_out slot.Again = false
 
 -- the session rests where another message went out than the one that was not delivered; where the last one is still out,
 -- it is not known any more which of the two comes, or is answered
 abbrev pub view_after_out : View → Slot → Bool → View
-view_after_out view slot same = record view { rests = view.rests || changes slot same; crowded = view.crowded || is_out slot }
+view_after_out view slot same = record view { rests = view.rests || changes_slot slot same; crowded = view.crowded || is_slot_out slot }
 
-abbrev pub after_out : Umpire → ℕ → ℕ → ℕ → List Bool → Umpire
-after_out umpire at peer link bits =
+abbrev pub umpire_after_out : Umpire → ℕ → ℕ → ℕ → List Bool → Umpire
+umpire_after_out umpire at peer link bits =
     let place = place_of at peer link umpire.kept in
     if umpire.full then umpire
     else
     record umpire {
       full = not (has_room umpire.kept place);
-      views = with_view umpire.views at peer (view_after_out (view_in umpire.views at peer) (slot_of umpire at peer link) (same_of umpire at peer link bits));
+      views = with_view umpire.views at peer (view_after_out (view_in umpire.views at peer) (slot_of_link umpire at peer link) (same_of umpire at peer link bits));
       kept = with_out umpire.kept place (gone_out at peer link bits);
     }
 
@@ -156,10 +156,10 @@ is_crowded umpire from to = (view_in umpire.views from to).crowded
 
 abbrev pub false_finding : Umpire → ℕ → ℕ → ℕ → ℕ → Option Finding
 false_finding umpire kind at peer link =
-    if sees_both umpire peer && not (is_crowded umpire at peer) then option_map by_imp (false_rule (slot_of umpire at peer link) kind peer link) else None
+    if sees_both umpire peer && not (is_crowded umpire at peer) then option_map by_imp (false_rule (slot_of_link umpire at peer link) kind peer link) else None
 
 abbrev pub stray_finding : Umpire → ℕ → ℕ → ℕ → ℕ → Option Finding
-stray_finding umpire kind at peer link = option_map by_imp (stray_rule (slot_of umpire at peer link) kind link)
+stray_finding umpire kind at peer link = option_map by_imp (stray_rule (slot_of_link umpire at peer link) kind link)
 
 abbrev pub answer_findings : Umpire → ℕ → ℕ → ℕ → ℕ → List Finding
 answer_findings umpire kind at peer link =
@@ -168,12 +168,12 @@ answer_findings umpire kind at peer link =
 abbrev pub with_answer : Bool → ℕ → List Kept → Option ℕ → List Kept
 with_answer known kind kept None = kept
 with_answer known kind kept (Some place) =
-    if not (is_out (kept_at kept place).slot) then kept
+    if not (is_slot_out (kept_at kept place).slot) then kept
     else if kind == 5 then with_answered known kept place
-    else with_slot kept place slot.Again
+    else with_kept_slot kept place slot.Again
 
-abbrev pub after_answer : Umpire → ℕ → ℕ → ℕ → ℕ → Umpire
-after_answer umpire kind at peer link =
+abbrev pub umpire_after_answer : Umpire → ℕ → ℕ → ℕ → ℕ → Umpire
+umpire_after_answer umpire kind at peer link =
     if umpire.full then umpire
     else record umpire { kept = with_answer (view_in umpire.views at peer).known kind umpire.kept (place_of at peer link umpire.kept) }
 
@@ -192,7 +192,7 @@ judges_coming umpire at peer = not umpire.full && sees_both umpire peer && not (
 
 abbrev pub unsent_at : Umpire → ℕ → ℕ → ℕ → List Bool → Option Unsent
 unsent_at umpire at peer link bits =
-    let place = place_of peer at link umpire.kept in unsent_why (slot_at true umpire.kept place) (same_but_host_at umpire.kept place bits)
+    let place = place_of peer at link umpire.kept in unsent_why (kept_slot true umpire.kept place) (same_but_host_at umpire.kept place bits)
 
 abbrev pub unsent_finding : Umpire → ℕ → ℕ → ℕ → List Bool → Option Finding
 unsent_finding umpire at peer link bits =
@@ -202,7 +202,7 @@ unsent_finding umpire at peer link bits =
 -- what is out came
 abbrev pub with_coming : List Kept → Option ℕ → List Kept
 with_coming kept None = kept
-with_coming kept (Some place) = if is_out (kept_at kept place).slot then with_slot kept place slot.Came else kept
+with_coming kept (Some place) = if is_slot_out (kept_at kept place).slot then with_kept_slot kept place slot.Came else kept
 
 abbrev pub after_in : Umpire → ℕ → ℕ → ℕ → Umpire
 after_in umpire at peer link =
@@ -240,11 +240,11 @@ after_read Control turn text view = after_room turn (is_roomy text) (after_items
 -- a message that goes out again says nothing new
 abbrev pub regular_findings : Umpire → ℕ → ℕ → Turn → Bool → Message → List Finding
 regular_findings umpire at peer turn fresh message =
-    if fresh then read_findings (reading_of message) turn message.text (view_of umpire at peer) else []
+    if fresh then read_findings (judged_reading message) turn message.text (view_of umpire at peer) else []
 
 abbrev pub after_regular : Umpire → ℕ → ℕ → Turn → Bool → Message → Umpire
 after_regular umpire at peer turn fresh message =
-    if fresh then record umpire { views = with_view umpire.views at peer (after_read (reading_of message) turn message.text (view_of umpire at peer)) }
+    if fresh then record umpire { views = with_view umpire.views at peer (after_read (judged_reading message) turn message.text (view_of umpire at peer)) }
     else umpire
 
 abbrev pub said_findings : Umpire → ℕ → ℕ → Turn → Bool → Result Message MessageFault → List Finding
@@ -257,7 +257,7 @@ after_said umpire at peer turn fresh (Err fault) = umpire
 
 abbrev pub message_findings : Umpire → ℕ → ℕ → Turn → Bool → ℕ → List Bool → List Finding
 message_findings umpire at peer turn fresh link bits =
-    option_to_list (option_map (by turn) (rule_of_message (message_in bits) link (length bits)))
+    option_to_list (option_map (broken_by turn) (rule_of_message (message_in bits) link (length bits)))
     ++ said_findings umpire at peer turn fresh (message_in bits)
 
 abbrev pub after_message : Umpire → ℕ → ℕ → Turn → Bool → List Bool → Umpire
@@ -269,12 +269,12 @@ abbrev pub sees : Umpire → ℕ → Umpire
 sees umpire at = record umpire { seen = slice_set umpire.seen at true }
 
 abbrev pub event_findings : Umpire → Way → ℕ → List Bool → Event → List Finding
-event_findings umpire way at bits event.Short = (record { who = sender_of way at; rule = rule.Short (length bits) }) ∷ []
+event_findings umpire way at bits event.Short = (record { who = blamed_for way at; rule = rule.Short (length bits) }) ∷ []
 event_findings umpire way at bits event.Nothing = []
-event_findings umpire way at bits (event.Own kind link) = (record { who = sender_of way at; rule = rule.OwnHost kind link }) ∷ []
+event_findings umpire way at bits (event.Own kind link) = (record { who = blamed_for way at; rule = rule.OwnHost kind link }) ∷ []
 event_findings umpire way at bits (event.Other kind) = by_host at (rule.Kind kind) ∷ []
 event_findings umpire way at bits (event.Out peer link) =
-    let after = after_out umpire at peer link bits in
+    let after = umpire_after_out umpire at peer link bits in
     option_to_list (out_finding umpire at peer link bits)
     ++ message_findings after at peer (turn_at after at peer at true) (fresh_out umpire at peer link bits) link bits
 event_findings umpire way at bits (event.Answer kind peer link) = answer_findings umpire kind at peer link
@@ -289,9 +289,9 @@ after_event umpire at bits event.Nothing = umpire
 after_event umpire at bits (event.Own kind link) = umpire
 after_event umpire at bits (event.Other kind) = umpire
 after_event umpire at bits (event.Out peer link) =
-    let after = after_out umpire at peer link bits in
+    let after = umpire_after_out umpire at peer link bits in
     after_message after at peer (turn_at after at peer at true) (fresh_out umpire at peer link bits) bits
-after_event umpire at bits (event.Answer kind peer link) = after_answer umpire kind at peer link
+after_event umpire at bits (event.Answer kind peer link) = umpire_after_answer umpire kind at peer link
 after_event umpire at bits (event.In peer link) =
     let after = after_in umpire at peer link in
     after_message after at peer (turn_at after at peer peer false) true bits

@@ -19,16 +19,16 @@ abbrev pub most_bits : ℕ → ℕ
 most_bits link = if link == 0 then 960 else MAX_TEXT_BITS
 
 -- how many bits stand behind the text of a message of so many bits
-abbrev pub bits_behind : Message → ℕ → ℕ
-bits_behind message len = len - FRONT_BITS - length message.text
+abbrev pub bits_after_text : Message → ℕ → ℕ
+bits_after_text message len = len - FRONT_BITS - length message.text
 
 abbrev pub has_extras : Message → ℕ → Bool
 has_extras message len =
-    not (message.leader.flags == 0) || not (message.leader.low == 0) || not (bits_behind message len == 0) || (length message.text == 0)
+    not (message.leader.flags == 0) || not (message.leader.low == 0) || not (bits_after_text message len == 0) || (length message.text == 0)
     || nat_lt (most_bits message.leader.link) (length message.text)
 
 abbrev pub extras_of : Message → ℕ → Rule
-extras_of message len = Extras message.leader.flags message.leader.low (length message.text) (bits_behind message len)
+extras_of message len = Extras message.leader.flags message.leader.low (length message.text) (bits_after_text message len)
 
 abbrev pub rule_of_regular : Message → ℕ → Option Rule
 rule_of_regular message len =
@@ -43,8 +43,8 @@ rule_of_message (Ok message) link len = rule_of_regular message len
 rule_of_message (Err fault) link len = Some (Fault fault link)
 
 -- what is read on of a message
-abbrev pub reading_of : Message → Reading
-reading_of message =
+abbrev pub judged_reading : Message → Reading
+judged_reading message =
     if is_unused message.leader.link then Stop
     else if not (message.leader.link == 0) then Text
     else if message.size == 8 then Control

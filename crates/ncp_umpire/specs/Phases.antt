@@ -19,12 +19,12 @@ use Rattle.ncp_umpire.specs.declared.view.View.{View}
 use Rattle.ncp_umpire.specs.declared.act.Act.{Act}
 use Rattle.ncp_umpire.specs.declared.act.Act.TheVariants.{Reset, Reply, Other}
 use Rattle.ncp_umpire.specs.declared.phase.Turn.{Turn}
-use Rattle.ncp_umpire.specs.Views.{is_waiting, is_answered, more_waiting, less_waiting, one_more, one_less}
+use Rattle.ncp_umpire.specs.Views.{awaits_reply, is_answered_too_often, more_waiting, less_waiting, one_reset_more, one_less}
 use Rattle.ncp_umpire.specs.Acts.{act_of}
 
 -- a rule that the sender broke
-abbrev pub by : Turn → Rule → Finding
-by turn rule = record { who = Host turn.by; rule = rule }
+abbrev pub broken_by : Turn → Rule → Finding
+broken_by turn rule = record { who = Host turn.by; rule = rule }
 
 -- the side that sent the message
 abbrev pub sender : Turn → View → Side
@@ -53,39 +53,39 @@ is_text a.Err = false
 abbrev pub is_early : Turn → Thing → View → Bool
 is_early turn thing view =
     let side = sender turn view in
-    if turn.sent && view.rests && is_text thing then is_waiting side.wait
-    else not side.began || is_waiting side.wait || (turn.sent && view.owes)
+    if turn.sent && view.rests && is_text thing then awaits_reply side.wait
+    else not side.began || awaits_reply side.wait || (turn.sent && view.owes)
 
 abbrev pub early_rule : Turn → Thing → View → Rule
-early_rule turn thing view = let side = sender turn view in Early thing side.began (is_waiting side.wait) (turn.sent && view.owes)
+early_rule turn thing view = let side = sender turn view in Early thing side.began (awaits_reply side.wait) (turn.sent && view.owes)
 
 abbrev pub early_finding : Turn → Thing → View → Option Finding
-early_finding turn thing view = if not view.told || not (is_early turn thing view) then None else Some (by turn (early_rule turn thing view))
+early_finding turn thing view = if not view.told || not (is_early turn thing view) then None else Some (broken_by turn (early_rule turn thing view))
 
 -- after what is early the session rests, unless the host waits for a reply and drops it
 abbrev pub after_thing : Turn → Thing → View → View
 after_thing turn thing view =
     let early = view.told && is_early turn thing view in
-    record view { rests = view.rests || (early && not (is_waiting view.host.wait)); spoilt = view.spoilt || (early && turn.sent) }
+    record view { rests = view.rests || (early && not (awaits_reply view.host.wait)); spoilt = view.spoilt || (early && turn.sent) }
 
 -- ---- RST
 
 -- in a part of a capture the phase is told by the first RST that is seen while link 0 is known, and while no RST of the
 -- host can wait that was answered before
 abbrev pub hears_reset : Turn → View → Bool
-hears_reset turn view = view.told || (turn.zero && not (is_answered view.host.wait))
+hears_reset turn view = view.told || (turn.zero && not (is_answered_too_often view.host.wait))
 
 -- a second RST before the RRP
 abbrev pub again_finding : Turn → View → Option Finding
-again_finding turn view = if not (is_waiting (sender turn view).wait) then None else Some (by turn RstAgain)
+again_finding turn view = if not (awaits_reply (sender turn view).wait) then None else Some (broken_by turn RstAgain)
 
 -- an RST, or an RRP, of the host itself while a data link of it is busy
 abbrev pub unquiet_finding : Bool → Turn → View → Option Finding
-unquiet_finding reply turn view = if not turn.sent || view.rests then None else option_map (λ link. by turn (Unquiet reply link)) turn.busy
+unquiet_finding reply turn view = if not turn.sent || view.rests then None else option_map (λ link. broken_by turn (Unquiet reply link)) turn.busy
 
 -- an RST of the host itself before the RRP that it owes, where that had to wait for a data link
 abbrev pub first_finding : Turn → View → Option Finding
-first_finding turn view = if turn.sent && view.owes && view.first && not view.rests then Some (by turn RrpFirst) else None
+first_finding turn view = if turn.sent && view.owes && view.first && not view.rests then Some (broken_by turn RrpFirst) else None
 
 abbrev pub reset_findings : Turn → View → List Finding
 reset_findings turn view =
@@ -99,9 +99,9 @@ after_reset_of_host turn view =
     let wait = more_waiting view.host.wait in
     record view {
       host = record view.host { began = true; wait = wait };
-      peer = record view.peer { asked = one_more view.peer.asked };
-      spoilt = (is_waiting view.host.wait || is_some (unquiet_finding false turn view)) || (view.spoilt && not (is_waiting wait));
-      rests = view.rests && not (is_waiting wait);
+      peer = record view.peer { asked = one_reset_more view.peer.asked };
+      spoilt = (awaits_reply view.host.wait || is_some (unquiet_finding false turn view)) || (view.spoilt && not (awaits_reply wait));
+      rests = view.rests && not (awaits_reply wait);
       told = true;
       known = true;
     }
@@ -112,16 +112,16 @@ abbrev pub after_reset_of_peer : Turn → View → View
 after_reset_of_peer turn view =
     let wait = more_waiting view.peer.wait in
     record view {
-      host = record view.host { asked = one_more view.host.asked };
+      host = record view.host { asked = one_reset_more view.host.asked };
       peer = record view.peer { began = true; wait = wait };
       owes = true;
       first = is_some turn.busy;
-      rests = is_answered view.host.wait || not (is_waiting wait) || (view.rests && not (view.host.asked == 0));
+      rests = is_answered_too_often view.host.wait || not (awaits_reply wait) || (view.rests && not (view.host.asked == 0));
       told = true;
     }
 
-abbrev pub after_reset : Turn → View → View
-after_reset turn view =
+abbrev pub view_after_reset : Turn → View → View
+view_after_reset turn view =
     if hears_reset turn view then if turn.sent then after_reset_of_host turn view else after_reset_of_peer turn view
     else view
 
@@ -129,7 +129,7 @@ after_reset turn view =
 
 -- an RRP for which no RST asked
 abbrev pub unasked_finding : Turn → View → Option Finding
-unasked_finding turn view = let side = sender turn view in if not (side.asked == 0) || side.admits then None else Some (by turn RrpUnasked)
+unasked_finding turn view = let side = sender turn view in if not (side.asked == 0) || side.admits then None else Some (broken_by turn RrpUnasked)
 
 abbrev pub reply_findings : Turn → View → List Finding
 reply_findings turn view =
@@ -148,7 +148,7 @@ after_reply_of_host turn view =
       host = after_own_reply view.host;
       peer = record view.peer { wait = less_waiting view.peer.wait };
       owes = false;
-      rests = view.rests || is_some (unquiet_finding true turn view) || not (is_waiting view.peer.wait);
+      rests = view.rests || is_some (unquiet_finding true turn view) || not (awaits_reply view.peer.wait);
       known = true;
     }
 
@@ -158,15 +158,15 @@ after_reply_of_peer view =
     record view {
       host = record view.host { wait = less_waiting view.host.wait };
       peer = after_own_reply view.peer;
-      rests = not (is_waiting view.host.wait) || view.spoilt || (view.owes && not (is_waiting view.peer.wait));
+      rests = not (awaits_reply view.host.wait) || view.spoilt || (view.owes && not (awaits_reply view.peer.wait));
     }
 
 -- in a part of a capture, before the phase is told: an RRP of the peer may answer an RST of the host that still waits
 abbrev pub after_untold_reply : Turn → View → View
 after_untold_reply turn view = if turn.sent then view else record view { host = record view.host { wait = Answered } }
 
-abbrev pub after_reply : Turn → View → View
-after_reply turn view =
+abbrev pub view_after_reply : Turn → View → View
+view_after_reply turn view =
     if view.told then if turn.sent then after_reply_of_host turn view else after_reply_of_peer view
     else after_untold_reply turn view
 
@@ -175,7 +175,7 @@ after_reply turn view =
 -- a fault of a control text
 abbrev pub bad_finding : Turn → Result Command CommandFault → Option Finding
 bad_finding turn (Ok command) = None
-bad_finding turn (Fault fault) = Some (by turn (Bad fault))
+bad_finding turn (Fault fault) = Some (broken_by turn (Bad fault))
 
 abbrev pub act_findings : Turn → Act → View → List Finding
 act_findings turn Reset view = reset_findings turn view
@@ -183,8 +183,8 @@ act_findings turn Reply view = reply_findings turn view
 act_findings turn (Other thing) view = option_to_list (early_finding turn thing view)
 
 abbrev pub after_act : Turn → Act → View → View
-after_act turn Reset view = after_reset turn view
-after_act turn Reply view = after_reply turn view
+after_act turn Reset view = view_after_reset turn view
+after_act turn Reply view = view_after_reply turn view
 after_act turn (Other thing) view = after_thing turn thing view
 
 abbrev pub item_findings : Turn → Result Command CommandFault → View → List Finding
@@ -210,5 +210,5 @@ after_room turn room view = if turn.sent && room && not view.told then record vi
 -- so where it owes an RRP, and no data link is busy, the RRP was left out
 abbrev pub missing_finding : Turn → Bool → View → Option Finding
 missing_finding turn room view =
-    if turn.sent && room && view.told && view.owes && not view.rests && not (is_some turn.busy) then Some (by turn MissingRrp)
+    if turn.sent && room && view.told && view.owes && not view.rests && not (is_some turn.busy) then Some (broken_by turn MissingRrp)
     else None

@@ -9,12 +9,12 @@ use Rattle.ncp_umpire.specs.declared.kept.Slot.TheVariants.{Unknown, Empty, Out,
 use Rattle.ncp_umpire.specs.declared.kept.Kept.{Kept}
 use Rattle.ncp_umpire.specs.declared.outbox.TheConstants.{MAX_KEPT}
 
-abbrev pub is_empty : Slot → Bool
-is_empty Unknown = false
-is_empty Empty = true
-is_empty Out = false
-is_empty Came = false
-is_empty Again = false
+abbrev pub is_slot_empty : Slot → Bool
+is_slot_empty Unknown = false
+is_slot_empty Empty = true
+is_slot_empty Out = false
+is_slot_empty Came = false
+is_slot_empty Again = false
 
 abbrev pub is_unknown : Slot → Bool
 is_unknown Unknown = true
@@ -28,8 +28,8 @@ abbrev pub is_of : ℕ → ℕ → ℕ → Kept → Bool
 is_of from to link kept = kept.from == from && kept.to == to && kept.link == link
 
 -- a message that makes a data link busy: it is not answered, or is to go out again
-abbrev pub is_busy : ℕ → ℕ → Kept → Bool
-is_busy from to kept = kept.from == from && kept.to == to && not (kept.link == 0) && not (is_empty kept.slot)
+abbrev pub makes_link_busy : ℕ → ℕ → Kept → Bool
+makes_link_busy from to kept = kept.from == from && kept.to == to && not (kept.link == 0) && not (is_slot_empty kept.slot)
 
 abbrev pub same_bits : List Bool → List Bool → Bool
 same_bits = pointwise beq
@@ -50,9 +50,9 @@ abbrev pub kept_at : List Kept → ℕ → Kept
 kept_at kept place = get_or kept place nothing_kept
 
 -- the slot of a link: where no message is kept it is empty, or unknown
-abbrev pub slot_at : Bool → List Kept → Option ℕ → Slot
-slot_at known kept None = if known then Empty else Unknown
-slot_at known kept (Some place) = (kept_at kept place).slot
+abbrev pub kept_slot : Bool → List Kept → Option ℕ → Slot
+kept_slot known kept None = if known then Empty else Unknown
+kept_slot known kept (Some place) = (kept_at kept place).slot
 
 -- whether the message of a link has these bits
 abbrev pub same_at : List Kept → Option ℕ → List Bool → Bool
@@ -64,11 +64,11 @@ same_but_host_at kept None bits = false
 same_but_host_at kept (Some place) bits = same_but_host (kept_at kept place).message bits
 
 -- the data link of the first of the messages that make one busy
-abbrev pub link_at : List Kept → Option ℕ → Option ℕ
-link_at kept place = option_map (λ p. (kept_at kept p).link) place
+abbrev pub busy_link_at : List Kept → Option ℕ → Option ℕ
+busy_link_at kept place = option_map (λ p. (kept_at kept p).link) place
 
 abbrev pub busy_link : ℕ → ℕ → List Kept → Option ℕ
-busy_link from to kept = link_at kept (position (is_busy from to) kept)
+busy_link from to kept = busy_link_at kept (position (makes_link_busy from to) kept)
 
 -- ---- what becomes of them
 
@@ -85,9 +85,9 @@ with_out kept (Some place) new = slice_set kept place new
 with_out kept None new = if nat_lt (length kept) MAX_KEPT then kept ++ new ∷ [] else kept
 
 -- with another slot for the message at a place
-abbrev pub with_slot : List Kept → ℕ → Slot → List Kept
-with_slot kept place slot = slice_set kept place (record (kept_at kept place) { slot = slot })
+abbrev pub with_kept_slot : List Kept → ℕ → Slot → List Kept
+with_kept_slot kept place slot = slice_set kept place (record (kept_at kept place) { slot = slot })
 
 -- the message at a place was delivered: it is forgotten where a slot without a message is known to be empty
 abbrev pub with_answered : Bool → List Kept → ℕ → List Kept
-with_answered known kept place = if known then remove kept place else with_slot kept place Empty
+with_answered known kept place = if known then remove kept place else with_kept_slot kept place Empty

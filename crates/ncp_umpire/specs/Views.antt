@@ -7,16 +7,16 @@ use Rattle.ncp_umpire.specs.declared.view.Side.{Side}
 use Rattle.ncp_umpire.specs.declared.view.View.{View}
 
 -- one reply is waited for
-abbrev pub is_waiting : Wait → Bool
-is_waiting Answered = false
-is_waiting Even = false
-is_waiting Waiting = true
+abbrev pub awaits_reply : Wait → Bool
+awaits_reply Answered = false
+awaits_reply Even = false
+awaits_reply Waiting = true
 
 -- one came too many
-abbrev pub is_answered : Wait → Bool
-is_answered Answered = true
-is_answered Even = false
-is_answered Waiting = false
+abbrev pub is_answered_too_often : Wait → Bool
+is_answered_too_often Answered = true
+is_answered_too_often Even = false
+is_answered_too_often Waiting = false
 
 -- after an RST of the side: never more than one is waited for
 abbrev pub more_waiting : Wait → Wait
@@ -31,8 +31,8 @@ less_waiting Even = Answered
 less_waiting Waiting = Even
 
 -- one reset more that is not answered; the number stays at the largest
-abbrev pub one_more : ℕ → ℕ
-one_more asked = min (asked + 1) (2 ^ 32 - 1)
+abbrev pub one_reset_more : ℕ → ℕ
+one_reset_more asked = min (asked + 1) (2 ^ 32 - 1)
 
 -- one reset less that is not answered; the largest number stands for any greater one
 abbrev pub one_less : ℕ → ℕ
@@ -48,13 +48,13 @@ abbrev pub first_wait : Bool → Wait
 first_wait part = if part then Answered else Even
 
 -- the host at whose interface it is seen
-abbrev pub new_host : Bool → Side
-new_host part = record (new_side part) { wait = first_wait part }
+abbrev pub new_host_side : Bool → Side
+new_host_side part = record (new_side part) { wait = first_wait part }
 
 -- both hosts are down; in a part of a capture nothing is known of them
 abbrev pub new_view : Bool → View
 new_view part = record {
-  host = new_host part;
+  host = new_host_side part;
   peer = new_side part;
   owes = false;
   first = false;

@@ -1,6 +1,6 @@
 //! `Slot`, and `Kept`: a message that went out.
 ghost use Rattle.std.specs.Prelude.{◌≡◌};
-ghost use Rattle.ncp_umpire.specs.Slots.{is_empty, is_of, is_busy, same_bits, same_but_host};
+ghost use Rattle.ncp_umpire.specs.Slots.{is_slot_empty, is_of, makes_link_busy, same_bits, same_but_host};
 
 use ncp_bits::Bits;
 
@@ -61,7 +61,7 @@ impl Kept {
 
     /// Whether it makes a data link from one host to another busy.
     pub(crate) fn is_busy(&self, from: u8, to: u8) -> bool
-        ensures { result ≡ is_busy from to self.now }
+        ensures { result ≡ makes_link_busy from to self.now }
     {
         self.from == from && self.to == to && self.link != 0 && self.slot != Slot::Empty
     }

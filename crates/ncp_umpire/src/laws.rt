@@ -3,19 +3,19 @@ ghost use Rattle.std.specs.Prelude.{◌≡◌, ◌∷◌, [], true, false, Some,
 ghost use Rattle.ncp_umpire.specs.declared.finding.Rule.TheVariants as rule;
 ghost use Rattle.ncp_umpire.specs.declared.finding.Thing.TheVariants as thing;
 ghost use Rattle.ncp_umpire.specs.declared.finding.Unsent.TheVariants as why;
-ghost use Rattle.ncp_umpire.specs.Phases.{by, items_findings, early_finding};
+ghost use Rattle.ncp_umpire.specs.Phases.{broken_by, items_findings, early_finding};
 ghost use Rattle.ncp_umpire.specs.Views.{new_view};
 ghost use Rattle.ncp_umpire.specs.Judged.{by_imp, unsent_finding, false_finding};
-ghost use Rattle.ncp_umpire.specs.Examples.{goes_out, while_busy, comes, nop, rst, rrp, sends, hears, answered_twice, in_the_middle, one_out, one_message, two_out, one_came_two_out};
+ghost use Rattle.ncp_umpire.specs.Examples.{out_turn, while_busy, in_turn, nop, rst, rrp, view_sends, view_hears, answered_twice, in_the_middle, one_out, one_message, two_out, one_came_two_out};
 
 /// Worked phases at the interface of host 1: what each side may say before a reset, while it waits for the reply, and while
 /// it owes one.
 pub fn phases_are_judged_so()
-    ensures before { items_findings goes_out (nop ∷ []) (new_view false) ≡ by goes_out (rule.Early thing.Nop false false false) ∷ [] }
-    ensures reset { items_findings goes_out (rst ∷ nop ∷ rst ∷ []) (new_view false) ≡ by goes_out (rule.Early thing.Nop true true false) ∷ by goes_out rule.RstAgain ∷ [] }
-    ensures replied { items_findings goes_out (nop ∷ []) (hears (rrp ∷ []) (sends (rst ∷ []) (new_view false))) ≡ [] }
-    ensures owed { items_findings goes_out (nop ∷ rrp ∷ nop ∷ rrp ∷ []) (hears (rst ∷ []) (new_view false)) ≡ by goes_out (rule.Early thing.Nop false false true) ∷ by goes_out rule.RrpUnasked ∷ [] }
-    ensures peer { items_findings comes (rst ∷ nop ∷ []) (new_view false) ≡ by comes (rule.Early thing.Nop true true false) ∷ [] }
+    ensures before { items_findings out_turn (nop ∷ []) (new_view false) ≡ broken_by out_turn (rule.Early thing.Nop false false false) ∷ [] }
+    ensures reset { items_findings out_turn (rst ∷ nop ∷ rst ∷ []) (new_view false) ≡ broken_by out_turn (rule.Early thing.Nop true true false) ∷ broken_by out_turn rule.RstAgain ∷ [] }
+    ensures replied { items_findings out_turn (nop ∷ []) (view_hears (rrp ∷ []) (view_sends (rst ∷ []) (new_view false))) ≡ [] }
+    ensures owed { items_findings out_turn (nop ∷ rrp ∷ nop ∷ rrp ∷ []) (view_hears (rst ∷ []) (new_view false)) ≡ broken_by out_turn (rule.Early thing.Nop false false true) ∷ broken_by out_turn rule.RrpUnasked ∷ [] }
+    ensures peer { items_findings in_turn (rst ∷ nop ∷ []) (new_view false) ≡ broken_by in_turn (rule.Early thing.Nop true true false) ∷ [] }
 {}
 
 /// Where one acts on what the other has not shown, nobody is blamed for what the wire does not tell: a reply that nobody
@@ -23,21 +23,21 @@ pub fn phases_are_judged_so()
 /// out behind the text, after a second reset too; and after a reset of the peer that was never answered, or a second one of
 /// the host, the session is at rest.
 pub fn nobody_is_blamed_at_rest()
-    ensures unasked { items_findings goes_out (rst ∷ nop ∷ []) (hears (rrp ∷ []) (new_view false)) ≡ [] }
-    ensures passing { early_finding goes_out thing.Text (hears (rst ∷ nop ∷ []) (new_view false)) ≡ None }
-    ensures behind { items_findings while_busy (rrp ∷ []) (hears (rst ∷ []) (hears (rst ∷ nop ∷ []) (new_view false))) ≡ [] }
-    ensures twice { early_finding goes_out thing.Text answered_twice ≡ None }
-    ensures again { (hears (rrp ∷ []) (sends (rst ∷ nop ∷ rst ∷ []) (new_view false))).rests ≡ true }
+    ensures unasked { items_findings out_turn (rst ∷ nop ∷ []) (view_hears (rrp ∷ []) (new_view false)) ≡ [] }
+    ensures passing { early_finding out_turn thing.Text (view_hears (rst ∷ nop ∷ []) (new_view false)) ≡ None }
+    ensures behind { items_findings while_busy (rrp ∷ []) (view_hears (rst ∷ []) (view_hears (rst ∷ nop ∷ []) (new_view false))) ≡ [] }
+    ensures twice { early_finding out_turn thing.Text answered_twice ≡ None }
+    ensures again { (view_hears (rrp ∷ []) (view_sends (rst ∷ nop ∷ rst ∷ []) (new_view false))).rests ≡ true }
 {}
 
 /// A capture that begins in the middle: nothing is told of the phase before an RST, nor by one that may have been answered
 /// before. Then both sides may be up, and one reply is admitted for which no RST asked.
 pub fn parts_are_judged_so()
-    ensures untold { items_findings goes_out (nop ∷ rrp ∷ rst ∷ nop ∷ []) (new_view true) ≡ [] }
-    ensures told { items_findings goes_out (rst ∷ nop ∷ []) in_the_middle ≡ by goes_out (rule.Early thing.Nop true true false) ∷ [] }
-    ensures crossing { items_findings comes (nop ∷ []) (sends (rst ∷ []) in_the_middle) ≡ [] }
-    ensures replies { items_findings comes (rrp ∷ rrp ∷ rrp ∷ []) (sends (rst ∷ []) in_the_middle) ≡ by comes rule.RrpUnasked ∷ [] }
-    ensures unknown { (hears (rst ∷ []) (new_view true)).told ≡ false }
+    ensures untold { items_findings out_turn (nop ∷ rrp ∷ rst ∷ nop ∷ []) (new_view true) ≡ [] }
+    ensures told { items_findings out_turn (rst ∷ nop ∷ []) in_the_middle ≡ broken_by out_turn (rule.Early thing.Nop true true false) ∷ [] }
+    ensures crossing { items_findings in_turn (nop ∷ []) (view_sends (rst ∷ []) in_the_middle) ≡ [] }
+    ensures replies { items_findings in_turn (rrp ∷ rrp ∷ rrp ∷ []) (view_sends (rst ∷ []) in_the_middle) ≡ broken_by in_turn rule.RrpUnasked ∷ [] }
+    ensures unknown { (view_hears (rst ∷ []) (new_view true)).told ≡ false }
 {}
 
 /// Of two messages that are out at once on a link either may come, and the answer may be to either: then the subnet is not

@@ -1,7 +1,7 @@
 //! The rules of a message by itself.
 ghost use Rattle.std.specs.Prelude.{◌≡◌, ◌≤◌};
 ghost use Rattle.ncp_bits.specs.declared.bits.TheConstants.{MAX_BITS};
-ghost use Rattle.ncp_umpire.specs.Messages.{is_unused, bits_behind, most_bits, has_extras, extras_of, rule_of_regular, rule_of_message, reading_of};
+ghost use Rattle.ncp_umpire.specs.Messages.{is_unused, bits_after_text, most_bits, has_extras, extras_of, rule_of_regular, rule_of_message, judged_reading};
 
 use crate::finding::Rule;
 use ncp_leader::{FRONT_BITS, MAX_TEXT_BITS, MessageFault, Regular};
@@ -50,7 +50,7 @@ fn most_bits(link: u8) -> usize
 
 // How many bits stand behind the text of a message of so many bits.
 fn bits_behind(regular: &Regular<'_>, len: usize) -> usize
-    ensures { result ≡ bits_behind regular.now len }
+    ensures { result ≡ bits_after_text regular.now len }
 {
     len.saturating_sub(FRONT_BITS)
         .saturating_sub(regular.text().len())
@@ -121,7 +121,7 @@ pub(crate) fn rule_of_message(
 
 /// What is read on of a message.
 pub(crate) fn reading_of(regular: &Regular<'_>) -> Reading
-    ensures { result ≡ reading_of regular.now }
+    ensures { result ≡ judged_reading regular.now }
 {
     let link = regular.leader().link;
     if is_unused(link) {

@@ -1,7 +1,7 @@
 //! `Outbox`: the messages that are out or are to go out again.
 ghost use Rattle.std.specs.Prelude.{◌≡◌, ◌<◌, ◌≤◌, ◌||◌, [], length, IfOk, IfSome};
 ghost use Rattle.std.specs.List.{position};
-ghost use Rattle.ncp_umpire.specs.Slots.{is_of, is_busy, same_bits, same_but_host, place_of, kept_at, busy_link, gone_out, has_room, with_out, with_slot, with_answered};
+ghost use Rattle.ncp_umpire.specs.Slots.{is_of, makes_link_busy, same_bits, same_but_host, place_of, kept_at, busy_link, gone_out, has_room, with_out, with_kept_slot, with_answered};
 
 use crate::kept::{Kept, Slot};
 use ncp_bits::Bits;
@@ -41,7 +41,7 @@ fn place_in(kept: &[Kept], from: u8, to: u8, link: u8) -> Option<usize>
 
 // The first place of a message that makes a data link busy.
 fn busy_in(kept: &[Kept], from: u8, to: u8) -> Option<usize>
-    ensures place { result ≡ position (is_busy from to) kept.now }
+    ensures place { result ≡ position (makes_link_busy from to) kept.now }
     ensures inside { IfSome result (λ place. place < length kept.now) }
 {
     kept.iter().position(|one| one.is_busy(from, to))
@@ -129,7 +129,7 @@ impl Outbox {
     /// Says what became of the message at a place.
     pub(crate) fn set(&mut self, place: usize, slot: Slot)
         requires { place < length self.old }
-        ensures { self.new ≡ with_slot self.old place slot }
+        ensures { self.new ≡ with_kept_slot self.old place slot }
     {
         self.all[place].slot = slot;
     }

@@ -2,7 +2,7 @@
 ghost use Rattle.std.specs.Prelude.{◌≡◌, ◌<◌, ◌≤◌, ◌+◌, ◌++◌, length, Ok, Err};
 ghost use Rattle.std.specs.Option.{option_to_list};
 ghost use Rattle.ncp_umpire.specs.Acts.{act_of};
-ghost use Rattle.ncp_umpire.specs.Phases.{by, sender, is_early, early_finding, after_thing, again_finding, unquiet_finding, first_finding, hears_reset, after_reset_of_host, after_reset_of_peer, after_own_reply, reset_findings, after_reset, unasked_finding, after_reply_of_host, after_reply_of_peer, reply_findings, after_untold_reply, after_reply, after_room, bad_finding, act_findings, after_act, item_findings, after_item, missing_finding};
+ghost use Rattle.ncp_umpire.specs.Phases.{broken_by, sender, is_early, early_finding, after_thing, again_finding, unquiet_finding, first_finding, hears_reset, after_reset_of_host, after_reset_of_peer, after_own_reply, reset_findings, view_after_reset, unasked_finding, after_reply_of_host, after_reply_of_peer, reply_findings, after_untold_reply, view_after_reply, after_room, bad_finding, act_findings, after_act, item_findings, after_item, missing_finding};
 ghost use Rattle.ncp_umpire.specs.declared.findings.TheConstants.{MAX_FINDINGS};
 
 use crate::act::{Act, act_of};
@@ -27,7 +27,7 @@ pub(crate) struct Turn {
 impl Turn {
     /// A rule that the sender broke.
     pub(crate) fn finding(&self, rule: Rule) -> Finding
-        ensures { result ≡ by self.now rule }
+        ensures { result ≡ broken_by self.now rule }
     {
         Finding {
             who: Who::Host(self.by),
@@ -190,7 +190,7 @@ fn after_reset_of_peer(turn: &Turn, view: View) -> View
 // Judges an RST, and gives the view after it.
 fn judge_reset(turn: &Turn, view: View, found: &mut Findings) -> View
     requires { length found.old + 3 ≤ MAX_FINDINGS }
-    ensures view { result ≡ after_reset turn.now view }
+    ensures view { result ≡ view_after_reset turn.now view }
     ensures found { found.new ≡ found.old ++ reset_findings turn.now view }
     ensures len { length found.new ≤ length found.old + 3 }
 {
@@ -287,7 +287,7 @@ fn after_untold_reply(turn: &Turn, view: View) -> View
 // Judges an RRP, and gives the view after it.
 fn judge_reply(turn: &Turn, view: View, found: &mut Findings) -> View
     requires { length found.old + 3 ≤ MAX_FINDINGS }
-    ensures view { result ≡ after_reply turn.now view }
+    ensures view { result ≡ view_after_reply turn.now view }
     ensures found { found.new ≡ found.old ++ reply_findings turn.now view }
     ensures len { length found.new ≤ length found.old + 3 }
 {

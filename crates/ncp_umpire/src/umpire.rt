@@ -2,13 +2,13 @@
 ghost use Rattle.std.specs.Prelude.{◌≡◌, ◌<◌, ◌≤◌, ◌+◌, ◌%◌, ◌++◌, [], not, false, length, replicate, option_map, IfOk, IfSome};
 ghost use Rattle.std.specs.Option.{option_to_list};
 ghost use Rattle.ncp_umpire.specs.declared.findings.TheConstants.{MAX_FINDINGS};
-ghost use Rattle.ncp_umpire.specs.Slots.{slot_at, same_at, same_but_host_at, gone_out, has_room, with_out};
-ghost use Rattle.ncp_umpire.specs.Phases.{by, items_findings, after_items, after_room};
+ghost use Rattle.ncp_umpire.specs.Slots.{kept_slot, same_at, same_but_host_at, gone_out, has_room, with_out};
+ghost use Rattle.ncp_umpire.specs.Phases.{broken_by, items_findings, after_items, after_room};
 ghost use Rattle.ncp_umpire.specs.Tables.{with_view};
 ghost use Rattle.ncp_umpire.specs.declared.views.TheConstants.{HOSTS};
 ghost use Rattle.ncp_bits.specs.declared.bits.TheConstants.{MAX_BITS};
-ghost use Rattle.ncp_umpire.specs.Messages.{rule_of_message, reading_of};
-ghost use Rattle.ncp_umpire.specs.Judged.{new_umpire, view_of, knows_zero, sender_of, out_rule, is_fresh, changes, by_host, by_imp, out_finding, fresh_out, is_out, view_after_out, after_out, false_rule, stray_rule, sees_both, is_crowded, judges_coming, answer_findings, with_answer, after_answer, unsent_why, unsent_finding, with_coming, after_in, turn_at, items_said, is_roomy, control_findings, read_findings, after_read, regular_findings, after_regular, message_findings, after_message, event_findings, after_event, record_findings, after_record};
+ghost use Rattle.ncp_umpire.specs.Messages.{rule_of_message, judged_reading};
+ghost use Rattle.ncp_umpire.specs.Judged.{new_umpire, view_of, knows_zero, blamed_for, out_rule, is_fresh, changes_slot, by_host, by_imp, out_finding, fresh_out, is_slot_out, view_after_out, umpire_after_out, false_rule, stray_rule, sees_both, is_crowded, judges_coming, answer_findings, with_answer, umpire_after_answer, unsent_why, unsent_finding, with_coming, after_in, turn_at, items_said, is_roomy, control_findings, read_findings, after_read, regular_findings, after_regular, message_findings, after_message, event_findings, after_event, record_findings, after_record};
 
 use crate::event::{Event, event_of};
 use crate::finding::{Finding, Rule, Thing, Unsent, Who};
@@ -46,7 +46,7 @@ pub struct Umpire {
 
 // Who is blamed for what a message is that goes out of a host, or comes to it.
 fn sender_of(way: Way, at: u8) -> Who
-    ensures { result ≡ sender_of way at }
+    ensures { result ≡ blamed_for way at }
 {
     match way {
         Way::ToImp => Who::Host(at),
@@ -159,7 +159,7 @@ fn by_host(at: u8, rule: Rule) -> Finding
 
 // Whether another message goes out than the one that was not delivered.
 fn changes(slot: Slot, same: bool) -> bool
-    ensures { result ≡ changes slot same }
+    ensures { result ≡ changes_slot slot same }
 {
     match slot {
         Slot::Unknown | Slot::Empty | Slot::Out | Slot::Came => false,
@@ -169,7 +169,7 @@ fn changes(slot: Slot, same: bool) -> bool
 
 // Whether a message is out.
 fn is_out(slot: Slot) -> bool
-    ensures { result ≡ is_out slot }
+    ensures { result ≡ is_slot_out slot }
 {
     match slot {
         Slot::Unknown | Slot::Empty | Slot::Again => false,
@@ -220,8 +220,8 @@ fn judge_control(turn: &Turn, text: Part<'_>, view: View, found: &mut Findings) 
 // Judges what is read on of a message, and gives the view after it.
 fn judge_read(turn: &Turn, regular: &Regular<'_>, view: View, found: &mut Findings) -> View
     requires few { length found.old ≤ 8 }
-    ensures view { result ≡ after_read (reading_of regular.now) turn.now regular.now.text view }
-    ensures found { found.new ≡ found.old ++ read_findings (reading_of regular.now) turn.now regular.now.text view }
+    ensures view { result ≡ after_read (judged_reading regular.now) turn.now regular.now.text view }
+    ensures found { found.new ≡ found.old ++ read_findings (judged_reading regular.now) turn.now regular.now.text view }
 {
     match reading_of(regular) {
         Reading::Stop => view,
@@ -238,7 +238,7 @@ fn message_finding(
     len: usize,
 ) -> Option<Finding>
     requires { len ≤ MAX_BITS }
-    ensures { result ≡ option_map (by turn.now) (rule_of_message read.now link len) }
+    ensures { result ≡ option_map (broken_by turn.now) (rule_of_message read.now link len) }
 {
     match rule_of_message(read, link, len) {
         Some(rule) => Some(turn.finding(rule)),
@@ -283,7 +283,7 @@ impl Umpire {
     // The slot of a link, by the place of its message.
     fn slot_at(&self, known: bool, place: Option<usize>) -> Slot
         requires { IfSome place (λ p. p < length self.now.kept) }
-        ensures { result ≡ slot_at known self.now.kept place }
+        ensures { result ≡ kept_slot known self.now.kept place }
     {
         match place {
             Some(place) => self.kept.slot(place),
@@ -365,7 +365,7 @@ impl Umpire {
     ) -> bool
         requires { length found.old ≤ 4 }
         ensures fresh { result ≡ fresh_out self.old at peer link message.now }
-        ensures after { self.new ≡ after_out self.old at peer link message.now }
+        ensures after { self.new ≡ umpire_after_out self.old at peer link message.now }
         ensures found { found.new ≡ found.old ++ option_to_list (out_finding self.old at peer link message.now) }
         ensures len { length found.new ≤ length found.old + 1 }
     {
@@ -401,7 +401,7 @@ impl Umpire {
     // An answer comes: judges it.
     fn judge_answer(&mut self, kind: u8, at: u8, peer: u8, link: u8, found: &mut Findings)
         requires { length found.old ≤ 4 }
-        ensures after { self.new ≡ after_answer self.old kind at peer link }
+        ensures after { self.new ≡ umpire_after_answer self.old kind at peer link }
         ensures found { found.new ≡ found.old ++ answer_findings self.old kind at peer link }
     {
         if self.full {

@@ -1,6 +1,6 @@
 //! `View`: what is seen at the interface of a host of its phase with another.
 ghost use Rattle.std.specs.Prelude.{◌≡◌, false, true};
-ghost use Rattle.ncp_umpire.specs.Views.{new_side, first_wait, new_host, new_view, is_waiting, is_answered, more_waiting, less_waiting, one_less};
+ghost use Rattle.ncp_umpire.specs.Views.{new_side, first_wait, new_host_side, new_view, awaits_reply, is_answered_too_often, more_waiting, less_waiting, one_less};
 
 /// How many RRPs of the other are waited for: an RST of the side is one more, an RRP of the other one less.
 #[derive(Clone, Copy, Debug, Drop, PartialEq, Eq)]
@@ -16,7 +16,7 @@ pub enum Wait {
 impl Wait {
     /// Whether one is waited for.
     pub fn is_waiting(self) -> bool
-        ensures { result ≡ is_waiting self }
+        ensures { result ≡ awaits_reply self }
     {
         match self {
             Wait::Waiting => true,
@@ -26,7 +26,7 @@ impl Wait {
 
     /// Whether one came too many.
     pub(crate) fn is_answered(self) -> bool
-        ensures { result ≡ is_answered self }
+        ensures { result ≡ is_answered_too_often self }
     {
         match self {
             Wait::Answered => true,
@@ -113,7 +113,7 @@ fn first_wait(part: bool) -> Wait
 
 // The host at whose interface it is seen, of which nothing was seen.
 fn new_host(part: bool) -> Side
-    ensures { result ≡ new_host part }
+    ensures { result ≡ new_host_side part }
 {
     Side {
         wait: first_wait(part),

@@ -16,15 +16,15 @@ use Rattle.ncp_play_world.specs.WorldRules.{StagedWorld}
 use Rattle.ncp_play_world.specs.ManyRules.{StagedMany}
 use Rattle.ncp_play_world_lines.specs.WorldNotes.{world_note_lines}
 use Rattle.ncp_play_world_lines.specs.ManyNotes.{many_note_lines}
-use Rattle.ncp_web.specs.Sessions.{number_of}
-use Rattle.ncp_web.specs.Readings.{reading_of, read_as, of_host, asked_of_two, asked_of_many}
+use Rattle.ncp_web.specs.Sessions.{note_number}
+use Rattle.ncp_web.specs.Readings.{reading_of, read_as, read_of_host, asked_of_two, asked_of_many}
 
 pub reads_two : (s : StagedWorld) (event : Option Event) (side : Side) (call : Call) (note : HostNote) → event ≡ Some (events.Call side call) → reading_of call (host_of side s.hosts.hosts) ≡ Some note
-    → asked_of_two s event ≡ Some (world_note_lines (number_of (length s.traces + 1)) (notes.Called side note))
+    → asked_of_two s event ≡ Some (world_note_lines (note_number (length s.traces + 1)) (notes.Called side note))
 reads_two s event side call note is read = ap (asked_of_two s) is ∙ ap (read_as world_note_lines (length s.traces) (notes.Called side)) read
 
 pub reads_many : (s : StagedMany) (event : Option ManyEvent) (host : ℕ) (call : Call) (h : Host) (note : HostNote) → event ≡ Some (many_events.Call host call) → thing_in s.hosts.crowd.hosts host ≡ Some h → reading_of call h ≡ Some note
-    → asked_of_many s event ≡ Some (many_note_lines (number_of (length s.traces + 1)) (many_notes.Called host note))
+    → asked_of_many s event ≡ Some (many_note_lines (note_number (length s.traces + 1)) (many_notes.Called host note))
 reads_many s event host call h note is found read =
-    ap (asked_of_many s) is ∙ ap (λ (o : Option Host). read_as many_note_lines (length s.traces) (many_notes.Called host) (of_host (reading_of call) o)) found
+    ap (asked_of_many s) is ∙ ap (λ (o : Option Host). read_as many_note_lines (length s.traces) (many_notes.Called host) (read_of_host (reading_of call) o)) found
     ∙ ap (read_as many_note_lines (length s.traces) (many_notes.Called host)) read

@@ -22,13 +22,13 @@ use Rattle.ncp_transcript_two.specs.declared.side.Side.{Side}
 use Rattle.ncp_transcript_two.specs.declared.side.Side.TheVariants.{A, B}
 use Rattle.ncp_transcript_two.specs.declared.note.Note.{Note}
 use Rattle.ncp_transcript_two.specs.declared.note.Note.TheVariants as notes
-use Rattle.ncp_transcript_two.specs.Between.{Hosts, new_hosts, other, number_of, host_of, transit_of, with_transit_of, with_host, is_regular, is_taken, taken, after_out, sent_out, after_note, after_notes}
+use Rattle.ncp_transcript_two.specs.Between.{Hosts, new_hosts, other, side_number, host_of, transit_of, with_transit_of, with_host, is_regular, is_taken, accepted_from, subnet_after_out, sent_out, hosts_after_note, hosts_after_notes}
 use Rattle.ncp_transcript_two.specs.Transcript as two
 use Rattle.ncp_transcript_two.specs.Seen.{seen, as_rules, side_of, told_of, told_out}
 use Rattle.ncp_proof_resets.specs.Resets.{This, That}
 use Rattle.ncp_transcript_two.proofs.Accepting.{taken_yes, taken_no}
 use Rattle.ncp_transcript_two.proofs.Growing.{began_noted}
-use Rattle.ncp_proof_runs.specs.Peers.{peer_of_leader, peer_of}
+use Rattle.ncp_proof_runs.specs.Peers.{peer_of_leader, peer_of_note}
 use Rattle.ncp_proof_promises.specs.EachNote.{OnSide, OfTold, OfEachNote}
 use Rattle.ncp_proof_promises.specs.Taking.{IsTaken, EachOutTaken}
 use Rattle.ncp_transcript_many.specs.declared.many_note.ManyNote.{ManyNote}
@@ -41,7 +41,7 @@ use Rattle.ncp_transcript_many.specs.NotesOfTwo.{AmongAll, OfEachNoteOfTwo, ForE
 use Rattle.ncp_transcript_many.proofs.Transits.{taken-elsewhere}
 use Rattle.ncp_web.specs.declared.transit.Fate.{Fate}
 use Rattle.ncp_web.specs.declared.transit.Fate.TheVariants.{Free, Underway}
-use Rattle.ncp_web.specs.Fates.{fate_of, regular_leader, leader_out, is_on, is_to, is_same, if_told, fate_told, fate_told_of_many, last_told}
+use Rattle.ncp_web.specs.Fates.{fate_of, regular_leader, leader_out, is_leader_on, is_to, is_same, fate_if, fate_told, fate_told_of_many, last_told}
 
 -- the last of some notes
 last-one : {N : Type 0} (says : N → Option Fate) (more : List N) (note : N) (before : Fate) → last_told says (more ++ note ∷ []) before ≡ unwrap_or (says note) (last_told says more before)
@@ -93,7 +93,7 @@ put s from to on x a b link = go (from == a) (to == b) (on == link) refl refl re
     go true true false e f g = transit_at-others s from to on x a b link (λ is. eqb-false on link g (sym is.2))
 
 -- what a note says of a link is what comes to be there
-says : (b : Bool) (x y : OnLink) → fate_of (if b then x else y) ≡ unwrap_or (if_told b (fate_of x)) (fate_of y)
+says : (b : Bool) (x y : OnLink) → fate_of (if b then x else y) ≡ unwrap_or (fate_if b (fate_of x)) (fate_of y)
 says true x y = refl
 says false x y = refl
 
@@ -101,7 +101,7 @@ says false x y = refl
 
 -- what a host noted: that a message went out, or anything else, of which the subnet takes nothing
 abbrev Outs : HostNote → Type 0
-Outs note = ((m : List Bool) × (note ≡ host_notes.Out m)) ⊎ ((leader_out note ≡ None) × ((from : ℕ) (s : Subnet) → after_out from note s ≡ s))
+Outs note = ((m : List Bool) × (note ≡ host_notes.Out m)) ⊎ ((leader_out note ≡ None) × ((from : ℕ) (s : Subnet) → subnet_after_out from note s ≡ s))
 
 outs : (note : HostNote) → Outs note
 outs (host_notes.Refused call fault) = inr (refl, λ from s. refl)
@@ -138,31 +138,31 @@ regular m = go (nat_lt (length m) LEADER_BITS) ((leader_at m).kind == REGULAR) r
 led : (m : List Bool) → leader_in m ≡ Ok (leader_at m) → ((leader_at m).kind == REGULAR) ≡ true → regular_leader (leader_in m) ≡ Some (leader_at m)
 led m e f = ap regular_leader e ∙ ap (λ (b : Bool). if b then Some (leader_at m) else None) f
 
-not-taken : (s : Subnet) (from : ℕ) (m : List Bool) → is_regular m ≡ false → taken from m s ≡ s
+not-taken : (s : Subnet) (from : ℕ) (m : List Bool) → is_regular m ≡ false → accepted_from from m s ≡ s
 not-taken s from m e = taken_no s from m (ap (λ (b : Bool). (b && has_way s from (host_in m)) && is_free (transit_at s from (host_in m) (link_in m))) e)
 
 -- on another link than its own nothing changes
-off-link : (s : Subnet) (from : ℕ) (m : List Bool) (a b link : ℕ) → (link_in m == link) ≡ false → transit_at (taken from m s) a b link ≡ transit_at s a b link
+off-link : (s : Subnet) (from : ℕ) (m : List Bool) (a b link : ℕ) → (link_in m == link) ≡ false → transit_at (accepted_from from m s) a b link ≡ transit_at s a b link
 off-link s from m a b link e = go (is_taken s from m) refl
   where
-    go : (t : Bool) → is_taken s from m ≡ t → transit_at (taken from m s) a b link ≡ transit_at s a b link
+    go : (t : Bool) → is_taken s from m ≡ t → transit_at (accepted_from from m s) a b link ≡ transit_at s a b link
     go true f = ap (λ (u : Subnet). transit_at u a b link) (taken_yes s from m f) ∙ transit_at-others s from (host_in m) (link_in m) (transits.Accepted m) a b link (λ is. eqb-false (link_in m) link e (sym is.2))
     go false f = ap (λ (u : Subnet). transit_at u a b link) (taken_no s from m f)
 
 -- a message went out to this host: on its link it is underway, and elsewhere all is as it was
-went : (s : Subnet) (from : ℕ) (m : List Bool) (a b link : ℕ) → transit_at (taken from m s) a b (link_in m) ≡ transits.Accepted m
-    → fate_of (transit_at (taken from m s) a b link) ≡ unwrap_or (if_told (link_in m == link) Underway) (fate_of (transit_at s a b link))
+went : (s : Subnet) (from : ℕ) (m : List Bool) (a b link : ℕ) → transit_at (accepted_from from m s) a b (link_in m) ≡ transits.Accepted m
+    → fate_of (transit_at (accepted_from from m s) a b link) ≡ unwrap_or (fate_if (link_in m == link) Underway) (fate_of (transit_at s a b link))
 went s from m a b link there = go (link_in m == link) refl
   where
-    go : (t : Bool) → (link_in m == link) ≡ t → fate_of (transit_at (taken from m s) a b link) ≡ unwrap_or (if_told t Underway) (fate_of (transit_at s a b link))
-    go true e = ap (λ (k : ℕ). fate_of (transit_at (taken from m s) a b k)) (sym (eqb-true (link_in m) link e)) ∙ ap fate_of there
+    go : (t : Bool) → (link_in m == link) ≡ t → fate_of (transit_at (accepted_from from m s) a b link) ≡ unwrap_or (fate_if t Underway) (fate_of (transit_at s a b link))
+    go true e = ap (λ (k : ℕ). fate_of (transit_at (accepted_from from m s) a b k)) (sym (eqb-true (link_in m) link e)) ∙ ap fate_of there
     go false e = ap fate_of (off-link s from m a b link e)
 
 -- ---- two hosts
 
 module _ (side : Side) (link : ℕ) where
   abbrev Fated : Note → Hosts → Type 0
-  Fated note w = fate_of (transit_of side link (after_note note w)) ≡ unwrap_or (fate_told side link note) (fate_of (transit_of side link w))
+  Fated note w = fate_of (transit_of side link (hosts_after_note note w)) ≡ unwrap_or (fate_told side link note) (fate_of (transit_of side link w))
 
 -- a host that changes is not in transit
 hosts-stay : (side one : Side) (link : ℕ) (h : Host) (w : Hosts) → transit_of side link (with_host one h w) ≡ transit_of side link w
@@ -179,22 +179,22 @@ put-side B A on link x w differ = put w.subnet w.number_a w.number_b on x w.numb
 put-side B B on link x w differ = put w.subnet w.number_b w.number_a on x w.number_b w.number_a link ∙ rw (self w.number_a, self w.number_b) refl
 
 put-fated : (side one : Side) (on link : ℕ) (x : OnLink) (w : Hosts) → w.number_a ≢ w.number_b
-    → fate_of (transit_of side link (with_transit_of one on x w)) ≡ unwrap_or (if_told (is_same one side && on == link) (fate_of x)) (fate_of (transit_of side link w))
+    → fate_of (transit_of side link (with_transit_of one on x w)) ≡ unwrap_or (fate_if (is_same one side && on == link) (fate_of x)) (fate_of (transit_of side link w))
 put-fated side one on link x w differ = ap fate_of (put-side side one on link x w differ) ∙ says (is_same one side && on == link) x (transit_of side link w)
 
 -- a message of a side that went out
 abbrev OutFated : Side → Side → ℕ → HostNote → Hosts → Type 0
 OutFated side one link note w =
-    fate_of (transit_of side link (sent_out one note w)) ≡ unwrap_or (if_told (is_same one side && is_on link (leader_out note)) Underway) (fate_of (transit_of side link w))
+    fate_of (transit_of side link (sent_out one note w)) ≡ unwrap_or (fate_if (is_same one side && is_leader_on link (leader_out note)) Underway) (fate_of (transit_of side link w))
 
 abbrev Took : Side → List Bool → Hosts → Type 0
 Took side m w = transit_of side (link_in m) (sent_out side (host_notes.Out m) w) ≡ transits.Accepted m
 
-out-same : (s : Subnet) (from : ℕ) (m : List Bool) (a b link : ℕ) → transit_at (taken from m s) a b (link_in m) ≡ transits.Accepted m
-    → fate_of (transit_at (taken from m s) a b link) ≡ unwrap_or (if_told (is_on link (regular_leader (leader_in m))) Underway) (fate_of (transit_at s a b link))
+out-same : (s : Subnet) (from : ℕ) (m : List Bool) (a b link : ℕ) → transit_at (accepted_from from m s) a b (link_in m) ≡ transits.Accepted m
+    → fate_of (transit_at (accepted_from from m s) a b link) ≡ unwrap_or (fate_if (is_leader_on link (regular_leader (leader_in m))) Underway) (fate_of (transit_at s a b link))
 out-same s from m a b link there = elim (regular m) [
-  | inl e ↦ went s from m a b link there ∙ ap (λ (o : Option Leader). unwrap_or (if_told (is_on link o) Underway) (fate_of (transit_at s a b link))) (sym (led m e.0 e.1))
-  | inr e ↦ ap (λ (u : Subnet). fate_of (transit_at u a b link)) (not-taken s from m e.1) ∙ ap (λ (o : Option Leader). unwrap_or (if_told (is_on link o) Underway) (fate_of (transit_at s a b link))) (sym e.0)
+  | inl e ↦ went s from m a b link there ∙ ap (λ (o : Option Leader). unwrap_or (fate_if (is_leader_on link o) Underway) (fate_of (transit_at s a b link))) (sym (led m e.0 e.1))
+  | inr e ↦ ap (λ (u : Subnet). fate_of (transit_at u a b link)) (not-taken s from m e.1) ∙ ap (λ (o : Option Leader). unwrap_or (fate_if (is_leader_on link o) Underway) (fate_of (transit_at s a b link))) (sym e.0)
 ]
 
 out-message : (side one : Side) (link : ℕ) (m : List Bool) (w : Hosts) → w.number_a ≢ w.number_b → Took one m w → OutFated side one link (host_notes.Out m) w
@@ -203,14 +203,14 @@ out-message B B link m w differ there = out-same w.subnet w.number_b m w.number_
 out-message A B link m w differ there = ap fate_of (taken-elsewhere w.subnet w.number_a w.number_b w.number_b m (λ e f. differ e) link)
 out-message B A link m w differ there = ap fate_of (taken-elsewhere w.subnet w.number_b w.number_a w.number_a m (λ e f. differ (sym e)) link)
 
-same-subnet : (side one : Side) (link : ℕ) (note : HostNote) (w : Hosts) → after_out (number_of one w) note w.subnet ≡ w.subnet → transit_of side link (sent_out one note w) ≡ transit_of side link w
+same-subnet : (side one : Side) (link : ℕ) (note : HostNote) (w : Hosts) → subnet_after_out (side_number one w) note w.subnet ≡ w.subnet → transit_of side link (sent_out one note w) ≡ transit_of side link w
 same-subnet A A link note w e = ap (λ (u : Subnet). transit_at u w.number_a w.number_b link) e
 same-subnet A B link note w e = ap (λ (u : Subnet). transit_at u w.number_a w.number_b link) e
 same-subnet B A link note w e = ap (λ (u : Subnet). transit_at u w.number_b w.number_a link) e
 same-subnet B B link note w e = ap (λ (u : Subnet). transit_at u w.number_b w.number_a link) e
 
-no-leader : (so : Bool) (link : ℕ) (fate : Fate) (o : Option Leader) → o ≡ None → fate ≡ unwrap_or (if_told (so && is_on link o) Underway) fate
-no-leader so link fate o e = sym (ap (λ (i : Option Leader). unwrap_or (if_told (so && is_on link i) Underway) fate) e ∙ ap (λ (b : Bool). unwrap_or (if_told b Underway) fate) (nothing-and so))
+no-leader : (so : Bool) (link : ℕ) (fate : Fate) (o : Option Leader) → o ≡ None → fate ≡ unwrap_or (fate_if (so && is_leader_on link o) Underway) fate
+no-leader so link fate o e = sym (ap (λ (i : Option Leader). unwrap_or (fate_if (so && is_leader_on link i) Underway) fate) e ∙ ap (λ (b : Bool). unwrap_or (fate_if b Underway) fate) (nothing-and so))
 
 -- what is said of the note of an output, where it is that of a message
 abbrev IfTook : Side → HostNote → Hosts → Type 0
@@ -219,7 +219,7 @@ IfTook one note w = (m : List Bool) → note ≡ host_notes.Out m → Took one m
 out-fated : (side one : Side) (link : ℕ) (note : HostNote) (w : Hosts) → w.number_a ≢ w.number_b → IfTook one note w → OutFated side one link note w
 out-fated side one link note w differ there = elim (outs note) [
   | inl o ↦ subst (λ (n : HostNote). OutFated side one link n w) (sym o.1) (out-message side one link o.0 w differ (there o.0 o.1))
-  | inr o ↦ ap fate_of (same-subnet side one link note w (o.1 (number_of one w) w.subnet)) ∙ no-leader (is_same one side) link (fate_of (transit_of side link w)) (leader_out note) o.0
+  | inr o ↦ ap fate_of (same-subnet side one link note w (o.1 (side_number one w) w.subnet)) ∙ no-leader (is_same one side) link (fate_of (transit_of side link w)) (leader_out note) o.0
 ]
 
 -- of each note
@@ -240,7 +240,7 @@ fated side link (notes.Answered one on note) w differ there =
     ap fate_of (hosts-stay side one link (transcripts.after_note note (host_of one placed)) placed) ∙ put-fated side one on link transits.Free w differ
 fated side link (notes.Nothing one on wanted) w differ there = refl
 
-note-took : (note : Note) (w : Hosts) → OfTold IsTaken (as_rules (side_of note)) (told_of note) (seen w) (seen (after_note note w)) → NoteTook note w
+note-took : (note : Note) (w : Hosts) → OfTold IsTaken (as_rules (side_of note)) (told_of note) (seen w) (seen (hosts_after_note note w)) → NoteTook note w
 note-took (notes.Called one note) w h = tt
 note-took (notes.Out A note) w h = λ m e. subst (λ (n : HostNote). OnSide IsTaken This (told_out n) (seen w) (seen (sent_out A n w))) e h
 note-took (notes.Out B note) w h = λ m e. subst (λ (n : HostNote). OnSide IsTaken That (told_out n) (seen w) (seen (sent_out B n w))) e h
@@ -250,16 +250,16 @@ note-took (notes.FoundDead one on) w h = tt
 note-took (notes.Answered one on note) w h = tt
 note-took (notes.Nothing one on wanted) w h = tt
 
-differ-on : (note : Note) (w : Hosts) → w.number_a ≢ w.number_b → (after_note note w).number_a ≢ (after_note note w).number_b
+differ-on : (note : Note) (w : Hosts) → w.number_a ≢ w.number_b → (hosts_after_note note w).number_a ≢ (hosts_after_note note w).number_b
 differ-on note w differ e =
-    let same : two.began (after_note note w) ≡ two.began w = began_noted note w in
+    let same : two.began (hosts_after_note note w) ≡ two.began w = began_noted note w in
     differ (sym (ap (λ (h : Hosts). h.number_a) same) ∙ e ∙ ap (λ (h : Hosts). h.number_b) same)
 
 all : (side : Side) (link : ℕ) (ns : List Note) (w : Hosts) → w.number_a ≢ w.number_b → OfEachNote IsTaken ns w
-    → fate_of (transit_of side link (after_notes ns w)) ≡ last_told (fate_told side link) ns (fate_of (transit_of side link w))
+    → fate_of (transit_of side link (hosts_after_notes ns w)) ≡ last_told (fate_told side link) ns (fate_of (transit_of side link w))
 all side link [] w differ h = refl
 all side link (note ∷ ns) w differ h =
-    all side link ns (after_note note w) (differ-on note w differ) h.1 ∙ ap (last_told (fate_told side link) ns) (fated side link note w differ (note-took note w h.0))
+    all side link ns (hosts_after_note note w) (differ-on note w differ) h.1 ∙ ap (last_told (fate_told side link) ns) (fated side link note w differ (note-took note w h.0))
 
 new : (side : Side) (link a b : ℕ) → transit_of side link (new_hosts a b) ≡ transits.Free
 new A link a b = transit-new (a ∷ b ∷ []) a b link
@@ -283,21 +283,21 @@ module _ (sender peer link : ℕ) where
   ManyTook note m = AmongAll IsTaken (note_between sender peer note) (seen (between sender peer m)) (seen (between sender peer (after_many note m)))
 
   put-many : (m : Crowd) (from to on : ℕ) (x : OnLink)
-      → fate_of (transit_at (with_transit m.subnet from to on x) sender peer link) ≡ unwrap_or (if_told ((from == sender && to == peer) && on == link) (fate_of x)) (fate_of (transit_at m.subnet sender peer link))
+      → fate_of (transit_at (with_transit m.subnet from to on x) sender peer link) ≡ unwrap_or (fate_if ((from == sender && to == peer) && on == link) (fate_of x)) (fate_of (transit_at m.subnet sender peer link))
   put-many m from to on x = ap fate_of (put m.subnet from to on x sender peer link) ∙ says ((from == sender && to == peer) && on == link) x (transit_at m.subnet sender peer link)
 
-  no-leader-many : (so : Bool) (fate : Fate) (o : Option Leader) → o ≡ None → fate ≡ unwrap_or (if_told (so && is_to peer link o) Underway) fate
-  no-leader-many so fate o e = sym (ap (λ (i : Option Leader). unwrap_or (if_told (so && is_to peer link i) Underway) fate) e ∙ ap (λ (b : Bool). unwrap_or (if_told b Underway) fate) (nothing-and so))
+  no-leader-many : (so : Bool) (fate : Fate) (o : Option Leader) → o ≡ None → fate ≡ unwrap_or (fate_if (so && is_to peer link o) Underway) fate
+  no-leader-many so fate o e = sym (ap (λ (i : Option Leader). unwrap_or (fate_if (so && is_to peer link i) Underway) fate) e ∙ ap (λ (b : Bool). unwrap_or (fate_if b Underway) fate) (nothing-and so))
 
   -- a message from the one to the other went out
   accepted : (host : ℕ) (msg : List Bool) (m : Crowd) → leader_in msg ≡ Ok (leader_at msg) → ((leader_at msg).kind == REGULAR) ≡ true → (host == sender) ≡ true → (host_in msg == peer) ≡ true
-      → ManyTook (many.Out host (host_notes.Out msg)) m → transit_at (taken host msg m.subnet) sender peer (link_in msg) ≡ transits.Accepted msg
+      → ManyTook (many.Out host (host_notes.Out msg)) m → transit_at (accepted_from host msg m.subnet) sender peer (link_in msg) ≡ transits.Accepted msg
   accepted host msg m e f g h took = subst (λ (one : List Note). AmongAll IsTaken one (seen (between sender peer m)) (seen (between sender peer (after_many note m)))) is took
     where
       note : ManyNote
       note = many.Out host (host_notes.Out msg)
 
-      named : peer_of (host_notes.Out msg) ≡ Some (host_in msg)
+      named : peer_of_note (host_notes.Out msg) ≡ Some (host_in msg)
       named = ap peer_of_leader e ∙ ap (λ (b : Bool). if b then Some (host_in msg) else None) f
 
       is : note_between sender peer note ≡ notes.Out A (host_notes.Out msg) ∷ []
@@ -308,18 +308,18 @@ module _ (sender peer link : ℕ) where
   message-many : (host : ℕ) (msg : List Bool) (m : Crowd) → ManyTook (many.Out host (host_notes.Out msg)) m → ManyFated (many.Out host (host_notes.Out msg)) m
   message-many host msg m took = elim (regular msg) [
     | inl e ↦ go e.0 e.1 (host == sender) (host_in msg == peer) refl refl
-        ∙ ap (λ (o : Option Leader). unwrap_or (if_told (host == sender && is_to peer link o) Underway) (fate_of (transit_at m.subnet sender peer link))) (sym (led msg e.0 e.1))
+        ∙ ap (λ (o : Option Leader). unwrap_or (fate_if (host == sender && is_to peer link o) Underway) (fate_of (transit_at m.subnet sender peer link))) (sym (led msg e.0 e.1))
     | inr e ↦ ap (λ (u : Subnet). fate_of (transit_at u sender peer link)) (not-taken m.subnet host msg e.1) ∙ no-leader-many (host == sender) (fate_of (transit_at m.subnet sender peer link)) (regular_leader (leader_in msg)) e.0
   ]
     where
-      elsewhere : (sender ≡ host → peer ≡ host_in msg → ⊥) → fate_of (transit_at (taken host msg m.subnet) sender peer link) ≡ fate_of (transit_at m.subnet sender peer link)
+      elsewhere : (sender ≡ host → peer ≡ host_in msg → ⊥) → fate_of (transit_at (accepted_from host msg m.subnet) sender peer link) ≡ fate_of (transit_at m.subnet sender peer link)
       elsewhere ne = ap fate_of (taken-elsewhere m.subnet sender peer host msg ne link)
 
       told : Bool → Bool → Fate
-      told p q = unwrap_or (if_told (p && (q && link_in msg == link)) Underway) (fate_of (transit_at m.subnet sender peer link))
+      told p q = unwrap_or (fate_if (p && (q && link_in msg == link)) Underway) (fate_of (transit_at m.subnet sender peer link))
 
       go : leader_in msg ≡ Ok (leader_at msg) → ((leader_at msg).kind == REGULAR) ≡ true → (p q : Bool) → (host == sender) ≡ p → (host_in msg == peer) ≡ q
-          → fate_of (transit_at (taken host msg m.subnet) sender peer link) ≡ told (host == sender) (host_in msg == peer)
+          → fate_of (transit_at (accepted_from host msg m.subnet) sender peer link) ≡ told (host == sender) (host_in msg == peer)
       go e f true true g h = went m.subnet host msg sender peer link (accepted host msg m e f g h took) ∙ ap (λ (b : Bool). told b true) (sym g) ∙ ap (told (host == sender)) (sym h)
       go e f false q g h = elsewhere (λ is to. eqb-false host sender g (sym is)) ∙ ap (λ (b : Bool). told b (host_in msg == peer)) (sym g)
       go e f true false g h = elsewhere (λ is to. eqb-false (host_in msg) peer h (sym to)) ∙ ap (λ (b : Bool). told b false) (sym g) ∙ ap (told (host == sender)) (sym h)
@@ -349,5 +349,5 @@ module _ (sender peer link : ℕ) where
       → last_told (fate_told_of_many sender peer link) ns Free ≡ fate_of (transit_at m.subnet sender peer link)
   of-many ns m t taken one other differ = sym (
       ap (λ (c : Crowd). fate_of (transit_at c.subnet sender peer link)) t.state
-      ∙ all-many ns (manys.began m) (taken sender peer one other differ)
+      ∙ all-many ns (manys.crowd_began m) (taken sender peer one other differ)
       ∙ ap (λ (x : OnLink). last_told (fate_told_of_many sender peer link) ns (fate_of x)) (transit-new (numbers_in m) sender peer link))

@@ -8,7 +8,7 @@ use Rattle.ncp_play_stream.specs.Streams.{SaidSoFar, SaysText, SaysBeginning}
 use Rattle.ncp_web.specs.declared.stage.Refusal.{Refusal}
 use Rattle.ncp_web.specs.declared.stage.Refusal.TheVariants.{NoLine, NoMemory, Full}
 use Rattle.ncp_play_stream.specs.declared.source.Failed.{Failed}
-use Rattle.ncp_web.specs.Readings.{IsSaid}
+use Rattle.ncp_web.specs.Readings.{IsWritten}
 use Rattle.ncp_web.specs.Sessions.{Notes, Steps, told_last}
 
 module _ (text page before : List ℕ) (no_page : page ≡ []) (no_bytes : before ≡ []) where
@@ -44,13 +44,13 @@ module _ (text page before : List ℕ) (no_page : page ≡ []) (no_bytes : befor
 
   -- a text was said, and then the page was written, or a beginning
   pub said_all : (middle left sent : List ℕ) (written : Option (List ℕ)) (answer : Result Unit Failed) → SaysText page (Some before) text middle written
-      → OnOk answer ((left ≡ []) × SaysText middle written [] left (Some sent)) → OnErr answer (SaysBeginning middle written [] (Some sent)) → IsSaid text answer sent
+      → OnOk answer ((left ≡ []) × SaysText middle written [] left (Some sent)) → OnErr answer (SaysBeginning middle written [] (Some sent)) → IsWritten text answer sent
   said_all middle left sent written (Ok done) said ok err = whole middle left sent written said ok
   said_all middle left sent written (Err failed) said ok err = broken_off middle sent written said err
 
 -- a line on a page, which is then written to an empty sink
 pub line_written : (line page before left sent : List ℕ) (answer : Result Unit Failed) → page ≡ line → before ≡ []
-    → OnOk answer ((left ≡ []) × SaysText page (Some before) [] left (Some sent)) → OnErr answer (SaysBeginning page (Some before) [] (Some sent)) → IsSaid line answer sent
+    → OnOk answer ((left ≡ []) × SaysText page (Some before) [] left (Some sent)) → OnErr answer (SaysBeginning page (Some before) [] (Some sent)) → IsWritten line answer sent
 line_written line page before left sent (Ok done) is empty ok err =
     let one = ok.1 [] page ([], ap (λ (it : List ℕ). Some it) empty, refl) in
     let same : Some sent ≡ Some one.0 = one.1 in

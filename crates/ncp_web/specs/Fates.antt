@@ -58,9 +58,9 @@ abbrev pub leader_out : HostNote → Option Leader
 leader_out (host_notes.Out message) = regular_leader (leader_in message)
 leader_out note = None
 
-abbrev pub is_on : ℕ → Option Leader → Bool
-is_on link None = false
-is_on link (Some leader) = leader.link == link
+abbrev pub is_leader_on : ℕ → Option Leader → Bool
+is_leader_on link None = false
+is_leader_on link (Some leader) = leader.link == link
 
 abbrev pub is_to : ℕ → ℕ → Option Leader → Bool
 is_to host link None = false
@@ -73,27 +73,27 @@ is_same B A = false
 is_same B B = true
 
 -- it is so, where a note says it of this link
-abbrev pub if_told : Bool → Fate → Option Fate
-if_told so fate = if so then Some fate else None
+abbrev pub fate_if : Bool → Fate → Option Fate
+fate_if so fate = if so then Some fate else None
 
 -- what a note says of the last message of a side on a link
 abbrev pub fate_told : Side → ℕ → Note → Option Fate
 fate_told sender link (notes.Called side note) = None
-fate_told sender link (notes.Out side note) = if_told (is_same side sender && is_on link (leader_out note)) Underway
-fate_told sender link (notes.Came side on note) = if_told (is_same side sender && on == link) Delivered
-fate_told sender link (notes.Lost side on) = if_told (is_same side sender && on == link) Lost
-fate_told sender link (notes.FoundDead side on) = if_told (is_same side sender && on == link) Dead
-fate_told sender link (notes.Answered side on note) = if_told (is_same side sender && on == link) Free
+fate_told sender link (notes.Out side note) = fate_if (is_same side sender && is_leader_on link (leader_out note)) Underway
+fate_told sender link (notes.Came side on note) = fate_if (is_same side sender && on == link) Delivered
+fate_told sender link (notes.Lost side on) = fate_if (is_same side sender && on == link) Lost
+fate_told sender link (notes.FoundDead side on) = fate_if (is_same side sender && on == link) Dead
+fate_told sender link (notes.Answered side on note) = fate_if (is_same side sender && on == link) Free
 fate_told sender link (notes.Nothing side on wanted) = None
 
 -- and one of many hosts of the last message from one to another
 abbrev pub fate_told_of_many : ℕ → ℕ → ℕ → ManyNote → Option Fate
 fate_told_of_many sender peer link (many_notes.Called host note) = None
-fate_told_of_many sender peer link (many_notes.Out host note) = if_told (host == sender && is_to peer link (leader_out note)) Underway
-fate_told_of_many sender peer link (many_notes.Came from to on note) = if_told ((from == sender && to == peer) && on == link) Delivered
-fate_told_of_many sender peer link (many_notes.Lost from to on) = if_told ((from == sender && to == peer) && on == link) Lost
-fate_told_of_many sender peer link (many_notes.FoundDead from to on) = if_told ((from == sender && to == peer) && on == link) Dead
-fate_told_of_many sender peer link (many_notes.Answered from to on note) = if_told ((from == sender && to == peer) && on == link) Free
+fate_told_of_many sender peer link (many_notes.Out host note) = fate_if (host == sender && is_to peer link (leader_out note)) Underway
+fate_told_of_many sender peer link (many_notes.Came from to on note) = fate_if ((from == sender && to == peer) && on == link) Delivered
+fate_told_of_many sender peer link (many_notes.Lost from to on) = fate_if ((from == sender && to == peer) && on == link) Lost
+fate_told_of_many sender peer link (many_notes.FoundDead from to on) = fate_if ((from == sender && to == peer) && on == link) Dead
+fate_told_of_many sender peer link (many_notes.Answered from to on note) = fate_if ((from == sender && to == peer) && on == link) Free
 fate_told_of_many sender peer link (many_notes.Nothing event) = None
 
 -- the last note that says something counts

@@ -41,7 +41,7 @@ use Rattle.ncp_play_files.specs.Lines.{item_line}
 use Rattle.ncp_web.specs.declared.answer.TheConstants.{DONE, NO_MEMORY, NO_SESSION, NOTHING, FULL, LONGEST_MESSAGE}
 use Rattle.ncp_web.specs.declared.handle.held.Held.{Held}
 use Rattle.ncp_web.specs.Bytes.{IsFront}
-use Rattle.ncp_web.specs.Sessions.{number_of, side_at, host_at, code_of_refusal}
+use Rattle.ncp_web.specs.Sessions.{note_number, side_at, host_of_stage, code_of_refusal}
 use Rattle.ncp_numbers.specs.Bytes.{bytes_of, bytes_for}
 use Rattle.ncp_transcript_two.specs.declared.ledger.Amount.{Amount}
 use Rattle.ncp_transcript_two.specs.declared.ledger.Ledger.{Ledger}
@@ -72,24 +72,24 @@ message_over message out = bytes_of message ++ drop (bytes_for (length message))
 
 abbrev pub read_as : {N : Type 0} → (ℕ → N → List ℕ) → ℕ → (HostNote → N) → Option HostNote → Option (List ℕ)
 read_as lines told called None = None
-read_as lines told called (Some note) = Some (lines (number_of (told + 1)) (called note))
+read_as lines told called (Some note) = Some (lines (note_number (told + 1)) (called note))
 
 abbrev pub asked_of_two : StagedWorld → Option Event → Option (List ℕ)
 asked_of_two s (Some (events.Call side call)) = read_as world_note_lines (length s.traces) (notes.Called side) (reading_of call (host_of side s.hosts.hosts))
 asked_of_two s event = None
 
 -- of a host that there may be
-abbrev pub of_host : {A : Type 0} → (Host → Option A) → Option Host → Option A
-of_host read None = None
-of_host read (Some h) = read h
+abbrev pub read_of_host : {A : Type 0} → (Host → Option A) → Option Host → Option A
+read_of_host read None = None
+read_of_host read (Some h) = read h
 
 abbrev pub asked_of_many : StagedMany → Option ManyEvent → Option (List ℕ)
-asked_of_many s (Some (many_events.Call host call)) = read_as many_note_lines (length s.traces) (many_notes.Called host) (of_host (reading_of call) (thing_in s.hosts.crowd.hosts host))
+asked_of_many s (Some (many_events.Call host call)) = read_as many_note_lines (length s.traces) (many_notes.Called host) (read_of_host (reading_of call) (thing_in s.hosts.crowd.hosts host))
 asked_of_many s event = None
 
-abbrev pub asked_of : Stage → List ℕ → Option (List ℕ)
-asked_of (Two s) line = asked_of_two s.hosts (world_line_of s.first.hosts (words_of line))
-asked_of (Many s) line = asked_of_many s.hosts (many_line_of s.first (words_of line))
+abbrev pub asked_by_line_of : Stage → List ℕ → Option (List ℕ)
+asked_by_line_of (Two s) line = asked_of_two s.hosts (world_line_of s.first.hosts (words_of line))
+asked_by_line_of (Many s) line = asked_of_many s.hosts (many_line_of s.first (words_of line))
 
 -- what is written of it, by the answer; there may be no memory for what the line says
 abbrev pub Asks : Option (List ℕ) → Result Unit Refusal → List ℕ → Type 0
@@ -99,10 +99,10 @@ Asks asked (Err NoMemory) text = text ≡ []
 Asks asked (Err Full) text = (more : List ℕ) × (asked ≡ Some (text ++ more))
 
 abbrev pub waiting_in : Stage → ℕ → ℕ → ℕ → Option Command
-waiting_in stage host peer place = of_host (λ h. waiting_at (state_of h peer) place) (host_at host stage)
+waiting_in stage host peer place = read_of_host (λ h. waiting_at (state_of h peer) place) (host_of_stage host stage)
 
 abbrev pub kept_in : Stage → ℕ → ℕ → ℕ → Option (List Bool)
-kept_in stage host peer link = of_host (λ h. kept_for (state_of h peer) link) (host_at host stage)
+kept_in stage host peer link = read_of_host (λ h. kept_for (state_of h peer) link) (host_of_stage host stage)
 
 -- the message that went out, or came, as a note tells it
 
@@ -132,9 +132,9 @@ of_place read noted None = None
 of_place read noted (Some place) = of_note read (slice_get noted place)
 
 -- of the event whose line has this number
-abbrev pub message_in : Stage → ℕ → Option (List Bool)
-message_in (Two s) number = of_place message_of_two s.hosts.hosts.notes (place_of_line s.hosts.traces number)
-message_in (Many s) number = of_place message_of_many s.hosts.hosts.notes (place_of_line s.hosts.traces number)
+abbrev pub message_of_line : Stage → ℕ → Option (List Bool)
+message_of_line (Two s) number = of_place message_of_two s.hosts.hosts.notes (place_of_line s.hosts.traces number)
+message_of_line (Many s) number = of_place message_of_many s.hosts.hosts.notes (place_of_line s.hosts.traces number)
 
 -- the ledger of a sender of two hosts
 abbrev pub ledger_at_side : Option Side → Pair → Stage → Option Ledger
@@ -142,9 +142,9 @@ ledger_at_side None pair stage = None
 ledger_at_side (Some side) pair (Two s) = ledger_of side pair s.hosts.hosts.hosts
 ledger_at_side (Some side) pair (Many s) = None
 
-abbrev pub ledger_in : Stage → ℕ → Pair → Option Ledger
-ledger_in (Two s) host pair = ledger_at_side (side_at s.first.hosts host) pair (Two s)
-ledger_in (Many s) host pair = None
+abbrev pub ledger_of_stage : Stage → ℕ → Pair → Option Ledger
+ledger_of_stage (Two s) host pair = ledger_at_side (side_at s.first.hosts host) pair (Two s)
+ledger_of_stage (Many s) host pair = None
 
 -- What became of the last message from a host to another on a link.
 
@@ -166,7 +166,7 @@ code_of_asking (Err refusal) = code_of_refusal refusal
 abbrev pub AsksHeld : List ℕ → ℕ → Option Held → List ℕ → List ℕ → ℕ → Type 0
 AsksHeld line result None out out' written = IsRefused NO_SESSION result out out' written
 AsksHeld line result (Some s) out out' written =
-    (answer : Result Unit Refusal) × (text : List ℕ) × Asks (asked_of s.stage line) answer text × (result ≡ code_of_asking answer) × IsFront text out out' written
+    (answer : Result Unit Refusal) × (text : List ℕ) × Asks (asked_by_line_of s.stage line) answer text × (result ≡ code_of_asking answer) × IsFront text out out' written
 
 abbrev pub AsksSession : List ℕ → ℕ → Option Held → List ℕ → List ℕ → ℕ → Type 0
 AsksSession line result session out out' written = IsRefused NO_MEMORY result out out' written ⊎ AsksHeld line result session out out' written
@@ -194,9 +194,9 @@ abbrev pub with_room : {A : Type 0} → List ℕ → A → A → A
 with_room out short answer = if nat_lt (length out) LONGEST_MESSAGE then short else answer
 
 -- lines were written, or a beginning of them
-abbrev pub IsSaid : List ℕ → Result Unit Failed → List ℕ → Type 0
-IsSaid lines (Ok done) text = text ≡ lines
-IsSaid lines (Err failed) text = (more : List ℕ) × (text ++ more ≡ lines)
+abbrev pub IsWritten : List ℕ → Result Unit Failed → List ℕ → Type 0
+IsWritten lines (Ok done) text = text ≡ lines
+IsWritten lines (Err failed) text = (more : List ℕ) × (text ++ more ≡ lines)
 
 abbrev pub code_of_saying : Result Unit Failed → ℕ
 code_of_saying (Ok done) = DONE
@@ -206,7 +206,7 @@ code_of_saying (Err failed) = FULL
 abbrev pub SaysWaiting : Option Command → ℕ → List ℕ → List ℕ → ℕ → Type 0
 SaysWaiting None result out out' written = IsRefused NOTHING result out out' written
 SaysWaiting (Some command) result out out' written =
-    (answer : Result Unit Failed) × (text : List ℕ) × IsSaid (item_line (Ok command)) answer text × (result ≡ code_of_saying answer) × IsFront text out out' written
+    (answer : Result Unit Failed) × (text : List ℕ) × IsWritten (item_line (Ok command)) answer text × (result ≡ code_of_saying answer) × IsFront text out out' written
 
 abbrev pub WaitsHeld : ℕ → ℕ → ℕ → ℕ → Option Held → List ℕ → List ℕ → ℕ → Type 0
 WaitsHeld host peer place result None out out' written = IsRefused NO_SESSION result out out' written

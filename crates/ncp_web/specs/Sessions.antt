@@ -23,8 +23,8 @@ use Rattle.ncp_web.specs.declared.stage.Refusal.{Refusal}
 use Rattle.ncp_web.specs.declared.stage.Refusal.TheVariants.{NoLine, NoMemory, Full}
 
 -- the number of the last of so many notes; it stays at the largest
-abbrev pub number_of : ℕ → ℕ
-number_of count = min count 4294967295
+abbrev pub note_number : ℕ → ℕ
+note_number count = min count 4294967295
 
 -- the side of a host, by its number
 abbrev pub side_at : TwoHosts → ℕ → Option Side
@@ -59,7 +59,7 @@ module _ {F E N W : Type 0} (rules : Rules F E N W) where
 
   -- what is told of the last note, which has the number of all
   abbrev pub told_last : Tale N W → N → W → List ℕ
-  told_last tale note now = tale.of_note (number_of (length (rules.notes now))) note now
+  told_last tale note now = tale.of_note (note_number (length (rules.notes now))) note now
 
   -- what became of an event, by the answer, and what was said of it
   abbrev pub Notes : Tale N W → E → ℕ → W → Result Bool Refusal → ℕ → W → List ℕ → Option (List ℕ) → List ℕ → Option (List ℕ) → Type 0
@@ -95,9 +95,9 @@ module _ {F E N W : Type 0} (rules : Rules F E N W) where
 
 -- ---- a session of two hosts, or of two to eight
 
-abbrev pub host_at : ℕ → Stage → Option Host
-host_at number (Two s) = if number == s.first.hosts.a then Some (host_of A s.hosts.hosts.hosts) else if number == s.first.hosts.b then Some (host_of B s.hosts.hosts.hosts) else None
-host_at number (Many s) = thing_in s.hosts.hosts.crowd.hosts number
+abbrev pub host_of_stage : ℕ → Stage → Option Host
+host_of_stage number (Two s) = if number == s.first.hosts.a then Some (host_of A s.hosts.hosts.hosts) else if number == s.first.hosts.b then Some (host_of B s.hosts.hosts.hosts) else None
+host_of_stage number (Many s) = thing_in s.hosts.hosts.crowd.hosts number
 
 -- the hosts that the first line of a script names, new
 abbrev pub BeginsStage : List ℕ → Result Stage Refusal → Type 0
@@ -125,8 +125,8 @@ code_of_step (Ok false) = DONE
 code_of_step (Err refusal) = code_of_refusal refusal
 
 -- the session that a first line opens stands in the place of the one that was there; where it is refused that stays
-abbrev pub Opens : List ℕ → ℕ → Option Held → Option Held → Type 0
-Opens line result before now =
+abbrev pub OpensSession : List ℕ → ℕ → Option Held → Option Held → Type 0
+OpensSession line result before now =
     ((stage : Stage) × BeginsStage line (Ok stage) × (result ≡ DONE) × (now ≡ Some (record { stage = stage })))
     ⊎ (((result ≡ NO_MEMORY) ⊎ (BeginsStage line (Err NoLine) × (result ≡ NO_LINE))) × (now ≡ before))
 

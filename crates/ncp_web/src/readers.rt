@@ -9,7 +9,7 @@ ghost use Rattle.ncp_play_world_lines.specs.ManyLines.{many_line_of};
 ghost use Rattle.ncp_play_world_lines.specs.WorldNotes.{world_note_lines};
 ghost use Rattle.ncp_play_world_lines.specs.ManyNotes.{many_note_lines};
 ghost use Rattle.ncp_web.specs.Fates.{number_of_fate};
-ghost use Rattle.ncp_web.specs.Readings.{quantity_of, books_of, message_over, waiting_in, kept_in, message_noted, message_of_two, message_of_many, message_in, ledger_in, asked_of_two, asked_of_many, asked_of, fate_in, Asks, AsksSession, WaitsSession, IsSaid, code_of_asking, code_of_saying, code_found, found_in, written_if_any, with_room};
+ghost use Rattle.ncp_web.specs.Readings.{quantity_of, books_of, message_over, waiting_in, kept_in, message_noted, message_of_two, message_of_many, message_of_line, ledger_of_stage, asked_of_two, asked_of_many, asked_by_line_of, fate_in, Asks, AsksSession, WaitsSession, IsWritten, code_of_asking, code_of_saying, code_found, found_in, written_if_any, with_room};
 
 use crate::answer::{DONE, FULL, LONGEST_MESSAGE, NO_MEMORY, NO_SESSION, NOTHING, copy_out};
 use crate::handle::{Handle, put, take};
@@ -130,7 +130,7 @@ fn message_in_many(note: &ManyNote) -> Option<&Message>
 
 // The message of an event, by the number of its line.
 fn message_of(stage: &Stage, number: usize) -> Option<&Message>
-    ensures { option_copied result ≡ message_in stage.now number }
+    ensures { option_copied result ≡ message_of_line stage.now number }
 {
     match stage {
         Stage::Two(two) => {
@@ -146,7 +146,7 @@ fn message_of(stage: &Stage, number: usize) -> Option<&Message>
 
 // The ledger of a sender of two hosts.
 fn ledger_at(stage: &Stage, host: u8, pair: Pair) -> Option<Ledger>
-    ensures { result ≡ ledger_in stage.now host pair }
+    ensures { result ≡ ledger_of_stage stage.now host pair }
 {
     match stage {
         Stage::Two(two) => two
@@ -160,7 +160,7 @@ fn ledger_at(stage: &Stage, host: u8, pair: Pair) -> Option<Ledger>
 // Writes the line of a command to an empty sink.
 fn say_command(command: &Command, sink: &mut MemorySink) -> Result<(), Failed>
     requires empty { sink.old.written ≡ [] }
-    ensures { IsSaid (item_line (Ok command.now)) result sink.new.written }
+    ensures { IsWritten (item_line (Ok command.now)) result sink.new.written }
 {
     let mut page = Page::new();
     push_item(&mut page, &Ok(*command));
@@ -170,7 +170,7 @@ fn say_command(command: &Command, sink: &mut MemorySink) -> Result<(), Failed>
 // Writes the lines of a note of two hosts to an empty sink.
 fn say_two(number: u32, note: &Note, sink: &mut MemorySink) -> Result<(), Failed>
     requires empty { sink.old.written ≡ [] }
-    ensures { IsSaid (world_note_lines number note.now) result sink.new.written }
+    ensures { IsWritten (world_note_lines number note.now) result sink.new.written }
 {
     let mut page = Page::new();
     let mut out = Outlet {
@@ -186,7 +186,7 @@ fn say_two(number: u32, note: &Note, sink: &mut MemorySink) -> Result<(), Failed
 // Writes the lines of a note of two to eight hosts to an empty sink.
 fn say_many(number: u32, note: &ManyNote, sink: &mut MemorySink) -> Result<(), Failed>
     requires empty { sink.old.written ≡ [] }
-    ensures { IsSaid (many_note_lines number note.now) result sink.new.written }
+    ensures { IsWritten (many_note_lines number note.now) result sink.new.written }
 {
     let mut page = Page::new();
     let mut out = Outlet {
@@ -284,7 +284,7 @@ fn ask_many(
 // What a line would be answered that reads a host.
 fn ask(alloc: Global, stage: &Stage, line: &[u8], sink: &mut MemorySink) -> Result<(), Refusal>
     requires empty { sink.old.written ≡ [] }
-    ensures { Asks (asked_of stage.now line.now) result sink.new.written }
+    ensures { Asks (asked_by_line_of stage.now line.now) result sink.new.written }
 {
     match stage {
         Stage::Two(two) => ask_two(alloc, two, line, sink),
@@ -422,9 +422,9 @@ pub extern "C" fn ncp_web_message(
     bits: &mut usize,
 ) -> u32
     ensures session { handle.new.session ≡ handle.old.session }
-    ensures code { result ≡ with_room out.old FULL (code_found (λ s. message_in s number) handle.old.session) }
-    ensures message { out.new ≡ with_room out.old out.old (written_if_any (λ m. message_over m out.old) (found_in (λ s. message_in s number) handle.old.session) out.old) }
-    ensures bits { bits.new ≡ with_room out.old bits.old (written_if_any length (found_in (λ s. message_in s number) handle.old.session) bits.old) }
+    ensures code { result ≡ with_room out.old FULL (code_found (λ s. message_of_line s number) handle.old.session) }
+    ensures message { out.new ≡ with_room out.old out.old (written_if_any (λ m. message_over m out.old) (found_in (λ s. message_of_line s number) handle.old.session) out.old) }
+    ensures bits { bits.new ≡ with_room out.old bits.old (written_if_any length (found_in (λ s. message_of_line s number) handle.old.session) bits.old) }
 {
     if out.len() < LONGEST_MESSAGE {
         return FULL;
@@ -456,8 +456,8 @@ pub extern "C" fn ncp_web_ledger(
     out: &mut Books,
 ) -> u32
     ensures session { handle.new.session ≡ handle.old.session }
-    ensures code { result ≡ code_found (λ s. ledger_in s host (record { local = local; remote = remote })) handle.old.session }
-    ensures told { out.new ≡ written_if_any books_of (found_in (λ s. ledger_in s host (record { local = local; remote = remote })) handle.old.session) out.old }
+    ensures code { result ≡ code_found (λ s. ledger_of_stage s host (record { local = local; remote = remote })) handle.old.session }
+    ensures told { out.new ≡ written_if_any books_of (found_in (λ s. ledger_of_stage s host (record { local = local; remote = remote })) handle.old.session) out.old }
 {
     let Some(held) = take(alloc, handle) else {
         return NO_SESSION;

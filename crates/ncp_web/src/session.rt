@@ -1,6 +1,6 @@
 //! A session begins, goes on line by line, and ends.
 ghost use Rattle.std.specs.Prelude.{◌≡◌, ◌≢◌};
-ghost use Rattle.ncp_web.specs.Sessions.{Opens, StepsSession, code_of_refusal, code_of_step};
+ghost use Rattle.ncp_web.specs.Sessions.{OpensSession, StepsSession, code_of_refusal, code_of_step};
 ghost use Rattle.std.specs.declared.option.Option.TheVariants.{None};
 
 use crate::answer::{DONE, FULL, GOES_ON, NO_LINE, NO_MEMORY, NO_SESSION, copy_out};
@@ -36,7 +36,7 @@ fn code_of_step(answer: Result<bool, Refusal>) -> u32
 /// Refused, in this order, and the handle stays as it was: `NO_LINE` (the line names no hosts as it should), `NO_MEMORY`.
 #[unsafe(no_mangle)]
 pub extern "C" fn ncp_web_open(alloc: Global, handle: &mut Handle, first: &[u8]) -> u32
-    ensures opens { Opens first.now result handle.old.session handle.new.session }
+    ensures opens { OpensSession first.now result handle.old.session handle.new.session }
     ensures err { result ≢ DONE → handle.new.session ≡ handle.old.session }
 {
     let stage = match Stage::new(alloc, first) {

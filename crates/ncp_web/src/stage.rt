@@ -1,7 +1,7 @@
 //! `Stage`: the hosts of a session, with the first line that named them.
 ghost use Rattle.std.specs.Prelude.{◌≡◌, IfOk, IfSome};
 ghost use Rattle.std.specs.Option.{option_copied};
-ghost use Rattle.ncp_web.specs.Sessions.{Begins, BeginsStage, side_at, host_at};
+ghost use Rattle.ncp_web.specs.Sessions.{Begins, BeginsStage, side_at, host_of_stage};
 
 use ncp_bits::PackedStore;
 use ncp_host::Host;
@@ -94,7 +94,7 @@ impl Stage {
 
     /// The host of a number, if there is one.
     pub(crate) fn host(&self, number: u8) -> Option<&Host<PackedStore>>
-        ensures { option_copied result ≡ host_at number self.now }
+        ensures { option_copied result ≡ host_of_stage number self.now }
     {
         match self {
             Stage::Two(two) => {

@@ -1,7 +1,7 @@
 //! A line of a script, played note by note.
 ghost use Rattle.std.specs.Prelude.{◌≡◌, if◌then◌else◌, [], Some};
 ghost use Rattle.ncp_play_page.specs.Outlets.{SameOutlet};
-ghost use Rattle.ncp_web.specs.Sessions.{Notes, Reads, Steps, StepsStage, number_of};
+ghost use Rattle.ncp_web.specs.Sessions.{Notes, Reads, Steps, StepsStage, note_number};
 
 use crate::stage::{Refusal, Stage};
 use ncp_bits::PackedStore;
@@ -14,7 +14,7 @@ use std::alloc::Global;
 
 // The number of the last of so many notes. It stays at the largest.
 pub(crate) fn number_of(notes: usize) -> u32
-    ensures { result ≡ number_of notes }
+    ensures { result ≡ note_number notes }
 {
     u32::try_from(notes).unwrap_or(u32::MAX)
 }

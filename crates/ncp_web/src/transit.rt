@@ -1,7 +1,7 @@
 //! What is in transit, as the notes tell it.
 ghost use Rattle.std.specs.Prelude.{◌≡◌};
 ghost use Rattle.ncp_transcript_many.specs.ManyHappening.{are_two};
-ghost use Rattle.ncp_web.specs.Fates.{number_of_fate, leader_out, is_on, is_to, is_same, fate_told, fate_told_of_many, last_told, fate_between, fate_among};
+ghost use Rattle.ncp_web.specs.Fates.{number_of_fate, leader_out, is_leader_on, is_to, is_same, fate_told, fate_told_of_many, last_told, fate_between, fate_among};
 ghost use Rattle.ncp_web.specs.Readings.{fate_in};
 ghost use Rattle.ncp_web.specs.Sessions.{side_at};
 
@@ -65,7 +65,7 @@ fn leader_out(note: &HostNote) -> Option<Leader>
 
 // Whether a message went out on this link.
 fn is_on(link: u8, leader: Option<Leader>) -> bool
-    ensures { result ≡ is_on link leader }
+    ensures { result ≡ is_leader_on link leader }
 {
     match leader {
         Some(leader) => leader.link == link,

@@ -19,7 +19,7 @@ use Rattle.ncp_transcript_two.specs.declared.ledger.Ledger.{Ledger}
 use Rattle.ncp_transcript_two.specs.declared.note.Note.{Note}
 use Rattle.ncp_transcript_two.specs.declared.side.Side.{Side}
 use Rattle.ncp_transcript_two.specs.declared.side.Side.TheVariants.{A, B}
-use Rattle.ncp_transcript_two.specs.Between.{Hosts, other, number_of, host_of}
+use Rattle.ncp_transcript_two.specs.Between.{Hosts, other, side_number, host_of}
 use Rattle.ncp_transcript_two.specs.Sides.{notes_at}
 use Rattle.ncp_transcript_two.specs.Transcript.{IsTranscript}
 use Rattle.ncp_transcript_two.specs.Seen.{seen, had_for}
@@ -28,14 +28,14 @@ use Rattle.ncp_proof_promises.proofs.Standing.{kept-for}
 use Rattle.ncp_world.specs.Booked.{marks_at, Remains, IsBooked}
 
 -- What an end has is what remains as its host's notes say.
-remains : (ns : List Note) (w : Hosts) → IsTranscript ns w → (side : Side) (pair : Pair) (e : End) → get (had_for (number_of (other side) w) (host_of side w)).peer.ends pair ≡ Some e
+remains : (ns : List Note) (w : Hosts) → IsTranscript ns w → (side : Side) (pair : Pair) (e : End) → get (had_for (side_number (other side) w) (host_of side w)).peer.ends pair ≡ Some e
     → Remains (amount e.messages e.bits) (marks_at side pair ns w)
 remains ns w t side pair e is =
     let all : List HostNote = notes_at side ns in
     let h : Host = host_of side w in
-    let n : ℕ = number_of (other side) w in
+    let n : ℕ = side_number (other side) w in
     let s : PeerState = had_for n h in
-    let own : runs.IsTranscript all h = by_itself ns w side t in
+    let own : runs.IsHostTranscript all h = by_itself ns w side t in
     let k = stored-there h.me (numbers_of h.peers) all n s pair e (is_run all h own) (is_kept all h n (Some s) own (kept-for ns w side t)) is in
     (k.messages, k.bits)
 

@@ -20,7 +20,7 @@ use Rattle.ncp_model.specs.Peers.{Peer}
 use Rattle.ncp_proof_resets.specs.Delivery.{Link}
 use Rattle.ncp_proof_headline.specs.Headline.{sum_on}
 use Rattle.ncp_model.specs.Amounts.{granted_messages, granted_bits, returned_messages, returned_bits}
-use Rattle.ncp_proof_machine.specs.Hosts.{Node, Event}
+use Rattle.ncp_proof_machine.specs.Hosts.{Node, NodeEvent}
 use Rattle.ncp_proof_machine.specs.Hosts as hosts
 use Rattle.ncp_proof_headline.proofs.HostsHeld.{ever}
 use Rattle.ncp_conn.specs.declared.record.Record.{Record}
@@ -29,10 +29,10 @@ use Rattle.ncp_host.specs.PeerState.{PeerState}
 use Rattle.ncp_host.specs.Host.{state_of, if_known}
 use Rattle.ncp_host.specs.Calls.{record_answer, kept_for}
 use Rattle.ncp_subnet.specs.Transit.{is_delivered}
-use Rattle.ncp_transcript_two.specs.Subnet.{Holds, Subnet}
+use Rattle.ncp_transcript_two.specs.Subnet.{Holds, TransitByLink}
 use Rattle.ncp_transcript_two.specs.World.{World, swap}
 use Rattle.ncp_transcript_two.specs.Watch.{Both, turn}
-use Rattle.ncp_transcript_two.specs.Tie.{Place, Nowhere, Waits, Goes, Came, Failed, Died, Kept, slot_of, holds_of, OfMessage, Carries, control_bits, text_bits, AreCommands, IsTextOn, Stands, Reached}
+use Rattle.ncp_transcript_two.specs.Tie.{Whereabouts, Nowhere, Waits, Goes, Came, Failed, Died, Kept, slot_of, holds_of, OfMessage, Carries, control_bits, text_as_message, AreCommands, IsTextOn, Stands, Reached}
 use Rattle.ncp_transcript_two.specs.Underway.{text_read, commands_of, not_come, commands_out, underway, how_many, bits_out, sender_at, receiver_at}
 use Rattle.ncp_transcript_two.specs.Ledgers.{amount, ledger_in, are_open, ledger_from, ledger_of, IsBalanced}
 use Rattle.ncp_world.specs.Reckoning.{control_commands, commands_kept, waiting_of, unless_came, kept_from, commands_from, if_open, ledger_with, ledger_if, ledger_read}
@@ -40,7 +40,7 @@ use Rattle.ncp_transcript_two.specs.declared.ledger.Ledger.{Ledger}
 use Rattle.ncp_transcript_two.specs.declared.side.Side.{Side}
 use Rattle.ncp_transcript_two.specs.declared.side.Side.TheVariants.{A, B}
 use Rattle.ncp_transcript_two.specs.declared.note.Note.{Note}
-use Rattle.ncp_transcript_two.specs.Between.{Hosts, other, number_of, host_of, transit_of}
+use Rattle.ncp_transcript_two.specs.Between.{Hosts, other, side_number, host_of, transit_of}
 use Rattle.ncp_transcript_two.specs.Transcript.{IsTranscript}
 use Rattle.ncp_transcript_two.specs.Seen.{state_or_new, seen}
 use Rattle.ncp_transcript_two.specs.OfRules.{histories_of}
@@ -82,7 +82,7 @@ line-kept write P l s h c =
     ap (λ (x : LinkSlot). unless_came (is_delivered h) (kept_message x)) c.in_slot ∙ ap (λ (x : Holds). unless_came (is_delivered x) (kept_message (slot_of write c.place))) c.in_subnet
     ∙ go c.place ∙ sym (ap (λ (x : Holds). not_come (slot_of write c.place) x) c.in_subnet) ∙ sym (ap (λ (x : LinkSlot). not_come x h) c.in_slot)
   where
-    go : (p : Place _) → unless_came (is_delivered (holds_of write p)) (kept_message (slot_of write p)) ≡ not_come (slot_of write p) (holds_of write p)
+    go : (p : Whereabouts _) → unless_came (is_delivered (holds_of write p)) (kept_message (slot_of write p)) ≡ not_come (slot_of write p) (holds_of write p)
     go Nowhere = refl
     go (Waits m) = refl
     go (Goes m) = refl
@@ -102,7 +102,7 @@ line-read there l s h n c =
     ∙ go c.place c.fits
     ∙ sym (ap (λ (x : Holds). commands_out (not_come (slot_of (control_bits there) c.place) x)) c.in_subnet) ∙ sym (ap (λ (x : LinkSlot). commands_out (not_come x h)) c.in_slot)
   where
-    go : (p : Place (List Command)) → OfMessage AreCommands p
+    go : (p : Whereabouts (List Command)) → OfMessage AreCommands p
         → commands_kept (not_come (slot_of (control_bits there) p) (holds_of (control_bits there) p)) ≡ commands_out (not_come (slot_of (control_bits there) p) (holds_of (control_bits there) p))
     go Nowhere f = refl
     go (Waits m) f = control-read there m n f
@@ -115,39 +115,39 @@ line-read there l s h n c =
 -- What is told of one side, where its host stands for one of the model.
 
 abbrev had : Side → Hosts → PeerState
-had side w = state_or_new (state_of (host_of side w) (number_of (other side) w))
+had side w = state_or_new (state_of (host_of side w) (side_number (other side) w))
 
-abbrev goes : Side → Hosts → Subnet
+abbrev goes : Side → Hosts → TransitByLink
 goes side w = λ on. transit_of side on w
 
 module _ (side : Side) (w : Hosts) (there : ℕ) (n : Node) (k : Stands there n (had side w) (goes side w)) (few : length n.host.phase.waiting ≤ MAX_WAITING) where
   kept-is : (on : ℕ) → kept_from side on w ≡ not_come (slot_at (had side w).slots on) (goes side w on)
-  kept-is on = ap (unless_came (is_delivered (goes side w on))) (kept-told (state_of (host_of side w) (number_of (other side) w)) on) ∙ go (on == 0) refl
+  kept-is on = ap (unless_came (is_delivered (goes side w on))) (kept-told (state_of (host_of side w) (side_number (other side) w)) on) ∙ go (on == 0) refl
     where
       go : (b : Bool) → (on == 0) ≡ b → unless_came (is_delivered (goes side w on)) (kept_message (slot_at (had side w).slots on)) ≡ not_come (slot_at (had side w).slots on) (goes side w on)
       go true z = subst (λ (x : ℕ). unless_came (is_delivered (goes side w x)) (kept_message (slot_at (had side w).slots x)) ≡ not_come (slot_at (had side w).slots x) (goes side w x)) (sym (eqb-true on 0 z))
           (line-kept (control_bits there) AreCommands n.control (slot_at (had side w).slots 0) (goes side w 0) k.control)
-      go false z = line-kept (text_bits there on) (IsTextOn on) (n.texts on) (slot_at (had side w).slots on) (goes side w on) (k.texts on z)
+      go false z = line-kept (text_as_message there on) (IsTextOn on) (n.texts on) (slot_at (had side w).slots on) (goes side w on) (k.texts on z)
 
-  waiting-is : take MAX_WAITING (waiting_of (state_of (host_of side w) (number_of (other side) w))) ≡ (had side w).peer.phase.waiting
+  waiting-is : take MAX_WAITING (waiting_of (state_of (host_of side w) (side_number (other side) w))) ≡ (had side w).peer.phase.waiting
   waiting-is =
       let same : (had side w).peer.phase.waiting ≡ n.host.phase.waiting = ap (λ (p : Peer). p.phase.waiting) k.peer in
       let long = ap (λ (cs : List Command). length cs) same in
-      ap (take MAX_WAITING) (waiting-told (state_of (host_of side w) (number_of (other side) w)))
+      ap (take MAX_WAITING) (waiting-told (state_of (host_of side w) (side_number (other side) w)))
       ∙ take_all MAX_WAITING (had side w).peer.phase.waiting (omega (arith, long, few))
 
   commands-is : commands_from side w ≡ underway (had side w) (goes side w)
   commands-is =
-      ap (λ (o : Option (List Bool)). commands_kept o ++ take MAX_WAITING (waiting_of (state_of (host_of side w) (number_of (other side) w)))) (kept-is 0)
-      ∙ ap (λ (cs : List Command). cs ++ take MAX_WAITING (waiting_of (state_of (host_of side w) (number_of (other side) w)))) (line-read there n.control (slot_at (had side w).slots 0) (goes side w 0) k.number k.control)
+      ap (λ (o : Option (List Bool)). commands_kept o ++ take MAX_WAITING (waiting_of (state_of (host_of side w) (side_number (other side) w)))) (kept-is 0)
+      ∙ ap (λ (cs : List Command). cs ++ take MAX_WAITING (waiting_of (state_of (host_of side w) (side_number (other side) w)))) (line-read there n.control (slot_at (had side w).slots 0) (goes side w 0) k.number k.control)
       ∙ ap (λ (cs : List Command). commands_out (not_come (slot_at (had side w).slots 0) (goes side w 0)) ++ cs) waiting-is
 
 -- The world with the host of a side as this host.
 
 abbrev from : Side → Hosts → World
 from side w = record {
-  here = number_of side w;
-  there = number_of (other side) w;
+  here = side_number side w;
+  there = side_number (other side) w;
   this = had side w;
   that = had (other side) w;
   going = goes side w;
@@ -174,7 +174,7 @@ module _ (side : Side) (w : Hosts) (there back : ℕ) (n m : Node) (k : Stands t
 
   reckoned : (pair : Pair) → ledger_read side pair w ≡ ledger_from pair (from side w)
   reckoned pair =
-      (λ i. if is_send pair.local then ledger_if side w (end-told (state_of (host_of side w) (number_of (other side) w)) pair i) (end-told (state_of (host_of (other side) w) (number_of (other (other side)) w)) (turned pair) i) else None)
+      (λ i. if is_send pair.local then ledger_if side w (end-told (state_of (host_of side w) (side_number (other side) w)) pair i) (end-told (state_of (host_of (other side) w) (side_number (other (other side)) w)) (turned pair) i) else None)
       ∙ go (is_send pair.local) (get (had side w).peer.ends pair) (get (had (other side) w).peer.ends (turned pair))
     where
       ends : (s r : End) (a b : Bool) → ledger_if side w (if a then Some (record_of pair s) else None) (if b then Some (record_of (turned pair) r) else None) ≡ (if a && b then Some (ledger_at side w s r) else None)
@@ -211,8 +211,8 @@ ledger-is ns w t B pair =
 sends-proper : (pair : Pair) → is_send pair.local ≡ true → is_proper pair ≡ true → sends pair ≡ true
 sends-proper pair s p = grind arith
 
-proper-ends : (w : hosts.World) → Reached w → (pair : Pair) → is_proper pair ≡ false → get w.this.ends pair ≡ None
-proper-ends w r pair improper = of-reached (λ (x : hosts.World). get x.this.ends pair ≡ None) (λ (es : List Event). let t = ever es in t.holds.joined.ties.there.proper pair improper) w r
+proper-ends : (w : hosts.TwoNodes) → Reached w → (pair : Pair) → is_proper pair ≡ false → get w.this.ends pair ≡ None
+proper-ends w r pair improper = of-reached (λ (x : hosts.TwoNodes). get x.this.ends pair ≡ None) (λ (es : List NodeEvent). let t = ever es in t.holds.joined.ties.there.proper pair improper) w r
 
 module _ (pair : Pair) (v : World) (p : Both) (o : OfModelWith p v) where
   sends-open : is_send pair.local ≡ true → is_open (sender_at pair v) ≡ true → sends pair ≡ true

@@ -9,7 +9,7 @@ use Rattle.ncp_transcript_two.specs.declared.side.Side.{Side}
 use Rattle.ncp_transcript_two.specs.declared.event.Event.{Event}
 use Rattle.ncp_transcript_two.specs.declared.event.Event.TheVariants as events
 use Rattle.ncp_transcript_two.specs.declared.note.Note.{Note}
-use Rattle.ncp_transcript_two.specs.Between.{Hosts, other, number_of, host_of}
+use Rattle.ncp_transcript_two.specs.Between.{Hosts, other, side_number, host_of}
 use Rattle.ncp_transcript_two.specs.Transcript.{Noted_world, IsTranscript}
 use Rattle.ncp_transcript_two.proofs.Growing.{transcript_grows}
 use Rattle.ncp_proof_settling.specs.Settling.{GoesOnce, GoesOrRestsAt, IsTried}
@@ -33,12 +33,12 @@ vain event before now done tried e = subst (λ (b : Bool). IsTried event b befor
 
 -- A side of which nothing is ready, as it is read then: of `w` before, which is `after`, which is read as `inside`.
 module _ (side o : Side) (w after inside : Noted_world) (tried : IsTried (events.Out side) false w after) (view : inside ≡ after) (t : IsTranscript inside.notes inside.hosts) (oe : o ≡ other side)
-    (peer : ℕ) (p : peer ≡ number_of o inside.hosts) (h : Host) (he : h ≡ host_of side inside.hosts) where
+    (peer : ℕ) (p : peer ≡ side_number o inside.hosts) (h : Host) (he : h ≡ host_of side inside.hosts) where
   at-first : IsTranscript w.notes w.hosts
   at-first = subst (λ (x : Noted_world). IsTranscript x.notes x.hosts) (view ∙ tried.3) t
 
-  is-peer : peer ≡ number_of (other side) after.hosts
-  is-peer = p ∙ ap (λ (s : Side). number_of s inside.hosts) oe ∙ ap (λ (x : Noted_world). number_of (other side) x.hosts) view
+  is-peer : peer ≡ side_number (other side) after.hosts
+  is-peer = p ∙ ap (λ (s : Side). side_number s inside.hosts) oe ∙ ap (λ (x : Noted_world). side_number (other side) x.hosts) view
 
   is-host : h ≡ host_of side after.hosts
   is-host = he ∙ ap (λ (x : Noted_world). host_of side x.hosts) view

@@ -5,7 +5,7 @@ use Rattle.std.proofs.lemmas.List.{take_more, take_all}
 use Rattle.std.proofs.lemmas.Option.{slice_get_within, get_or_from_slice_get}
 use Rattle.ncp_terms.specs.declared.command.Command.{Command}
 use Rattle.ncp_terms.specs.declared.fault.CommandFault.{CommandFault}
-use Rattle.ncp_control.specs.Texts.{commands_of}
+use Rattle.ncp_control.specs.Texts.{commands_among}
 use Rattle.ncp_proof_headline.specs.Headline.{sum_on}
 use Rattle.ncp_host.specs.PeerState.{PeerState}
 use Rattle.ncp_host.specs.Calls.{waiting_at}
@@ -22,17 +22,17 @@ sum_joined link f cs ds a b e k = omega (arith, e, k, sum_append link f cs ds)
 -- the next of some items is a command, or is none
 
 pub sum-next : (link : ℕ) (f : Command → ℕ) (items rest : List (Result Command CommandFault)) (item : Result Command CommandFault) (c : Command) (so_far more all : ℕ)
-    → items ≡ item ∷ rest → item ≡ Ok c → more ≡ sum_on link f (c ∷ []) → so_far + sum_on link f (commands_of items) ≡ all → so_far + more + sum_on link f (commands_of rest) ≡ all
+    → items ≡ item ∷ rest → item ≡ Ok c → more ≡ sum_on link f (c ∷ []) → so_far + sum_on link f (commands_among items) ≡ all → so_far + more + sum_on link f (commands_among rest) ≡ all
 sum-next link f items rest item c so_far more all e is m k =
     let whole : items ≡ Ok c ∷ rest = e ∙ ap (λ (i : Result Command CommandFault). i ∷ rest) is in
-    let front = ap (λ (xs : List (Result Command CommandFault)). sum_on link f (commands_of xs)) whole in
+    let front = ap (λ (xs : List (Result Command CommandFault)). sum_on link f (commands_among xs)) whole in
     omega (arith, front, m, k)
 
 pub sum-past : (link : ℕ) (f : Command → ℕ) (items rest : List (Result Command CommandFault)) (item : Result Command CommandFault) (fault : CommandFault) (so_far all : ℕ)
-    → items ≡ item ∷ rest → item ≡ Err fault → so_far + sum_on link f (commands_of items) ≡ all → so_far + sum_on link f (commands_of rest) ≡ all
+    → items ≡ item ∷ rest → item ≡ Err fault → so_far + sum_on link f (commands_among items) ≡ all → so_far + sum_on link f (commands_among rest) ≡ all
 sum-past link f items rest item fault so_far all e is k =
     let whole : items ≡ Err fault ∷ rest = e ∙ ap (λ (i : Result Command CommandFault). i ∷ rest) is in
-    let front = ap (λ (xs : List (Result Command CommandFault)). sum_on link f (commands_of xs)) whole in
+    let front = ap (λ (xs : List (Result Command CommandFault)). sum_on link f (commands_among xs)) whole in
     omega (arith, front, k)
 
 pub fewer : (items rest : List (Result Command CommandFault)) (item : Result Command CommandFault) → items ≡ item ∷ rest → length items ≡ length rest + 1

@@ -3,18 +3,18 @@
 use Rattle.std.specs.Prelude.{◌≡◌, ◌+◌, List}
 use Rattle.ncp_model.specs.declared.pair.Pair.{Pair}
 use Rattle.ncp_model.specs.Pairs.{turned}
-use Rattle.ncp_proof_runs.specs.Peers.{notes_of}
+use Rattle.ncp_proof_runs.specs.Peers.{notes_of_peer}
 use Rattle.ncp_proof_runs.specs.Marks.{Marks, marks_of}
 use Rattle.ncp_transcript_two.specs.declared.ledger.Amount.{Amount}
 use Rattle.ncp_transcript_two.specs.declared.ledger.Ledger.{Ledger}
 use Rattle.ncp_transcript_two.specs.declared.note.Note.{Note}
 use Rattle.ncp_transcript_two.specs.declared.side.Side.{Side}
-use Rattle.ncp_transcript_two.specs.Between.{Hosts, other, number_of}
+use Rattle.ncp_transcript_two.specs.Between.{Hosts, other, side_number}
 use Rattle.ncp_transcript_two.specs.Sides.{notes_at}
 
 -- what the notes of a side's host say of a pair, in marks and sums
 abbrev pub marks_at : Side → Pair → List Note → Hosts → Marks
-marks_at side pair notes w = marks_of pair (notes_of (number_of (other side) w) (notes_at side notes))
+marks_at side pair notes w = marks_of pair (notes_of_peer (side_number (other side) w) (notes_at side notes))
 
 -- an amount is what was granted less what was returned and used, in messages and in bits
 abbrev pub Remains : Amount → Marks → Type 0

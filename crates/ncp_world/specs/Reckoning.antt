@@ -21,7 +21,7 @@ use Rattle.ncp_world.specs.declared.carrying.Quantity.{Quantity}
 use Rattle.ncp_world.specs.declared.carrying.Quantity.TheVariants.{GrantedMessages, GrantedBits, ReturnedMessages, ReturnedBits}
 use Rattle.ncp_transcript_two.specs.declared.ledger.Ledger.{Ledger}
 use Rattle.ncp_transcript_two.specs.declared.side.Side.{Side}
-use Rattle.ncp_transcript_two.specs.Between.{Hosts, other, number_of, host_of, transit_of}
+use Rattle.ncp_transcript_two.specs.Between.{Hosts, other, side_number, host_of, transit_of}
 use Rattle.ncp_transcript_two.specs.Underway.{how_many, bits_out}
 use Rattle.ncp_transcript_two.specs.Ledgers.{amount}
 
@@ -54,11 +54,11 @@ unless_came true kept = None
 unless_came false kept = kept
 
 abbrev pub kept_from : Side → ℕ → Hosts → Option (List Bool)
-kept_from side link w = unless_came (is_delivered (transit_of side link w)) (kept_for (state_of (host_of side w) (number_of (other side) w)) link)
+kept_from side link w = unless_came (is_delivered (transit_of side link w)) (kept_for (state_of (host_of side w) (side_number (other side) w)) link)
 
 -- the commands that are underway from a side: those of that message, and those that wait
 abbrev pub commands_from : Side → Hosts → List Command
-commands_from side w = commands_kept (kept_from side control_link w) ++ take MAX_WAITING (waiting_of (state_of (host_of side w) (number_of (other side) w)))
+commands_from side w = commands_kept (kept_from side control_link w) ++ take MAX_WAITING (waiting_of (state_of (host_of side w) (side_number (other side) w)))
 
 -- the record of an open end
 
@@ -70,7 +70,7 @@ if_open (Err fault) = None
 if_open (Ok r) = if is_open_record r then Some r else None
 
 abbrev pub open_at : Side → Pair → Hosts → Option Record
-open_at side pair w = if_open (record_told (number_of (other side) w) pair (host_of side w))
+open_at side pair w = if_open (record_told (side_number (other side) w) pair (host_of side w))
 
 -- the ledger of two open ends
 

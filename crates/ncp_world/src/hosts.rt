@@ -1,7 +1,7 @@
 //! `Hosts`: two hosts and the subnet between them.
 ghost use Rattle.std.specs.Prelude.{◌≡◌, ◌≢◌, [], ◌∷◌, IfOk, OnErr};
 ghost use Rattle.ncp_host.specs.Host.{new_host};
-ghost use Rattle.ncp_transcript_two.specs.Between.{new_hosts, other, number_of, host_of, after_note};
+ghost use Rattle.ncp_transcript_two.specs.Between.{new_hosts, other, side_number, host_of, hosts_after_note};
 ghost use Rattle.ncp_transcript_two.specs.Happening.{IsCalled, note_of_out, note_of_delivery, note_of_loss, note_of_death, note_of_answer, Noted};
 
 mod ledgers;
@@ -83,7 +83,7 @@ impl<S: BitStore> Hosts<S> {
 
     /// The number for which a side is a name.
     pub(crate) fn number(&self, side: Side) -> u8
-        ensures { result ≡ number_of side self.now }
+        ensures { result ≡ side_number side self.now }
     {
         match side {
             Side::A => self.number_a,
@@ -99,7 +99,7 @@ impl<S: BitStore> Hosts<S> {
         call: &Call,
     ) -> Result<Note, AllocError>
         ensures note { IfOk result (λ note. IsCalled side call.now note self.old) }
-        ensures hosts { IfOk result (λ note. self.new ≡ after_note note self.old) }
+        ensures hosts { IfOk result (λ note. self.new ≡ hosts_after_note note self.old) }
         ensures err { OnErr result (self.new ≡ self.old) }
     {
         let note = match side {
@@ -112,7 +112,7 @@ impl<S: BitStore> Hosts<S> {
     /// A host is asked for its next message, which the subnet takes.
     pub(crate) fn out(&mut self, alloc: Global, side: Side) -> Result<Note, AllocError>
         ensures note { IfOk result (λ note. note ≡ note_of_out side self.old) }
-        ensures hosts { IfOk result (λ note. self.new ≡ after_note note self.old) }
+        ensures hosts { IfOk result (λ note. self.new ≡ hosts_after_note note self.old) }
         ensures err { OnErr result (self.new ≡ self.old) }
     {
         let from = self.number(side);
@@ -131,7 +131,7 @@ impl<S: BitStore> Hosts<S> {
         link: u8,
     ) -> Result<Note, AllocError>
         ensures note { IfOk result (λ note. note ≡ note_of_delivery side link self.old) }
-        ensures hosts { IfOk result (λ note. self.new ≡ after_note note self.old) }
+        ensures hosts { IfOk result (λ note. self.new ≡ hosts_after_note note self.old) }
         ensures err { OnErr result (self.new ≡ self.old) }
     {
         let from = self.number(side);
@@ -153,7 +153,7 @@ impl<S: BitStore> Hosts<S> {
     /// The subnet loses a message.
     pub(crate) fn lose(&mut self, side: Side, link: u8) -> Note
         ensures note { result ≡ note_of_loss side link self.old }
-        ensures hosts { self.new ≡ after_note result self.old }
+        ensures hosts { self.new ≡ hosts_after_note result self.old }
     {
         let from = self.number(side);
         let to = self.number(other(side));
@@ -171,7 +171,7 @@ impl<S: BitStore> Hosts<S> {
     /// The subnet finds the destination of a message dead.
     pub(crate) fn dead(&mut self, side: Side, link: u8) -> Note
         ensures note { result ≡ note_of_death side link self.old }
-        ensures hosts { self.new ≡ after_note result self.old }
+        ensures hosts { self.new ≡ hosts_after_note result self.old }
     {
         let from = self.number(side);
         let to = self.number(other(side));
@@ -189,7 +189,7 @@ impl<S: BitStore> Hosts<S> {
     /// The subnet answers the sender of a message.
     pub(crate) fn answer(&mut self, alloc: Global, side: Side, link: u8) -> Result<Note, AllocError>
         ensures note { IfOk result (λ note. note ≡ note_of_answer side link self.old) }
-        ensures hosts { IfOk result (λ note. self.new ≡ after_note note self.old) }
+        ensures hosts { IfOk result (λ note. self.new ≡ hosts_after_note note self.old) }
         ensures err { OnErr result (self.new ≡ self.old) }
     {
         let from = self.number(side);
@@ -211,7 +211,7 @@ impl<S: BitStore> Hosts<S> {
     /// What happens, and its note.
     pub(crate) fn happen(&mut self, alloc: Global, event: &Event) -> Result<Note, AllocError>
         ensures note { IfOk result (λ note. Noted event.now note self.old) }
-        ensures hosts { IfOk result (λ note. self.new ≡ after_note note self.old) }
+        ensures hosts { IfOk result (λ note. self.new ≡ hosts_after_note note self.old) }
         ensures err { OnErr result (self.new ≡ self.old) }
     {
         match event {

@@ -1,6 +1,6 @@
 //! `World`.
 ghost use Rattle.std.specs.Prelude.{◌≡◌, ◌≢◌, IfOk, IfSome, OnOk, OnErr};
-ghost use Rattle.ncp_transcript_two.specs.Between.{new_hosts, host_of, after_notes};
+ghost use Rattle.ncp_transcript_two.specs.Between.{new_hosts, host_of, hosts_after_notes};
 ghost use Rattle.ncp_transcript_two.specs.Ledgers.{ledger_of, IsBalanced};
 ghost use Rattle.ncp_transcript_two.specs.Transcript.{new_world, IsStep, AreNotes, IsTranscript};
 ghost use Rattle.ncp_proof_promises.specs.Taking.{EachOutTaken};
@@ -154,7 +154,7 @@ pub fn run<S: BitStore>(
 ) -> Result<World<S>, AllocError>
     requires { a ≢ b }
     ensures notes { IfOk result (λ world. AreNotes events.now world.notes (new_hosts a b)) }
-    ensures hosts { IfOk result (λ world. world.hosts ≡ after_notes world.notes (new_hosts a b)) }
+    ensures hosts { IfOk result (λ world. world.hosts ≡ hosts_after_notes world.notes (new_hosts a b)) }
     ensures headline { IfOk result (λ world. Headline a b world.notes) }
     ensures taken { IfOk result (λ world. EachOutTaken world.notes world.hosts) }
     ensures paid { IfOk result (λ world. MovesArePaidFor world.notes world.hosts) }

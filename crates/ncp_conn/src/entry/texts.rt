@@ -3,7 +3,7 @@ ghost use Rattle.std.specs.Prelude.{◌≡◌, OnErr, true, false, Some, ◌+◌
 ghost use Rattle.ncp_model.specs.Pairs.{sends};
 ghost use Rattle.ncp_model.specs.Act.{answer};
 ghost use Rattle.ncp_model.specs.Calls.{bits_to_take, give_end, take_end};
-ghost use Rattle.ncp_model.specs.Texts.{Rfnm, hear_text, bytes_to_send, may_send, cut, answered};
+ghost use Rattle.ncp_model.specs.Texts.{Rfnm, hear_text, bytes_to_send, may_send, cut, end_answered};
 ghost use Rattle.ncp_conn.specs.Changes.{after, with_end, putting, with_text, marks};
 ghost use Rattle.ncp_conn.specs.Cutting.{sizes, text_of};
 
@@ -159,8 +159,8 @@ impl<S: BitStore> Entry<S> {
     /// The text that went out was taken.
     pub(crate) fn answered(&mut self) -> Option<Command>
         requires { sends self.old.0 ≡ true }
-        ensures answer { result ≡ answer (answered self.old.0 Rfnm (Some self.old.1)) }
-        ensures entry { self.new ≡ after self.old (answered self.old.0 Rfnm (Some self.old.1)) }
+        ensures answer { result ≡ answer (end_answered self.old.0 Rfnm (Some self.old.1)) }
+        ensures entry { self.new ≡ after self.old (end_answered self.old.0 Rfnm (Some self.old.1)) }
         ensures marks { marks self.new ≡ marks self.old }
     {
         self.busy = false;

@@ -6,7 +6,7 @@ ghost use Rattle.ncp_model.specs.End.{or_new};
 ghost use Rattle.ncp_model.specs.Act.{is_room};
 ghost use Rattle.ncp_model.specs.Calls.{asked_to_send, asked_to_receive, end_to_ask};
 ghost use Rattle.ncp_model.specs.Ends.{any, uses_link, free_link, ask_send_in, ask_receive_in, map_with, may_ask_in};
-ghost use Rattle.ncp_conn.specs.Asking.{MayAsk, DoneOrNoMemory};
+ghost use Rattle.ncp_conn.specs.Asking.{MayAsk, ActsOrNoMemory};
 
 mod stores;
 
@@ -83,7 +83,7 @@ impl<S: BitStore> Table<S> {
         room: u32,
         full: bool,
     ) -> Result<Command, CallFault>
-        ensures done { DoneOrNoMemory (record { local = local; remote = remote }) (ask_send_in (record { local = local; remote = remote }) size room full self.old) result self.old self.new }
+        ensures done { ActsOrNoMemory (record { local = local; remote = remote }) (ask_send_in (record { local = local; remote = remote }) size room full self.old) result self.old self.new }
         ensures err { OnErr result (self.new ≡ self.old) }
     {
         let pair = Pair { local, remote };
@@ -146,7 +146,7 @@ impl<S: BitStore> Table<S> {
         room: u32,
         full: bool,
     ) -> Result<Command, CallFault>
-        ensures done { DoneOrNoMemory (record { local = local; remote = remote }) (ask_receive_in (record { local = local; remote = remote }) room full self.old) result self.old self.new }
+        ensures done { ActsOrNoMemory (record { local = local; remote = remote }) (ask_receive_in (record { local = local; remote = remote }) room full self.old) result self.old self.new }
         ensures err { OnErr result (self.new ≡ self.old) }
     {
         let pair = Pair { local, remote };

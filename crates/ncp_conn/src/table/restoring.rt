@@ -4,7 +4,7 @@ ghost use Rattle.std.specs.FinMap.{get, insert};
 ghost use Rattle.ncp_model.specs.End.{or_new};
 ghost use Rattle.ncp_model.specs.Ends.{any, hears_link, uses_link};
 ghost use Rattle.ncp_conn.specs.Stores.{stored_in, room_in};
-ghost use Rattle.ncp_conn.specs.Restoring.{end_told, has_room_for, has_place, may_stand};
+ghost use Rattle.ncp_conn.specs.Restoring.{end_told, has_room_for, has_place_for, may_stand};
 
 use crate::entry::Entry;
 use crate::record::Record;
@@ -74,7 +74,7 @@ impl<S: BitStore> Table<S> {
 
     // Whether there is a place for an entry.
     fn has_place(&self, entry: &Entry<S>) -> bool
-        ensures { result ≡ has_place entry.now.0 entry.now.1 self.now }
+        ensures { result ≡ has_place_for entry.now.0 entry.now.1 self.now }
     {
         self.is_vacant(entry.pair())
             && self.has_room_for(entry)

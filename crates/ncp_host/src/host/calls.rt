@@ -3,7 +3,7 @@
 ghost use Rattle.std.specs.Prelude.{◌≡◌, OnErr};
 ghost use Rattle.ncp_model.specs.Peers.{Close, Give, Take, Allocate, Call_back, Interrupt, Ask_to_send, Ask_to_receive};
 ghost use Rattle.ncp_host.specs.Restarting.{restart_reply, after_restart};
-ghost use Rattle.ncp_host.specs.Calls.{DoneOrNoMemory, sockets, call_reply, after_call, take_reply, reset_reply, after_reset, echo_reply, after_echo, wake_reply, after_wake};
+ghost use Rattle.ncp_host.specs.Calls.{DoneOrNoMemory, sockets, call_reply, after_call_to, take_reply, reset_reply, after_reset, echo_reply, after_echo, wake_reply, after_wake};
 
 use crate::host::{Host, find};
 use ncp_bits::{BitStore, Bits};
@@ -38,7 +38,7 @@ impl<S: BitStore> Host<S> {
         size: u8,
         room: u32,
     ) -> Result<(), CallFault>
-        ensures done { DoneOrNoMemory (call_reply peer (sockets local remote) (Ask_to_send size room) self.old) (after_call peer (sockets local remote) (Ask_to_send size room) self.old) result self.old self.new }
+        ensures done { DoneOrNoMemory (call_reply peer (sockets local remote) (Ask_to_send size room) self.old) (after_call_to peer (sockets local remote) (Ask_to_send size room) self.old) result self.old self.new }
         ensures err { OnErr result (self.new ≡ self.old) }
     {
         let place = find(self.numbers.as_slice(), &self.peers, peer)?;
@@ -58,7 +58,7 @@ impl<S: BitStore> Host<S> {
         remote: u32,
         room: u32,
     ) -> Result<(), CallFault>
-        ensures done { DoneOrNoMemory (call_reply peer (sockets local remote) (Ask_to_receive room) self.old) (after_call peer (sockets local remote) (Ask_to_receive room) self.old) result self.old self.new }
+        ensures done { DoneOrNoMemory (call_reply peer (sockets local remote) (Ask_to_receive room) self.old) (after_call_to peer (sockets local remote) (Ask_to_receive room) self.old) result self.old self.new }
         ensures err { OnErr result (self.new ≡ self.old) }
     {
         let place = find(self.numbers.as_slice(), &self.peers, peer)?;
@@ -71,7 +71,7 @@ impl<S: BitStore> Host<S> {
     /// receiver), `NotWhole` (not a multiple of the byte size), `NoRoom`.
     pub fn give(&mut self, peer: u8, pair: Pair, text: &Bits) -> Result<(), CallFault>
         ensures reply { result ≡ call_reply peer pair (Give text.now) self.old }
-        ensures host { self.new ≡ after_call peer pair (Give text.now) self.old }
+        ensures host { self.new ≡ after_call_to peer pair (Give text.now) self.old }
         ensures err { OnErr result (self.new ≡ self.old) }
     {
         let place = find(self.numbers.as_slice(), &self.peers, peer)?;
@@ -86,7 +86,7 @@ impl<S: BitStore> Host<S> {
     /// opened), `WrongEnd` (a sender).
     pub fn take(&mut self, peer: u8, pair: Pair, bytes: u32) -> Result<Bits, CallFault>
         ensures reply { result ≡ take_reply peer pair bytes self.old }
-        ensures host { self.new ≡ after_call peer pair (Take bytes) self.old }
+        ensures host { self.new ≡ after_call_to peer pair (Take bytes) self.old }
         ensures err { OnErr result (self.new ≡ self.old) }
     {
         let place = find(self.numbers.as_slice(), &self.peers, peer)?;
@@ -106,7 +106,7 @@ impl<S: BitStore> Host<S> {
         bits: u32,
     ) -> Result<(), CallFault>
         ensures reply { result ≡ call_reply peer pair (Allocate messages bits) self.old }
-        ensures host { self.new ≡ after_call peer pair (Allocate messages bits) self.old }
+        ensures host { self.new ≡ after_call_to peer pair (Allocate messages bits) self.old }
         ensures err { OnErr result (self.new ≡ self.old) }
     {
         let place = find(self.numbers.as_slice(), &self.peers, peer)?;
@@ -120,7 +120,7 @@ impl<S: BitStore> Host<S> {
     /// sender), `Busy` (the last one has had no RET), `QueueFull`.
     pub fn call_back(&mut self, peer: u8, pair: Pair, fm: u8, fb: u8) -> Result<(), CallFault>
         ensures reply { result ≡ call_reply peer pair (Call_back fm fb) self.old }
-        ensures host { self.new ≡ after_call peer pair (Call_back fm fb) self.old }
+        ensures host { self.new ≡ after_call_to peer pair (Call_back fm fb) self.old }
         ensures err { OnErr result (self.new ≡ self.old) }
     {
         let place = find(self.numbers.as_slice(), &self.peers, peer)?;
@@ -132,7 +132,7 @@ impl<S: BitStore> Host<S> {
     /// Refused, in this order: `UnknownPeer`, `NotUp`, `NoEntry`, `Closing`, `NotOpen`, `QueueFull`.
     pub fn interrupt(&mut self, peer: u8, pair: Pair) -> Result<(), CallFault>
         ensures reply { result ≡ call_reply peer pair Interrupt self.old }
-        ensures host { self.new ≡ after_call peer pair Interrupt self.old }
+        ensures host { self.new ≡ after_call_to peer pair Interrupt self.old }
         ensures err { OnErr result (self.new ≡ self.old) }
     {
         let place = find(self.numbers.as_slice(), &self.peers, peer)?;
@@ -146,7 +146,7 @@ impl<S: BitStore> Host<S> {
     /// end), `QueueFull` (also where no command would wait).
     pub fn close(&mut self, peer: u8, pair: Pair) -> Result<(), CallFault>
         ensures reply { result ≡ call_reply peer pair Close self.old }
-        ensures host { self.new ≡ after_call peer pair Close self.old }
+        ensures host { self.new ≡ after_call_to peer pair Close self.old }
         ensures err { OnErr result (self.new ≡ self.old) }
     {
         let place = find(self.numbers.as_slice(), &self.peers, peer)?;

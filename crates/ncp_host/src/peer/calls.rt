@@ -6,7 +6,7 @@ ghost use Rattle.ncp_slot.specs.Slots.{slot_at};
 ghost use Rattle.ncp_conn.specs.Records.{record_in};
 ghost use Rattle.ncp_model.specs.Phase.{reset_answer};
 ghost use Rattle.ncp_model.specs.Peers.{comes_of, reply, reply_of_take, reply_of_echo, Close, Give, Take, Allocate, Call_back, Interrupt, Ask_to_send, Ask_to_receive};
-ghost use Rattle.ncp_host.specs.PeerState.{calls, calls_echo, calls_reset, calls_wake};
+ghost use Rattle.ncp_host.specs.PeerState.{state_calls, state_calls_echo, state_calls_reset, state_calls_wake};
 ghost use Rattle.ncp_conn.specs.Listing.{connection_in, room_of, pair_led_to};
 ghost use Rattle.ncp_host.specs.Calls.{DoneOrNoMemory, flags_of, record_answer};
 ghost use Rattle.ncp_host.specs.Listing.{room_answer};
@@ -24,7 +24,7 @@ impl<S: BitStore> Peer<S> {
     /// Resets.
     pub(crate) fn reset(&mut self) -> Result<(), CallFault>
         ensures reply { result ≡ reset_answer self.old.peer.phase }
-        ensures state { self.new ≡ calls_reset self.old }
+        ensures state { self.new ≡ state_calls_reset self.old }
         ensures err { OnErr result (self.new ≡ self.old) }
     {
         let quiet = self.is_quiet();
@@ -33,7 +33,7 @@ impl<S: BitStore> Peer<S> {
 
     /// Asks to send.
     pub(crate) fn ask_send(&mut self, pair: Pair, size: u8, room: u32) -> Result<(), CallFault>
-        ensures done { DoneOrNoMemory (reply (comes_of pair (Ask_to_send size room) self.old.peer)) (calls pair (Ask_to_send size room) self.old) result self.old self.new }
+        ensures done { DoneOrNoMemory (reply (comes_of pair (Ask_to_send size room) self.old.peer)) (state_calls pair (Ask_to_send size room) self.old) result self.old self.new }
         ensures err { OnErr result (self.new ≡ self.old) }
     {
         self.association.ask_send(pair, size, room)
@@ -41,7 +41,7 @@ impl<S: BitStore> Peer<S> {
 
     /// Asks to receive.
     pub(crate) fn ask_receive(&mut self, pair: Pair, room: u32) -> Result<(), CallFault>
-        ensures done { DoneOrNoMemory (reply (comes_of pair (Ask_to_receive room) self.old.peer)) (calls pair (Ask_to_receive room) self.old) result self.old self.new }
+        ensures done { DoneOrNoMemory (reply (comes_of pair (Ask_to_receive room) self.old.peer)) (state_calls pair (Ask_to_receive room) self.old) result self.old self.new }
         ensures err { OnErr result (self.new ≡ self.old) }
     {
         self.association.ask_receive(pair, room)
@@ -50,7 +50,7 @@ impl<S: BitStore> Peer<S> {
     /// Gives text to send.
     pub(crate) fn give(&mut self, pair: Pair, text: &Bits) -> Result<(), CallFault>
         ensures reply { result ≡ reply (comes_of pair (Give text.now) self.old.peer) }
-        ensures state { self.new ≡ calls pair (Give text.now) self.old }
+        ensures state { self.new ≡ state_calls pair (Give text.now) self.old }
         ensures err { OnErr result (self.new ≡ self.old) }
     {
         self.association.give(pair, text)
@@ -59,7 +59,7 @@ impl<S: BitStore> Peer<S> {
     /// Takes held text from its front.
     pub(crate) fn take(&mut self, pair: Pair, bytes: u32) -> Result<Bits, CallFault>
         ensures reply { result ≡ reply_of_take (comes_of pair (Take bytes) self.old.peer) }
-        ensures state { self.new ≡ calls pair (Take bytes) self.old }
+        ensures state { self.new ≡ state_calls pair (Take bytes) self.old }
         ensures err { OnErr result (self.new ≡ self.old) }
     {
         self.association.take(pair, bytes)
@@ -68,7 +68,7 @@ impl<S: BitStore> Peer<S> {
     /// Allows the sender so many messages and bits more.
     pub(crate) fn allocate(&mut self, pair: Pair, messages: u16, bits: u32) -> Result<(), CallFault>
         ensures reply { result ≡ reply (comes_of pair (Allocate messages bits) self.old.peer) }
-        ensures state { self.new ≡ calls pair (Allocate messages bits) self.old }
+        ensures state { self.new ≡ state_calls pair (Allocate messages bits) self.old }
         ensures err { OnErr result (self.new ≡ self.old) }
     {
         self.association.allocate(pair, messages, bits)
@@ -77,7 +77,7 @@ impl<S: BitStore> Peer<S> {
     /// Asks the sender to give back a part of its counters.
     pub(crate) fn call_back(&mut self, pair: Pair, fm: u8, fb: u8) -> Result<(), CallFault>
         ensures reply { result ≡ reply (comes_of pair (Call_back fm fb) self.old.peer) }
-        ensures state { self.new ≡ calls pair (Call_back fm fb) self.old }
+        ensures state { self.new ≡ state_calls pair (Call_back fm fb) self.old }
         ensures err { OnErr result (self.new ≡ self.old) }
     {
         self.association.call_back(pair, fm, fb)
@@ -86,7 +86,7 @@ impl<S: BitStore> Peer<S> {
     /// Interrupts the other side.
     pub(crate) fn interrupt(&mut self, pair: Pair) -> Result<(), CallFault>
         ensures reply { result ≡ reply (comes_of pair Interrupt self.old.peer) }
-        ensures state { self.new ≡ calls pair Interrupt self.old }
+        ensures state { self.new ≡ state_calls pair Interrupt self.old }
         ensures err { OnErr result (self.new ≡ self.old) }
     {
         self.association.interrupt(pair)
@@ -95,7 +95,7 @@ impl<S: BitStore> Peer<S> {
     /// Closes this side of a connection.
     pub(crate) fn close(&mut self, pair: Pair) -> Result<(), CallFault>
         ensures reply { result ≡ reply (comes_of pair Close self.old.peer) }
-        ensures state { self.new ≡ calls pair Close self.old }
+        ensures state { self.new ≡ state_calls pair Close self.old }
         ensures err { OnErr result (self.new ≡ self.old) }
     {
         self.association.close(pair)
@@ -104,7 +104,7 @@ impl<S: BitStore> Peer<S> {
     /// Asks for an echo.
     pub(crate) fn echo(&mut self, byte: u8) -> Result<(), CallFault>
         ensures reply { result ≡ reply_of_echo byte self.old.peer }
-        ensures state { self.new ≡ calls_echo byte self.old }
+        ensures state { self.new ≡ state_calls_echo byte self.old }
         ensures err { OnErr result (self.new ≡ self.old) }
     {
         self.association.echo(byte)
@@ -112,7 +112,7 @@ impl<S: BitStore> Peer<S> {
 
     /// Makes ready what is held for a dead destination.
     pub(crate) fn wake(&mut self)
-        ensures { self.new ≡ calls_wake self.old }
+        ensures { self.new ≡ state_calls_wake self.old }
     {
         self.slots.wake();
         self.again = LinkSet::all();

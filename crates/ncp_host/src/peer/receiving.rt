@@ -7,7 +7,7 @@ ghost use Rattle.ncp_slot.specs.declared.slot.Slot.{Slot};
 ghost use Rattle.ncp_slot.specs.Slots.{slot_at};
 ghost use Rattle.ncp_host.specs.PeerState.{answer_comes, after_answer};
 ghost use Rattle.ncp_host.specs.Restarting.{gives_up, restarts};
-ghost use Rattle.ncp_host.specs.Hearing.{control_after, control_received, text_after, text_received, message_after, message_received, answer_of, answer_received, after_bits, received_of};
+ghost use Rattle.ncp_host.specs.Hearing.{state_after_control, control_received, state_after_text, text_received, message_after, message_received, answer_of, answer_received, after_bits, received_of};
 
 use crate::counts::one_more;
 use crate::peer::{CONTROL_LINK, CONTROL_SIZE, Peer};
@@ -73,7 +73,7 @@ impl<S: BitStore> Peer<S> {
     // A message on the control link.
     fn hear_control(&mut self, message: &Regular<'_>) -> Received
         ensures received { result ≡ control_received message.now }
-        ensures state { self.new ≡ control_after message.now self.old }
+        ensures state { self.new ≡ state_after_control message.now self.old }
     {
         if message.size() != CONTROL_SIZE {
             self.counts.wrong_size = one_more(self.counts.wrong_size);
@@ -90,7 +90,7 @@ impl<S: BitStore> Peer<S> {
     fn hear_text(&mut self, link: u8, head: Part<'_>, message: &Regular<'_>) -> Received
         requires { length head ≡ FRONT_BITS }
         ensures received { result ≡ text_received link message.now self.old }
-        ensures state { self.new ≡ text_after link head.entry message.now self.old }
+        ensures state { self.new ≡ state_after_text link head.entry message.now self.old }
     {
         if !self.association.is_up() {
             self.counts.not_up = one_more(self.counts.not_up);

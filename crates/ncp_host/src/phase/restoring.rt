@@ -1,7 +1,7 @@
 //! A phase that is read.
 ghost use Rattle.std.specs.Prelude.{◌≡◌};
 ghost use Rattle.std.specs.List.{list_all};
-ghost use Rattle.ncp_host.specs.Soundness.{is_short};
+ghost use Rattle.ncp_host.specs.Soundness.{has_short_data};
 
 use crate::flags::Flags;
 use crate::phase::Phase;
@@ -52,7 +52,7 @@ impl Phase {
 
     /// Whether each command that waits has room in a control message.
     pub(crate) fn is_short(&self) -> bool
-        ensures { result ≡ list_all is_short self.now.waiting }
+        ensures { result ≡ list_all has_short_data self.now.waiting }
     {
         self.waiting.is_short()
     }

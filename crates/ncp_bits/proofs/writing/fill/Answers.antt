@@ -2,7 +2,7 @@ use Rattle.std.proofs.Common.{◌≡◌, ◌<◌, ◌+◌, ◌*◌, ◌^◌, ℕ
 use Rattle.std.proofs.lemmas.List.{get_or-take}
 use Rattle.ncp_numbers.specs.Numbers.{number_of}
 use Rattle.ncp_numbers.specs.Bytes.{byte_bits}
-use Rattle.ncp_bits.specs.Packed.{run}
+use Rattle.ncp_bits.specs.Packed.{bit_run}
 use Rattle.ncp_numbers.proofs.Fields.{number_of-fitting}
 use Rattle.ncp_bits.proofs.Runs.{run_of_byte}
 use Rattle.ncp_bits.proofs.writing.fill.Goals as goal
@@ -17,4 +17,4 @@ returns c = λ k h.
     ∙ get_or-take (length c.args.out.now) c.args.bytes.now k 0 inside
     ∙ sym (number_of-fitting 8 (get_or c.args.bytes.now k 0) small)
     ∙ ap number_of (sym (run_of_byte c.args.bytes.now k (omega arith)))
-    ∙ ap (λ (n : ℕ). number_of (run c.args.bytes.now n 8)) (sym place)
+    ∙ ap (λ (n : ℕ). number_of (bit_run c.args.bytes.now n 8)) (sym place)

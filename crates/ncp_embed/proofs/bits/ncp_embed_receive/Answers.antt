@@ -3,7 +3,7 @@ use Rattle.ncp_leader.specs.Leader.{leader_in}
 use Rattle.ncp_host.specs.Arrivals.{received_in}
 use Rattle.ncp_embed.specs.declared.handle.held.Held.{Held}
 use Rattle.ncp_embed.specs.Told.{arrived_of}
-use Rattle.ncp_embed.specs.Exports.{arrived_in, after_bits, pair_named}
+use Rattle.ncp_embed.specs.Exports.{arrived_in, after_bits_read, pair_named}
 use Rattle.ncp_embed.proofs.Calling.{found}
 use Rattle.ncp_embed.proofs.bits.ncp_embed_receive.Goals as goal
 
@@ -17,5 +17,5 @@ returns-clause-arrived c =
     let pair = c.pair_named-pair.ensures ∙ of_leader ∙ of_host ∙ ap (pair_named leader) c.receive-received.ensures.host in
     let led = ap (λ p. arrived_of p leader c.in-Ok.came (received_in c.in-Ok.came c.deref_mut.result.now.host)) pair in
     let there = ap (λ at. arrived_in c.in-Ok.came at c.args.arrived.now) (found c.take.result c.in-Some.held c.deref_mut.result.now c.args.handle.now.host c.in-Some.is c.take.ensures.held c.deref_mut.ensures.value) in
-    let came = ap (λ came. after_bits came (λ bits. arrived_in bits c.args.handle.now.host c.args.arrived.now) c.args.arrived.now) (sym c.in-Ok.is ∙ c.from_bytes.ensures.read) in
+    let came = ap (λ came. after_bits_read came (λ bits. arrived_in bits c.args.handle.now.host c.args.arrived.now) c.args.arrived.now) (sym c.in-Ok.is ∙ c.from_bytes.ensures.read) in
     c.arrived_of.ensures ∙ named ∙ became ∙ led ∙ there ∙ came

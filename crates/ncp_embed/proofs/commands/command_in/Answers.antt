@@ -4,12 +4,12 @@ use Rattle.ncp_leader.specs.declared.fault.MessageFault.{MessageFault}
 use Rattle.ncp_leader.specs.Message.{Message}
 use Rattle.ncp_terms.specs.declared.command.Command.{Command}
 use Rattle.ncp_control.specs.Reading.{commands_in}
-use Rattle.ncp_embed.specs.Commands.{text_of, is_control}
+use Rattle.ncp_embed.specs.Commands.{control_bytes, is_control_message}
 use Rattle.ncp_embed.proofs.ControlTexts.{nothing, other, in_text}
 use Rattle.ncp_embed.proofs.commands.command_in.Goals as goal
 
 abbrev found_in : ℕ → Result Message MessageFault → Option Command
-found_in place message = slice_get (commands_in (text_of message)) place
+found_in place message = slice_get (commands_in (control_bytes message)) place
 
 pub returns-in_default : goal.returns-in_default
 returns-in_default c = nothing c.args.place ∙ ap (found_in c.args.place) (sym c.in_default.is ∙ c.read_regular.ensures.exact)
@@ -20,7 +20,7 @@ returns-then-not-is_control c =
 
 pub returns : goal.returns
 returns c =
-    let control : true ≡ is_control c.in-Ok.message = sym c.if-not-is_control.false ∙ c.is_control.ensures in
+    let control : true ≡ is_control_message c.in-Ok.message = sym c.if-not-is_control.false ∙ c.is_control.ensures in
     let text = ap (λ text. slice_get (commands_in (bytes_of text)) c.args.place) c.text.ensures.text in
     let is = ap (λ (control : Bool). slice_get (commands_in (if control then bytes_of c.in-Ok.message.text else [])) c.args.place) control in
     c.command_at.ensures ∙ in_text (bytes_of c.text.result) c.args.place ∙ text ∙ is ∙ ap (found_in c.args.place) (sym c.in-Ok.is ∙ c.read_regular.ensures.exact)

@@ -4,12 +4,12 @@ use Rattle.ncp_leader.specs.declared.fault.MessageFault.{MessageFault}
 use Rattle.ncp_leader.specs.Message.{Message}
 use Rattle.ncp_control.specs.Reading.{commands_in}
 use Rattle.ncp_embed.specs.declared.commands.Tally.{Tally}
-use Rattle.ncp_embed.specs.Commands.{text_of, is_control, no_tally, tally_from}
+use Rattle.ncp_embed.specs.Commands.{control_bytes, is_control_message, no_tally, command_tally_from}
 use Rattle.ncp_embed.proofs.ControlTexts.{no_tally_of_nothing, no_tally_of_other}
 use Rattle.ncp_embed.proofs.commands.tally_in.Goals as goal
 
 abbrev among : Result Message MessageFault → Tally
-among message = tally_from no_tally (commands_in (text_of message))
+among message = command_tally_from no_tally (commands_in (control_bytes message))
 
 pub returns-in_default : goal.returns-in_default
 returns-in_default c = c.no_tally.ensures ∙ no_tally_of_nothing ∙ ap among (sym c.in_default.is ∙ c.read_regular.ensures.exact)
@@ -20,7 +20,7 @@ returns-then-not-is_control c =
 
 pub returns : goal.returns
 returns c =
-    let control : true ≡ is_control c.in-Ok.message = sym c.if-not-is_control.false ∙ c.is_control.ensures in
-    let text = ap (λ text. tally_from no_tally (commands_in (bytes_of text))) c.text.ensures.text in
-    let is = ap (λ (control : Bool). tally_from no_tally (commands_in (if control then bytes_of c.in-Ok.message.text else []))) control in
+    let control : true ≡ is_control_message c.in-Ok.message = sym c.if-not-is_control.false ∙ c.is_control.ensures in
+    let text = ap (λ text. command_tally_from no_tally (commands_in (bytes_of text))) c.text.ensures.text in
+    let is = ap (λ (control : Bool). command_tally_from no_tally (commands_in (if control then bytes_of c.in-Ok.message.text else []))) control in
     c.tally_at.ensures ∙ text ∙ is ∙ ap among (sym c.in-Ok.is ∙ c.read_regular.ensures.exact)

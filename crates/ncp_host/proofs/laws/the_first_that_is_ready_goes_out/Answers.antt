@@ -3,13 +3,13 @@ use Rattle.ncp_slot.specs.declared.slot.Slot.TheVariants.{Ready}
 use Rattle.ncp_slot.specs.Slots.{HasSlot, LinkSlot, slot_at}
 use Rattle.ncp_host.specs.PeerState.{PeerState}
 use Rattle.ncp_host.specs.Output.{output_by, output_on}
-use Rattle.ncp_host.specs.Readiness.{is_ready_by, is_ready, IsMessageTo}
+use Rattle.ncp_host.specs.Readiness.{is_ready_by, is_link_ready, IsMessageTo}
 use Rattle.ncp_host.proofs.laws.the_first_that_is_ready_goes_out.Goals as goal
 
 zero_has : HasSlot 0
 zero_has = (λ z. absurd (cc z), omega arith)
 
-ready_there : (s : PeerState) (again : List Bool) → slot_at s.slots 0 ≡ Ready again → is_ready 0 s ≡ true
+ready_there : (s : PeerState) (again : List Bool) → slot_at s.slots 0 ≡ Ready again → is_link_ready 0 s ≡ true
 ready_there s again e = ap (λ (slot : LinkSlot). is_ready_by slot 0 s.peer) e
 
 said_there : (number : ℕ) (s : PeerState) (again : List Bool) → slot_at s.slots 0 ≡ Ready again → output_on number 0 s ≡ Some again

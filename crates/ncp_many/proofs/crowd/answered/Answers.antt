@@ -2,13 +2,13 @@ use Rattle.std.proofs.Common.{◌≡◌, IfOk, subst}
 use Rattle.ncp_subnet.specs.Messages.{answer_about}
 use Rattle.ncp_subnet.specs.Subnet.{transit_at}
 use Rattle.ncp_host.specs.Host.{Host}
-use Rattle.ncp_step.specs.Told.{told}
+use Rattle.ncp_step.specs.Told.{note_if_any}
 use Rattle.ncp_many.proofs.Members.{host-there, told-there, kept-there}
 use Rattle.ncp_many.proofs.crowd.answered.Goals as goal
 
 pub returns-clause-note : goal.returns-clause-note
 returns-clause-note g c =
-    subst (λ (h : Host). IfOk c.answers.result (λ note. note ≡ told (answer_about c.args.to c.args.link (transit_at c.args.subnet.now c.args.from c.args.to c.args.link)) h))
+    subst (λ (h : Host). IfOk c.answers.result (λ note. note ≡ note_if_any (answer_about c.args.to c.args.link (transit_at c.args.subnet.now c.args.from c.args.to c.args.link)) h))
     (host-there c.args.members.now c.args.from c.place_of-place.result c.index-members-place.result (c.member.inside.number, c.member.inside.host) c.place_of-place.ensures.place c.place_of-place.ensures.inside c.member.view_is)
     c.answers.ensures.note
 

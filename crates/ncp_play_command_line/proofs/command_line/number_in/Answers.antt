@@ -4,17 +4,17 @@ use Rattle.std.specs.Option.{option_map_or}
 use Rattle.std.specs.Str.Parse.{ParsesUnsigned, ExplainsUnsignedError, HasUnsignedDigitsIfOk}
 use Rattle.clap.specs.Matches.{found_of, one_text}
 use Rattle.clap.specs.Walk.{Text, byte_or_zero, rows_of}
-use Rattle.ncp_play_command_line.specs.CommandLine.{number_in}
+use Rattle.ncp_play_command_line.specs.CommandLine.{number_given}
 use Rattle.ncp_play_command_line.proofs.Numbers.{byte_of_read, same_text_read}
 use Rattle.ncp_play_command_line.proofs.command_line.number_in.Goals as goal
 
 pub returns : goal.returns
 returns c = go (one_text (found_of c.args.given.now) (codes "at")) refl
   where
-    read : number_in (rows_of (found_of c.args.given.now)) ≡ option_map_or byte_or_zero (one_text (found_of c.args.given.now) (codes "at")) 0
+    read : number_given (rows_of (found_of c.args.given.now)) ≡ option_map_or byte_or_zero (one_text (found_of c.args.given.now) (codes "at")) 0
     read = ap (λ text. option_map_or byte_or_zero text 0) (same_text_read (found_of c.args.given.now) (codes "at"))
 
-    go : (text : Option Text) → one_text (found_of c.args.given.now) (codes "at") ≡ text → c.unwrap_or.result ≡ number_in (rows_of (found_of c.args.given.now))
+    go : (text : Option Text) → one_text (found_of c.args.given.now) (codes "at") ≡ text → c.unwrap_or.result ≡ number_given (rows_of (found_of c.args.given.now))
     go None e = c.unwrap_or.ensures ∙ ap (λ (r : Option ℕ). unwrap_or r 0) (c.get_one.ensures.none e) ∙ sym (read ∙ ap (λ text. option_map_or byte_or_zero text 0) e)
     go (Some t) e =
         c.unwrap_or.ensures

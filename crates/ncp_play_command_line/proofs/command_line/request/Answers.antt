@@ -3,7 +3,7 @@ use Rattle.clap.specs.Faults.{fault_of, is_simple_and_free}
 use Rattle.clap.specs.Kinds.{HasKind}
 use Rattle.clap.specs.Simple.{app_of, is_simple, subcommand_of}
 use Rattle.clap.proofs.FaultLemmas.{failed_up}
-use Rattle.ncp_play_command_line.specs.CommandLine.{order_of, program, word_of}
+use Rattle.ncp_play_command_line.specs.CommandLine.{order_of, program, word_given}
 use Rattle.ncp_play_command_line.proofs.command_line.request.Goals as goal
 
 pub returns-clause-named : goal.returns-clause-named
@@ -16,7 +16,7 @@ pub returns-clause-word : goal.returns-clause-word
 returns-clause-word g c =
     let app : app_of c.in_ok-program.program ≡ program = c.in_ok-program.ensures in
     let simple : is_simple (app_of c.in_ok-program.program) ≡ true = ap is_simple app in
-    c.request_of.ensures.word ∙ ap word_of ((c.in_ok-matches.ensures.matches simple).1 ∙ ap (λ a. subcommand_of a (map g.S.AsStr.text c.args.words.now)) app)
+    c.request_of.ensures.word ∙ ap word_given ((c.in_ok-matches.ensures.matches simple).1 ∙ ap (λ a. subcommand_of a (map g.S.AsStr.text c.args.words.now)) app)
 
 pub returns-clause-kinds : goal.returns-clause-kinds
 returns-clause-kinds g c =

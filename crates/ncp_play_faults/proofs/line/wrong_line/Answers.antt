@@ -4,13 +4,13 @@ use Rattle.std.specs.String.{string_bytes}
 use Rattle.std.proofs.lemmas.Str.{IsUtf8-from_ascii}
 use Rattle.ncp_play_faults.specs.declared.usage.Player.TheVariants.{Host}
 use Rattle.ncp_play_faults.specs.Telling.{first_word, TellsNoVerb}
-use Rattle.ncp_play_faults.specs.Verbs.{all_verbs}
+use Rattle.ncp_play_faults.specs.Verbs.{all_verb_words}
 use Rattle.ncp_play_faults.proofs.Spelled.{signs_are_ascii}
 use Rattle.ncp_play_faults.proofs.line.wrong_line.Goals as goal
 
 pub returns-in-Ok-clause-verb : goal.returns-in-Ok-clause-verb
 returns-in-Ok-clause-verb c = λ host _ other.
-    subst (λ line. c.args.player ≡ Host → ¬ (Contains all_verbs (first_word line)) → IfOk c.wrong_words.result (λ told. TellsNoVerb (first_word line) (string_bytes told)))
+    subst (λ line. c.args.player ≡ Host → ¬ (Contains all_verb_words (first_word line)) → IfOk c.wrong_words.result (λ told. TellsNoVerb (first_word line) (string_bytes told)))
     c.in-Ok.ensures.cases.0 c.wrong_words.ensures host other
 
 pub returns-in-Err-clause-verb : goal.returns-in-Err-clause-verb

@@ -1,6 +1,6 @@
 use Rattle.std.proofs.Common.{◌∙◌, ◌||◌, inl, [], refl, ap, arith}
 use Rattle.std.proofs.Math.Bool.{or-false}
-use Rattle.ncp_play_notes.specs.Faults.{is_write_failed}
+use Rattle.ncp_play_notes.specs.Faults.{play_write_failed}
 use Rattle.ncp_play_feed.proofs.Reading.{feed_some}
 use Rattle.ncp_play_feed.proofs.feeding.feed.Goals as goal
 
@@ -27,4 +27,4 @@ returns-in-Err-clause-sink_mark g c = rw c.in-Err.ensures.told.0 at c.in-Err.ens
 
 pub returns-in-Ok-clause-sink_mark : goal.returns-in-Ok-clause-sink_mark
 returns-in-Ok-clause-sink_mark g c =
-    c.feed_file.ensures.sink_mark ∙ ap (λ b. b || is_write_failed c.feed_file.result) (c.in-Ok.ensures.mark ∙ or-false _)
+    c.feed_file.ensures.sink_mark ∙ ap (λ b. b || play_write_failed c.feed_file.result) (c.in-Ok.ensures.mark ∙ or-false _)

@@ -2,7 +2,7 @@ use Rattle.std.proofs.Common.{◌∙◌, ◌||◌, List, Option, ℕ, [], refl, 
 use Rattle.std.proofs.Math.Bool.{or-false}
 use Rattle.ncp_play_files.specs.Waiting.{lacks_message}
 use Rattle.ncp_play_files.proofs.Contents.{holds_some}
-use Rattle.ncp_play_notes.specs.Faults.{is_write_failed}
+use Rattle.ncp_play_notes.specs.Faults.{play_write_failed}
 use Rattle.ncp_play_feed.specs.Steps.{HearsOn}
 use Rattle.ncp_play_feed.proofs.Arrivals.{hears_on, paid_on}
 use Rattle.ncp_play_feed.proofs.hearing.hear_on.Goals as goal
@@ -20,7 +20,7 @@ pub returns-in-Ok-clause-source_mark : goal.returns-in-Ok-clause-source_mark
 returns-in-Ok-clause-source_mark g c = c.stop_at_fault.ensures.mark ∙ c.hear_next-heard.ensures.source_mark
 
 pub returns-in-Ok-clause-sink_mark : goal.returns-in-Ok-clause-sink_mark
-returns-in-Ok-clause-sink_mark g c = c.hear_next-heard.ensures.sink_mark ∙ ap (λ b. b || is_write_failed c.hear_next-heard.result) (c.in-Ok.ensures.mark ∙ or-false _)
+returns-in-Ok-clause-sink_mark g c = c.hear_next-heard.ensures.sink_mark ∙ ap (λ b. b || play_write_failed c.hear_next-heard.result) (c.in-Ok.ensures.mark ∙ or-false _)
 
 pub returns-in-Ok-clause-reads : goal.returns-in-Ok-clause-reads
 returns-in-Ok-clause-reads g c = rw (c.stop_at_fault.ensures.left, c.stop_at_fault.ensures.reads) c.hear_next-heard.ensures.reads

@@ -1,7 +1,7 @@
 use Rattle.std.proofs.Common.{◌∙◌, Bool, ap}
 use Rattle.std.proofs.lemmas.Result.{err_from_is_err_and}
 use Rattle.ncp_play_notes.proofs.OneInput.{last_note}
-use Rattle.ncp_play_feed.specs.Steps.{is_out}
+use Rattle.ncp_play_feed.specs.Steps.{is_output_note}
 use Rattle.ncp_play_feed.proofs.Arrivals.{told_as}
 use Rattle.ncp_play_feed.proofs.Departures.{as_noted, next_breaks, link_fewer}
 use Rattle.ncp_play_feed.proofs.sending.send_next.Goals as goal
@@ -23,7 +23,7 @@ returns-clause-events g c =
     let before = c.args.alone.now in
     let step = c.in_ok-play_input.ensures.events in
     let same = last_note c.transcript-notes.result.now before.notes step.0 c.index-notes-notes.result (c.transcript-notes.ensures.notes ∙ step.2) c.index-notes-notes.is in
-    as_noted before c.play_input.new.alone step c.is_out.result (c.is_out.ensures ∙ ap is_out same)
+    as_noted before c.play_input.new.alone step c.is_out.result (c.is_out.ensures ∙ ap is_output_note same)
 
 pub returns-clause-told : goal.returns-clause-told
 returns-clause-told g c = λ was first told. c.in_ok-play_input.ensures.told was first told
@@ -33,4 +33,4 @@ returns-clause-fewer g c =
     let before = c.args.alone.now in
     let step = c.in_ok-play_input.ensures.events in
     let same = last_note c.transcript-notes.result.now before.notes step.0 c.index-notes-notes.result (c.transcript-notes.ensures.notes ∙ step.2) c.index-notes-notes.is in
-    λ went. link_fewer before c.play_input.new.alone step c.is_out.result (c.is_out.ensures ∙ ap is_out same) went
+    λ went. link_fewer before c.play_input.new.alone step c.is_out.result (c.is_out.ensures ∙ ap is_output_note same) went

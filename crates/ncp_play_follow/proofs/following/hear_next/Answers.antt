@@ -1,7 +1,7 @@
 use Rattle.std.proofs.Common.{◌∙◌, refl, is_some, ap}
 use Rattle.std.proofs.lemmas.Result.{err_from_is_err_and}
 use Rattle.ncp_play_files.specs.Versions.{Recorded}
-use Rattle.ncp_follow.specs.Followed.{after_record}
+use Rattle.ncp_follow.specs.Followed.{follower_after_record}
 use Rattle.ncp_play_follow.specs.FollowedFiles.{is_sent}
 use Rattle.ncp_play_follow.proofs.following.hear_next.Goals as goal
 
@@ -21,8 +21,8 @@ returns-clause-told g c = λ bytes a.
       read.0,
       read.1,
       read.2,
-      c.hear.ensures ∙ ap (λ s. after_record c.args.number s c.host_of.result c.read_next.new.message c.args.follower.now) c.is_sent.ensures
-          ∙ ap (λ n. after_record c.args.number (is_sent c.in-Some.passage.direction) n c.read_next.new.message c.args.follower.now) c.host_of.ensures,
+      c.hear.ensures ∙ ap (λ s. follower_after_record c.args.number s c.host_of.result c.read_next.new.message c.args.follower.now) c.is_sent.ensures
+          ∙ ap (λ n. follower_after_record c.args.number (is_sent c.in-Some.passage.direction) n c.read_next.new.message c.args.follower.now) c.host_of.ensures,
     )
 
 pub returns-clause-taken : goal.returns-clause-taken

@@ -1,10 +1,10 @@
 use Rattle.std.proofs.Common.{◌∙◌, List, Option, ℕ, sym, subst}
-use Rattle.ncp_play_follow.specs.FollowSteps.{HearsNext}
+use Rattle.ncp_play_follow.specs.FollowSteps.{FollowsNext}
 use Rattle.ncp_play_follow.proofs.following.hear_on.Goals as goal
 
 pub returns-clause-told : goal.returns-clause-told
 returns-clause-told g c = λ bytes a.
-    subst (λ (left : Option (List ℕ)). HearsNext c.args.follower.now c.args.number bytes c.hear_next-heard.result c.hear_next-heard.new.follower c.hear_next-heard.new.input.window.now left) (sym c.stop_at_fault.ensures.left)
+    subst (λ (left : Option (List ℕ)). FollowsNext c.args.follower.now c.args.number bytes c.hear_next-heard.result c.hear_next-heard.new.follower c.hear_next-heard.new.input.window.now left) (sym c.stop_at_fault.ensures.left)
     (c.hear_next-heard.ensures.told bytes a)
 
 pub returns-clause-mark : goal.returns-clause-mark

@@ -3,7 +3,7 @@ use Rattle.std.proofs.Math.Bool.{or-false}
 use Rattle.std.proofs.lemmas.Result.{err_from_is_err_and}
 use Rattle.ncp_follow.specs.declared.follower.Follower.{Follower}
 use Rattle.ncp_play_page.specs.Lines.{number_after}
-use Rattle.ncp_play_follow.specs.FollowSteps.{HearsFrom}
+use Rattle.ncp_play_follow.specs.FollowSteps.{FollowsFrom}
 use Rattle.ncp_play_follow.proofs.HeardFiles.{hears_end, hears_fault, hears_more}
 use Rattle.ncp_play_follow.proofs.following.hear_records.Goals as goal
 
@@ -28,8 +28,8 @@ loop-number-preserved g c =
             λ r after left h.
                 before.2 r after left
                 (hears_more c.loop-number.follower c.loop-number.number before.0 after left one.0 one.1 r one.2
-                (subst (λ (f : Follower). HearsFrom f (number_after c.loop-number.number) one.1 r after left) one.4
-                (subst (λ (n : ℕ). HearsFrom c.hear_on.new.follower n one.1 r after left) c.saturating_add-number.ensures h))),
+                (subst (λ (f : Follower). FollowsFrom f (number_after c.loop-number.number) one.1 r after left) one.4
+                (subst (λ (n : ℕ). FollowsFrom c.hear_on.new.follower n one.1 r after left) c.saturating_add-number.ensures h))),
           );
       reads = let taken = c.in_ok-hear_on.ensures.taken c.if-branch.true in omega (arith, taken, c.loop-number.invariant.reads);
       mark = c.in_ok-hear_on.ensures.mark ∙ or-false _ ∙ c.loop-number.invariant.mark;

@@ -2,7 +2,7 @@ use Rattle.std.proofs.Common.{◌≡◌, ◌≤◌, ℕ, List, Option, Result}
 use Rattle.ncp_play_files.specs.declared.file.FileFault.{FileFault}
 use Rattle.ncp_play_page.specs.Inlets.{SameInlet, read_failed, slack, work, Brings}
 use Rattle.ncp_follow.specs.declared.follower.Follower.{Follower}
-use Rattle.ncp_play_follow.specs.FollowSteps.{HearsFrom}
+use Rattle.ncp_play_follow.specs.FollowSteps.{FollowsFrom}
 use Rattle.ncp_play_follow.proofs.following.hear_records.Given as goal
 
 abbrev pub invariant-loop-number : goal.invariant-loop-number
@@ -11,7 +11,7 @@ invariant-loop-number g l =
     record {
       told : (bytes : List ℕ) → Brings s l.initial.input bytes
           → (now : List ℕ) × Brings s l.input now
-          × ((r : Result Unit FileFault) (after : Follower) (left : Option (List ℕ)) → HearsFrom l.follower l.number now r after left → HearsFrom l.initial.follower 1 bytes r after left);
+          × ((r : Result Unit FileFault) (after : Follower) (left : Option (List ℕ)) → FollowsFrom l.follower l.number now r after left → FollowsFrom l.initial.follower 1 bytes r after left);
       reads : slack s l.initial.input ≤ slack s l.input;
       mark : read_failed s l.input ≡ read_failed s l.initial.input;
       same_inlet : SameInlet l.initial.input l.input;

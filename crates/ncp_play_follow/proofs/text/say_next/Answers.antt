@@ -5,7 +5,7 @@ use Rattle.std.specs.Borrow.{Bor}
 use Rattle.std.specs.Prelude.{option_map}
 use Rattle.ncp_follow.specs.declared.connection.Connection.{Connection}
 use Rattle.ncp_follow.specs.declared.follower.Follower.{Follower}
-use Rattle.ncp_follow.specs.Connections.{place_of, numbered, text_in}
+use Rattle.ncp_follow.specs.Connections.{place_numbered, numbered, connection_text}
 use Rattle.ncp_play_follow.specs.FollowedFiles.{after_seen}
 use Rattle.ncp_play_follow.specs.FollowedTexts.{heard_alone, said_by}
 use Rattle.ncp_play_follow.proofs.SaidTexts.{bits_same, from_fault, from_lost}
@@ -34,10 +34,10 @@ returns-in-Ok-clause-told g c = λ bytes was bits a k.
     let wanted = c.args.text.now.wanted in let number = c.args.number in
     let heard = rw c.if-not-more.false at (c.in_ok-more.ensures.told bytes a) in
     let seen = heard.0 in
-    let text = text_in (option_map (λ (one : Bor Connection). one.now) c.connection.result) in
+    let text = connection_text (option_map (λ (one : Bor Connection). one.now) c.connection.result) in
     let after : c.hear_on.new.follower ≡ heard_alone wanted c.args.follower.now number seen = heard.4 ∙ ap (λ (f : Follower). after_seen f number seen) c.forget_text.ensures in
     let said : text ≡ said_by wanted c.args.follower.now number seen =
-    ap text_in c.connection.ensures ∙ ap (λ (f : Follower). text_in (numbered f.tables.told (place_of wanted))) after in (
+    ap connection_text c.connection.ensures ∙ ap (λ (f : Follower). connection_text (numbered f.tables.told (place_numbered wanted))) after in (
       text,
       (seen, heard.1, heard.2, heard.3, after, said),
       (c.say_text.new.out.page.now, λ n. refl, c.in-Ok.ensures.said was bits k),

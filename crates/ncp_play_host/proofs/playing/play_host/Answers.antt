@@ -1,7 +1,7 @@
 use Rattle.std.proofs.Common.{◌≡◌, ◌∙◌, ◌||◌, [], Some, true, false, sym, ap, rules}
 use Rattle.std.proofs.lemmas.List.{append-nil}
 use Rattle.ncp_play_stream.specs.Streams.{SaidSoFar}
-use Rattle.ncp_play_notes.specs.Faults.{is_write_failed}
+use Rattle.ncp_play_notes.specs.Faults.{play_write_failed}
 use Rattle.ncp_play_host.proofs.Whole.{played_failed, played_whole, played_broken}
 use Rattle.ncp_play_host.proofs.playing.play_host.Goals as goal
 
@@ -11,8 +11,8 @@ returns-then-failed-clause-told g c =
     rw (← same_sink) (
     λ bytes was e f.
     let played = c.play_script-played.result in
-    let mark = c.play_script-played.ensures.sink_mark ∙ ap (λ b. b || is_write_failed played) c.requires.sink_clean in
-    let blamed : is_write_failed played ≡ true = sym mark ∙ sym c.failed.ensures ∙ c.if-failed.true in
+    let mark = c.play_script-played.ensures.sink_mark ∙ ap (λ b. b || play_write_failed played) c.requires.sink_clean in
+    let blamed : play_write_failed played ≡ true = sym mark ∙ sym c.failed.ensures ∙ c.if-failed.true in
     let said : SaidSoFar was c.new-page.result (g.W.Sink.written c.args.sink.now) [] = ([], f ∙ ap Some (sym (append-nil was)), c.new-page.ensures) in
     played_failed bytes was played (g.R.Source.left c.play_script-played.new.source) c.play_script-played.new.out.page.now (g.W.Sink.written c.play_script-played.new.out.sink.now) (c.play_script-played.ensures.told bytes was e said) blamed)
 
@@ -22,8 +22,8 @@ returns-in-Ok-clause-told g c =
     rw (← same_sink) (
     λ bytes was e f.
     let played = c.play_script-played.result in
-    let mark = c.play_script-played.ensures.sink_mark ∙ ap (λ b. b || is_write_failed played) c.requires.sink_clean in
-    let blamed : is_write_failed played ≡ false = sym mark ∙ sym c.failed.ensures ∙ c.if-failed.false in
+    let mark = c.play_script-played.ensures.sink_mark ∙ ap (λ b. b || play_write_failed played) c.requires.sink_clean in
+    let blamed : play_write_failed played ≡ false = sym mark ∙ sym c.failed.ensures ∙ c.if-failed.false in
     let said : SaidSoFar was c.new-page.result (g.W.Sink.written c.args.sink.now) [] = ([], f ∙ ap Some (sym (append-nil was)), c.new-page.ensures) in
     played_whole bytes was (g.R.Source.left c.play_script-played.new.source) c.play_script-played.new.out.page.now c.flush.new.self.page.now (g.W.Sink.written c.play_script-played.new.out.sink.now) (g.W.Sink.written c.flush.new.self.sink.now) c.in-Ok.ensures.ok played
     (c.play_script-played.ensures.told bytes was e said) blamed)
@@ -34,8 +34,8 @@ returns-in-Err-clause-told g c =
     rw (← same_sink) (
     λ bytes was e f.
     let played = c.play_script-played.result in
-    let mark = c.play_script-played.ensures.sink_mark ∙ ap (λ b. b || is_write_failed played) c.requires.sink_clean in
-    let blamed : is_write_failed played ≡ false = sym mark ∙ sym c.failed.ensures ∙ c.if-failed.false in
+    let mark = c.play_script-played.ensures.sink_mark ∙ ap (λ b. b || play_write_failed played) c.requires.sink_clean in
+    let blamed : play_write_failed played ≡ false = sym mark ∙ sym c.failed.ensures ∙ c.if-failed.false in
     let said : SaidSoFar was c.new-page.result (g.W.Sink.written c.args.sink.now) [] = ([], f ∙ ap Some (sym (append-nil was)), c.new-page.ensures) in
     played_broken bytes was (g.R.Source.left c.play_script-played.new.source) c.play_script-played.new.out.page.now (g.W.Sink.written c.play_script-played.new.out.sink.now) (g.W.Sink.written c.flush.new.self.sink.now) c.in-Err.ensures.err played
     (c.play_script-played.ensures.told bytes was e said) blamed)

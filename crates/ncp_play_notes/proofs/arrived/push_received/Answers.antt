@@ -1,7 +1,7 @@
 use Rattle.std.proofs.Common.{ℕ, List, ◌++◌, codes, sym, ap, ◌∙◌}
 use Rattle.ncp_play_page.specs.Lines.{field}
 use Rattle.ncp_host.specs.declared.received.Received.{Received}
-use Rattle.ncp_leader.specs.Fault.{name_of}
+use Rattle.ncp_leader.specs.Fault.{name_of_message_fault}
 use Rattle.ncp_model.specs.Faults.{name_of_took}
 use Rattle.ncp_play_notes.specs.Arrived.{received_words}
 use Rattle.ncp_play_notes.proofs.Appended.{two_appended}
@@ -36,7 +36,7 @@ returns-in-Control-clause-bytes c = c.push_field-in-Control.ensures.bytes ∙ ap
 
 pub returns-in-Fault-clause-bytes : goal.returns-in-Fault-clause-bytes
 returns-in-Fault-clause-bytes c =
-    two_appended c.args.page.now c.push_text-in-Fault.new.self c.push_text-in-Fault-2.new.self (codes "fault ") (name_of c.in-Fault.fault) c.push_text-in-Fault.ensures.bytes
+    two_appended c.args.page.now c.push_text-in-Fault.new.self c.push_text-in-Fault-2.new.self (codes "fault ") (name_of_message_fault c.in-Fault.fault) c.push_text-in-Fault.ensures.bytes
     (c.push_text-in-Fault-2.ensures.bytes ∙ ap (λ (name : List ℕ). c.push_text-in-Fault.new.self ++ name) (c.as_bytes.ensures.value ∙ c.name.ensures))
     ∙ ap (λ (received : Received). c.args.page.now ++ received_words received) (sym c.in-Fault.is)
 

@@ -1,6 +1,6 @@
 use Rattle.std.proofs.Common.{◌≡◌, ◌∙◌, ◌++◌, ◌∷◌, [], List, sym, subst}
 use Rattle.ncp_transcript.specs.declared.note.HostNote.{HostNote}
-use Rattle.ncp_transcript.specs.Alone.{Alone, IsStep}
+use Rattle.ncp_transcript.specs.Alone.{Alone, IsHostStep}
 use Rattle.ncp_play_stream.specs.Streams.{SaysText, SaysBeginning}
 use Rattle.ncp_play_notes.specs.declared.heading.Heading.{Heading}
 use Rattle.ncp_play_notes.specs.NoteLines.{note_lines}
@@ -20,7 +20,7 @@ pub returns-in-Ok-clause-told : goal.returns-in-Ok-clause-told
 returns-in-Ok-clause-told g c = λ was first told.
     let w = g.W.Sink in let before = c.args.alone.now.notes in let page = c.args.out.now.page.now in let heading = c.args.heading.now in
     let old = w.written c.args.out.now.sink.now in let now = w.written c.say_note.new.out.sink.now in let last = c.say_note.new.out.page.now in
-    let step : IsStep c.args.input.now c.args.alone.now c.step.new.self = on_no_error (IsStep c.args.input.now c.args.alone.now c.step.new.self) c.step.result c.step.ensures.step (sym c.is_err.ensures.value ∙ c.if-is_err.false) in
+    let step : IsHostStep c.args.input.now c.args.alone.now c.step.new.self = on_no_error (IsHostStep c.args.input.now c.args.alone.now c.step.new.self) c.step.result c.step.ensures.step (sym c.is_err.ensures.value ∙ c.if-is_err.false) in
     let same : c.index-notes-notes.result ≡ step.0 = last_note c.transcript-notes.result.now before step.0 c.index-notes-notes.result (c.transcript-notes.ensures.notes ∙ step.2) c.index-notes-notes.is in
     let says = subst (λ (note : HostNote). SaysText page old (note_lines heading note) last now) same c.in-Ok.ensures.told in
     subst (λ (notes : List HostNote). Tells was first notes c.next.result last now) (sym step.2)
@@ -30,16 +30,16 @@ pub returns-in-Err-clause-told : goal.returns-in-Err-clause-told
 returns-in-Err-clause-told g c = λ was first told.
     let w = g.W.Sink in let before = c.args.alone.now.notes in let page = c.args.out.now.page.now in let heading = c.args.heading.now in
     let old = w.written c.args.out.now.sink.now in let now = w.written c.say_note.new.out.sink.now in
-    let step : IsStep c.args.input.now c.args.alone.now c.step.new.self = on_no_error (IsStep c.args.input.now c.args.alone.now c.step.new.self) c.step.result c.step.ensures.step (sym c.is_err.ensures.value ∙ c.if-is_err.false) in
+    let step : IsHostStep c.args.input.now c.args.alone.now c.step.new.self = on_no_error (IsHostStep c.args.input.now c.args.alone.now c.step.new.self) c.step.result c.step.ensures.step (sym c.is_err.ensures.value ∙ c.if-is_err.false) in
     let same : c.index-notes-notes.result ≡ step.0 = last_note c.transcript-notes.result.now before step.0 c.index-notes-notes.result (c.transcript-notes.ensures.notes ∙ step.2) c.index-notes-notes.is in
     let says = subst (λ (note : HostNote). SaysBeginning page old (note_lines heading note) now) same c.in-Err.ensures.told in
     subst (λ (notes : List HostNote). TellsBeginning was first notes now) (sym step.2) (tells_one_broken was first heading before step.0 page old told now says)
 
 pub returns-in-Ok-clause-events : goal.returns-in-Ok-clause-events
-returns-in-Ok-clause-events g c = on_no_error (IsStep c.args.input.now c.args.alone.now c.step.new.self) c.step.result c.step.ensures.step (sym c.is_err.ensures.value ∙ c.if-is_err.false)
+returns-in-Ok-clause-events g c = on_no_error (IsHostStep c.args.input.now c.args.alone.now c.step.new.self) c.step.result c.step.ensures.step (sym c.is_err.ensures.value ∙ c.if-is_err.false)
 
 pub returns-in-Err-clause-events : goal.returns-in-Err-clause-events
-returns-in-Err-clause-events g c = on_no_error (IsStep c.args.input.now c.args.alone.now c.step.new.self) c.step.result c.step.ensures.step (sym c.is_err.ensures.value ∙ c.if-is_err.false)
+returns-in-Err-clause-events g c = on_no_error (IsHostStep c.args.input.now c.args.alone.now c.step.new.self) c.step.result c.step.ensures.step (sym c.is_err.ensures.value ∙ c.if-is_err.false)
 
 pub returns-in-Ok-clause-mark : goal.returns-in-Ok-clause-mark
 returns-in-Ok-clause-mark g c = c.in-Ok.ensures.mark

@@ -1,6 +1,6 @@
 use Rattle.std.proofs.Common.{false, Ok, Err, refl}
 use Rattle.ncp_play_files.specs.Results.{is_read, is_write}
-use Rattle.ncp_play_program.specs.Orders.{seen}
+use Rattle.ncp_play_program.specs.Orders.{streams_of}
 use Rattle.ncp_play_program.proofs.Blaming.{blames-exactly}
 use Rattle.ncp_play_program.proofs.program.carry_out.Goals as goal
 
@@ -12,11 +12,11 @@ returns-in-Err-convert-clause-does g c = rw c.in-Convert.is (Err c.in-Err-conver
 
 pub returns-in-Ok-check-clause-does : goal.returns-in-Ok-check-clause-does
 returns-in-Ok-check-clause-does g c = rw c.in-Check.is
-    (Ok c.in-Ok-check.sound, refl, blames-exactly false false (seen (g.S.Source.left c.check.new.source) (g.S.Source.has_failed c.check.new.source) (g.W.Sink.written c.check.new.sink) (g.W.Sink.has_failed c.check.new.sink)) c.in-Ok-check.ensures.read_failed c.in-Ok-check.ensures.write_failed, c.in-Ok-check.ensures.told)
+    (Ok c.in-Ok-check.sound, refl, blames-exactly false false (streams_of (g.S.Source.left c.check.new.source) (g.S.Source.has_failed c.check.new.source) (g.W.Sink.written c.check.new.sink) (g.W.Sink.has_failed c.check.new.sink)) c.in-Ok-check.ensures.read_failed c.in-Ok-check.ensures.write_failed, c.in-Ok-check.ensures.told)
 
 pub returns-in-Err-check-clause-does : goal.returns-in-Err-check-clause-does
 returns-in-Err-check-clause-does g c = rw c.in-Check.is
-    (Err c.in-Err-check.fault, refl, blames-exactly (is_read c.in-Err-check.fault) (is_write c.in-Err-check.fault) (seen (g.S.Source.left c.check.new.source) (g.S.Source.has_failed c.check.new.source) (g.W.Sink.written c.check.new.sink) (g.W.Sink.has_failed c.check.new.sink)) c.in-Err-check.ensures.read_failed c.in-Err-check.ensures.write_failed, c.in-Err-check.ensures.told)
+    (Err c.in-Err-check.fault, refl, blames-exactly (is_read c.in-Err-check.fault) (is_write c.in-Err-check.fault) (streams_of (g.S.Source.left c.check.new.source) (g.S.Source.has_failed c.check.new.source) (g.W.Sink.written c.check.new.sink) (g.W.Sink.has_failed c.check.new.sink)) c.in-Err-check.ensures.read_failed c.in-Err-check.ensures.write_failed, c.in-Err-check.ensures.told)
 
 pub returns-in-World-clause-does : goal.returns-in-World-clause-does
 returns-in-World-clause-does g c = rw c.in-World.is

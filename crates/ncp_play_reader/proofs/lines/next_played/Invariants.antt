@@ -4,7 +4,7 @@ use Rattle.ncp_play_stream.specs.Streams.{Ahead}
 use Rattle.ncp_play_page.specs.Windows.{effort}
 use Rattle.ncp_play_reader.specs.declared.lines.Lines.{Lines}
 use Rattle.ncp_play_reader.specs.declared.lines.NextLine.{NextLine}
-use Rattle.ncp_play_reader.specs.NextLines.{ReadsNext}
+use Rattle.ncp_play_reader.specs.NextLines.{ReadsNextLine}
 use Rattle.ncp_play_reader.proofs.lines.next_played.Given as goal
 
 -- what is read of the bytes that are to come now is read of all
@@ -13,7 +13,7 @@ invariant-loop-ended g l =
     let s = g.S.Source in
     record {
       told : (bytes : List ℕ) → Ahead l.initial.lines.window (s.left l.initial.source) bytes → (now : List ℕ) × Ahead l.lines.window (s.left l.source) now
-          × ((r : Result NextLine Failed) (lines : Lines) (left : Option (List ℕ)) → ReadsNext l.lines.number now r lines left → ReadsNext l.initial.lines.number bytes r lines left);
+          × ((r : Result NextLine Failed) (lines : Lines) (left : Option (List ℕ)) → ReadsNextLine l.lines.number now r lines left → ReadsNextLine l.initial.lines.number bytes r lines left);
       effort : effort (s.reads l.source) l.lines.window ≤ effort (s.reads l.initial.source) l.initial.lines.window;
       mark : s.has_failed l.source ≡ s.has_failed l.initial.source;
     }

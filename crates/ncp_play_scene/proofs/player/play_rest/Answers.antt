@@ -1,6 +1,6 @@
 use Rattle.std.proofs.Common.{◌∙◌, ◌||◌, ap}
 use Rattle.std.proofs.Math.Bool.{or-false}
-use Rattle.ncp_play_notes.specs.Faults.{is_write_failed}
+use Rattle.ncp_play_notes.specs.Faults.{play_write_failed}
 use Rattle.ncp_play_scene.specs.NextEvents.{course_of}
 use Rattle.ncp_play_scene.proofs.PlayedLines.{none_first}
 use Rattle.ncp_play_scene.proofs.player.play_rest.Goals as goal
@@ -18,4 +18,4 @@ pub returns-in-Err-clause-told : goal.returns-in-Err-clause-told
 returns-in-Err-clause-told g c = λ began was told. (c.in-Err.ensures.err.0, c.in-Err.ensures.err.1 was _ told.2)
 
 pub returns-in-Ok-clause-sink_mark : goal.returns-in-Ok-clause-sink_mark
-returns-in-Ok-clause-sink_mark g c = c.play_lines.ensures.sink_mark ∙ ap (λ b. b || is_write_failed c.play_lines.result) (c.in-Ok.ensures.mark ∙ or-false _)
+returns-in-Ok-clause-sink_mark g c = c.play_lines.ensures.sink_mark ∙ ap (λ b. b || play_write_failed c.play_lines.result) (c.in-Ok.ensures.mark ∙ or-false _)

@@ -1,5 +1,5 @@
 use Rattle.std.proofs.Common.{◌≡◌, ℕ, List, [], ◌++◌, Option, option_map, sym, ap, ◌∙◌}
-use Rattle.ncp_play_script.specs.FirstLines.{numbers_of, few}
+use Rattle.ncp_play_script.specs.FirstLines.{numbers_of_words, few}
 use Rattle.ncp_play_script.proofs.Peers.{one_read, all_read, first_read, is_taken, one_fits}
 use Rattle.ncp_play_script.proofs.first_lines.peers_of.Goals as goal
 
@@ -7,7 +7,7 @@ pub returns : goal.returns
 returns c =
     let read = c.loop-words.peers.items in
     let none : c.loop-words.words ≡ [] = c.is_empty.ensures.0 c.loop-words-test.false in
-    sym (c.loop-words.invariant.read ∙ ap (λ words. few (option_map (λ behind. read ++ behind) (numbers_of words))) none ∙ all_read read c.loop-words.invariant.room)
+    sym (c.loop-words.invariant.read ∙ ap (λ words. few (option_map (λ behind. read ++ behind) (numbers_of_words words))) none ∙ all_read read c.loop-words.invariant.room)
 
 pub loop-words-preserved : goal.loop-words-preserved
 loop-words-preserved c =
@@ -18,7 +18,7 @@ loop-words-preserved c =
     record {
       read = c.loop-words.invariant.read
           ∙ ap (λ (numbers : Option (List ℕ)). few (option_map (λ rest. read ++ rest) numbers)) (first_read c.loop-words.words behind number c.in_ok-peer.ensures)
-          ∙ ap few (one_read read number (numbers_of behind))
-          ∙ ap (λ (items : List ℕ). few (option_map (λ rest. items ++ rest) (numbers_of behind))) (sym taken.1);
+          ∙ ap few (one_read read number (numbers_of_words behind))
+          ∙ ap (λ (items : List ℕ). few (option_map (λ rest. items ++ rest) (numbers_of_words behind))) (sym taken.1);
       room = one_fits read c.try_push.new.self.items number taken.1 (c.try_push.ensures.variant.0 taken.0);
     }

@@ -5,7 +5,7 @@ use Rattle.std.proofs.lemmas.Slice.Eq.{bytes_eq-Decides}
 use Rattle.ncp_transcript.specs.declared.input.Input.TheVariants as inputs
 use Rattle.ncp_play_script.specs.declared.host_lines.HostLine.{HostLine}
 use Rattle.ncp_play_script.specs.declared.host_lines.HostLine.TheVariants.{Input, Feed}
-use Rattle.ncp_play_script.specs.HostLines.{alone, bits_line, call_line, host_line_of}
+use Rattle.ncp_play_script.specs.HostLines.{alone, bits_line, call_of_words, host_line_of}
 use Rattle.ncp_play_script.proofs.host_lines.host_line.Goals as goal
 
 differs : (a b : List ℕ) (is : Bool) → bytes_eq b a ≡ is → bytes_eq a b ≡ false → is ≡ false
@@ -17,15 +17,15 @@ turned : (a b : List ℕ) → bytes_eq a b ≡ false → bytes_eq b a ≡ false
 turned a b differ = differs a b (bytes_eq b a) refl differ
 
 -- a line that begins with none of the words of its own is a call
-line-of : (word : List ℕ) (words : List (List ℕ)) → bytes_eq (codes "in") word ≡ false → bytes_eq (codes "out") word ≡ false → bytes_eq (codes "feed") word ≡ false → host_line_of (word ∷ words) ≡ call_line (word ∷ words)
+line-of : (word : List ℕ) (words : List (List ℕ)) → bytes_eq (codes "in") word ≡ false → bytes_eq (codes "out") word ≡ false → bytes_eq (codes "feed") word ≡ false → host_line_of (word ∷ words) ≡ call_of_words (word ∷ words)
 line-of word words is-in is-out is-feed =
-    ap (λ (b : Bool). if b then bits_line words else if bytes_eq (codes "out") word then alone (Input inputs.Out) words else if bytes_eq (codes "feed") word then alone Feed words else call_line (word ∷ words)) is-in
-    ∙ ap (λ (b : Bool). if b then alone (Input inputs.Out) words else if bytes_eq (codes "feed") word then alone Feed words else call_line (word ∷ words)) is-out
-    ∙ ap (λ (b : Bool). if b then alone Feed words else call_line (word ∷ words)) is-feed
+    ap (λ (b : Bool). if b then bits_line words else if bytes_eq (codes "out") word then alone (Input inputs.Out) words else if bytes_eq (codes "feed") word then alone Feed words else call_of_words (word ∷ words)) is-in
+    ∙ ap (λ (b : Bool). if b then alone (Input inputs.Out) words else if bytes_eq (codes "feed") word then alone Feed words else call_of_words (word ∷ words)) is-out
+    ∙ ap (λ (b : Bool). if b then alone Feed words else call_of_words (word ∷ words)) is-feed
 
 pub returns-clause-line : goal.returns-clause-line
 returns-clause-line c =
-    let read : host_line_of c.args.words.now ≡ call_line (c.in-Some.word.now ∷ c.next_word.new.self) =
+    let read : host_line_of c.args.words.now ≡ call_of_words (c.in-Some.word.now ∷ c.next_word.new.self) =
     ap host_line_of c.in-Some.ensures ∙ line-of c.in-Some.word.now c.next_word.new.self
     (turned c.in-Some.word.now (codes "in") (sym c.eq.ensures ∙ c.if-eq.false)) (turned c.in-Some.word.now (codes "out") (sym c.eq-2.ensures ∙ c.if-eq-2.false)) (turned c.in-Some.word.now (codes "feed") (sym c.eq-3.ensures ∙ c.if-eq-3.false)) in
-    IfOk-weaker c.call_line.result (λ line. line ≡ call_line (c.in-Some.word.now ∷ c.next_word.new.self)) (λ line. line ≡ host_line_of c.args.words.now) (λ line e. e ∙ sym read) c.call_line.ensures.line
+    IfOk-weaker c.call_line.result (λ line. line ≡ call_of_words (c.in-Some.word.now ∷ c.next_word.new.self)) (λ line. line ≡ host_line_of c.args.words.now) (λ line e. e ∙ sym read) c.call_line.ensures.line

@@ -3,10 +3,10 @@ use Rattle.std.specs.Str.{bytes_eq}
 use Rattle.std.proofs.lemmas.Slice.Eq.{bytes_eq-Decides}
 use Rattle.ncp_play_script.specs.declared.verbs.Verb.{Verb}
 use Rattle.ncp_play_script.specs.declared.verbs.Verb.TheVariants.{Reset, AskSend, AskReceive, Give, Take, Allocate, CallBack, Interrupt, Echo, Close, Wake, Phase, State, Echoed, Errors, Counts, Ignored}
-use Rattle.ncp_play_script.specs.Verbs.{word_of, verb_among, verb_of, all_verbs}
+use Rattle.ncp_play_script.specs.Verbs.{word_of_verb, verb_among, verb_of, all_verbs}
 use Rattle.ncp_play_script.proofs.laws.words_name_calls.Goals as goal
 
-named : (verb : Verb) → verb_of (word_of verb) ≡ Some verb
+named : (verb : Verb) → verb_of (word_of_verb verb) ≡ Some verb
 named Reset = refl
 named AskSend = refl
 named AskReceive = refl
@@ -25,13 +25,13 @@ named Errors = refl
 named Counts = refl
 named Ignored = refl
 
-here : (found : Bool) (verb first : Verb) (word : List ℕ) (behind : Option Verb) → Decides found (word_of first ≡ word) → (if found then Some first else behind) ≡ Some verb → (behind ≡ Some verb → word ≡ word_of verb) → word ≡ word_of verb
-here true verb first word behind decides e more = let same : first ≡ verb = cc in sym (decides.0 refl) ∙ ap word_of same
+here : (found : Bool) (verb first : Verb) (word : List ℕ) (behind : Option Verb) → Decides found (word_of_verb first ≡ word) → (if found then Some first else behind) ≡ Some verb → (behind ≡ Some verb → word ≡ word_of_verb verb) → word ≡ word_of_verb verb
+here true verb first word behind decides e more = let same : first ≡ verb = cc in sym (decides.0 refl) ∙ ap word_of_verb same
 here false verb first word behind decides e more = more e
 
-among : (verbs : List Verb) (word : List ℕ) (verb : Verb) → verb_among verbs word ≡ Some verb → word ≡ word_of verb
+among : (verbs : List Verb) (word : List ℕ) (verb : Verb) → verb_among verbs word ≡ Some verb → word ≡ word_of_verb verb
 among [] word verb e = absurd (cc)
-among (first ∷ verbs) word verb e = here (bytes_eq (word_of first) word) verb first word (verb_among verbs word) (bytes_eq-Decides (word_of first) word) e (among verbs word verb)
+among (first ∷ verbs) word verb e = here (bytes_eq (word_of_verb first) word) verb first word (verb_among verbs word) (bytes_eq-Decides (word_of_verb first) word) e (among verbs word verb)
 
 pub returns-clause-each : goal.returns-clause-each
 returns-clause-each c = named

@@ -1,7 +1,7 @@
 use Rattle.std.proofs.Common.{◌≡◌, ℕ, Bool, true, false, List, [], ◌∷◌, Option, Some, None, option_map, unwrap_or, if◌then◌else◌, sym, ap, subst, ◌∙◌}
 use Rattle.std.proofs.lemmas.Result.{on_err_weaker}
 use Rattle.ncp_host.specs.Host.{is_one_of}
-use Rattle.ncp_play_script.specs.Words.{number_of, largest_u8}
+use Rattle.ncp_play_script.specs.Words.{number_of_word, largest_u8}
 use Rattle.ncp_play_script.specs.Calls.{Read, NamesGive, NamesGiveBehind}
 use Rattle.ncp_play_world_lines.specs.ManyLines.{if_one_of, host_first}
 use Rattle.ncp_play_world_lines.proofs.many_lines.many_line.Goals as goal
@@ -21,7 +21,7 @@ behind-number hosts words host rest (Some number) e gives = rest-of words host r
 
 behind-host : (hosts : List ℕ) (words : List (List ℕ)) (host : ℕ) (rest : List (List ℕ)) → read host rest ≡ host_first hosts words → NamesGive rest → NamesGiveBehind words
 behind-host hosts [] host rest e gives = absurd (cc)
-behind-host hosts (word ∷ words) host rest e gives = behind-number hosts words host rest (number_of largest_u8 word) e gives
+behind-host hosts (word ∷ words) host rest e gives = behind-number hosts words host rest (number_of_word largest_u8 word) e gives
 
 pub returns-clause-memory : goal.returns-clause-memory
 returns-clause-memory c =

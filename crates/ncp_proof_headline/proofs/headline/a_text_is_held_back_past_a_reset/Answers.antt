@@ -1,7 +1,7 @@
 use Rattle.std.proofs.Common.{ap}
 use Rattle.ncp_model.specs.Ends.{lowest}
 use Rattle.ncp_proof_watch.specs.Histories.{Past}
-use Rattle.ncp_proof_resets.specs.Resets.{Host}
+use Rattle.ncp_proof_resets.specs.Resets.{ResetHost}
 use Rattle.ncp_model.specs.Rows.{outward, inward}
 use Rattle.ncp_proof_machine.specs.Hosts.{all_empty}
 use Rattle.ncp_proof_machine.specs.HostRuns.{held_past_reset, up_after_held, opened_after_held}
@@ -10,11 +10,11 @@ use Rattle.ncp_proof_headline.proofs.headline.a_text_is_held_back_past_a_reset.G
 
 pub returns-clause-owed : goal.returns-clause-owed
 unfolding lowest all_empty
-returns-clause-owed c = (ap (λ (h : Host). h.phase) (this-host held_past_reset), ap (λ (h : Host). h.phase) (that-host held_past_reset), this-link held_past_reset 2)
+returns-clause-owed c = (ap (λ (h : ResetHost). h.phase) (this-host held_past_reset), ap (λ (h : ResetHost). h.phase) (that-host held_past_reset), this-link held_past_reset 2)
 
 pub returns-clause-dropped : goal.returns-clause-dropped
 unfolding lowest all_empty
-returns-clause-dropped c = (ap (λ (h : Host). h.phase) (this-host up_after_held), ap (λ (h : Host). h.phase) (that-host up_after_held), ap (λ (p : Past). p.got) (that-past up_after_held inward))
+returns-clause-dropped c = (ap (λ (h : ResetHost). h.phase) (this-host up_after_held), ap (λ (h : ResetHost). h.phase) (that-host up_after_held), ap (λ (p : Past). p.got) (that-past up_after_held inward))
 
 pub returns-clause-anew : goal.returns-clause-anew
 unfolding lowest all_empty

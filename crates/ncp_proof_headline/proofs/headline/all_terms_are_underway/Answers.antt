@@ -5,10 +5,10 @@ use Rattle.ncp_model.specs.Amounts.{back, granted_messages, returned_messages}
 use Rattle.ncp_model.specs.Ends.{lowest}
 use Rattle.ncp_proof_watch.specs.Histories.{Past}
 use Rattle.ncp_proof_resets.specs.Delivery.{Link}
-use Rattle.ncp_proof_resets.specs.Resets.{Host, underway}
+use Rattle.ncp_proof_resets.specs.Resets.{ResetHost, commands_underway}
 use Rattle.ncp_model.specs.Rows.{outward, inward}
 use Rattle.ncp_proof_machine.specs.Hosts.{TextOut, all_empty, run}
-use Rattle.ncp_proof_headline.specs.Headline.{commands_there, commands_back, sum_on, not_come, how_many}
+use Rattle.ncp_proof_headline.specs.Headline.{commands_there, commands_back, sum_on, message_not_come, how_many_texts}
 use Rattle.ncp_proof_machine.specs.HostRuns.{calls_back_under_text, sender_cleared}
 use Rattle.ncp_proof_machine.proofs.HostsListed.{low_run, this-end, that-end, this-past, that-past, this-host, that-host, this-control, that-control, this-link}
 use Rattle.ncp_proof_headline.proofs.headline.all_terms_are_underway.Goals as goal
@@ -22,9 +22,9 @@ unfolding lowest all_empty back
 returns-clause-messages c = let w = run calls_back_under_text in (
   ap (λ (o : Option End). (or_new o).messages) (that-end calls_back_under_text inward),
   ap (λ (o : Option End). (or_new o).messages) (this-end calls_back_under_text outward),
-  ap (λ (o : Option End). sum_on (or_new o).link granted_messages (commands_back w)) (this-end calls_back_under_text outward) ∙ ap (λ (h : Host). sum_on 2 granted_messages (underway h w.that.control)) (that-host calls_back_under_text) ∙ ap (λ (l : Link (List Command)). sum_on 2 granted_messages (underway (low_run calls_back_under_text).that.host l)) (that-control calls_back_under_text),
-  ap (λ (o : Option End). how_many (not_come (w.this.texts (or_new o).link).slot (w.this.texts (or_new o).link).subnet)) (this-end calls_back_under_text outward) ∙ ap (λ (l : Link TextOut). how_many (not_come l.slot l.subnet)) (this-link calls_back_under_text 2),
-  ap (λ (o : Option End). sum_on (or_new o).link returned_messages (commands_there w)) (this-end calls_back_under_text outward) ∙ ap (λ (h : Host). sum_on 2 returned_messages (underway h w.this.control)) (this-host calls_back_under_text) ∙ ap (λ (l : Link (List Command)). sum_on 2 returned_messages (underway (low_run calls_back_under_text).this.host l)) (this-control calls_back_under_text),
+  ap (λ (o : Option End). sum_on (or_new o).link granted_messages (commands_back w)) (this-end calls_back_under_text outward) ∙ ap (λ (h : ResetHost). sum_on 2 granted_messages (commands_underway h w.that.control)) (that-host calls_back_under_text) ∙ ap (λ (l : Link (List Command)). sum_on 2 granted_messages (commands_underway (low_run calls_back_under_text).that.host l)) (that-control calls_back_under_text),
+  ap (λ (o : Option End). how_many_texts (message_not_come (w.this.texts (or_new o).link).slot (w.this.texts (or_new o).link).subnet)) (this-end calls_back_under_text outward) ∙ ap (λ (l : Link TextOut). how_many_texts (message_not_come l.slot l.subnet)) (this-link calls_back_under_text 2),
+  ap (λ (o : Option End). sum_on (or_new o).link returned_messages (commands_there w)) (this-end calls_back_under_text outward) ∙ ap (λ (h : ResetHost). sum_on 2 returned_messages (commands_underway h w.this.control)) (this-host calls_back_under_text) ∙ ap (λ (l : Link (List Command)). sum_on 2 returned_messages (commands_underway (low_run calls_back_under_text).this.host l)) (this-control calls_back_under_text),
 )
 
 pub returns-clause-alone : goal.returns-clause-alone

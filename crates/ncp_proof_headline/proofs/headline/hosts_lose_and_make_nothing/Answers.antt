@@ -1,8 +1,8 @@
 use Rattle.std.proofs.Common.{◌≡◌, true, List}
 use Rattle.ncp_model.specs.declared.pair.Pair.{Pair}
 use Rattle.ncp_model.specs.Pairs.{sends}
-use Rattle.ncp_proof_machine.specs.Hosts.{World, swap, Event, run}
-use Rattle.ncp_proof_headline.specs.Headline.{MessagesAgree, BitsAgree, OnOneLink, WithinAllocation, Parted, TakenOrHeld, Begins, Both}
+use Rattle.ncp_proof_machine.specs.Hosts.{TwoNodes, nodes_swapped, NodeEvent, run}
+use Rattle.ncp_proof_headline.specs.Headline.{MessagesAgreeInModel, BitsAgreeInModel, OnOneLink, WithinAllocationInModel, PartedInModel, TakenOrHeld, BeginsInModel, BothWaysInModel}
 use Rattle.ncp_proof_machine.proofs.HostsStand.{BothStand}
 use Rattle.ncp_proof_headline.proofs.Ties.{Owners}
 use Rattle.ncp_proof_headline.proofs.HostsHeld.{Holds, ever, ever-swapped}
@@ -10,33 +10,33 @@ use Rattle.ncp_proof_headline.proofs.HostsHeadline.{messages_agree, bits_agree, 
 use Rattle.ncp_proof_headline.proofs.headline.hosts_lose_and_make_nothing.Goals as goal
 
 -- what holds one way of two hosts that are tied holds either way
-either_way : (P : Pair → World → Type 0) → ((own own' : Owners) (w : World) → Holds own own' w → BothStand w → (pair : Pair) → sends pair ≡ true → P pair w)
-    → (events : List Event) (pair : Pair) → sends pair ≡ true → Both (P pair) (run events)
+either_way : (P : Pair → TwoNodes → Type 0) → ((own own' : Owners) (w : TwoNodes) → Holds own own' w → BothStand w → (pair : Pair) → sends pair ≡ true → P pair w)
+    → (events : List NodeEvent) (pair : Pair) → sends pair ≡ true → BothWaysInModel (P pair) (run events)
 either_way P f events pair s =
     let t = ever events in
     let u = ever-swapped (run events) t in
-    (f t.own t.own' (run events) t.holds t.stand pair s, f u.own u.own' (swap (run events)) u.holds u.stand pair s)
+    (f t.own t.own' (run events) t.holds t.stand pair s, f u.own u.own' (nodes_swapped (run events)) u.holds u.stand pair s)
 
 pub returns-clause-safe : goal.returns-clause-safe
 returns-clause-safe c = λ es. (let t = ever es in (t.holds.joined.this.safe, t.holds.joined.that.safe))
 
 pub returns-clause-messages : goal.returns-clause-messages
-returns-clause-messages c = either_way MessagesAgree messages_agree
+returns-clause-messages c = either_way MessagesAgreeInModel messages_agree
 
 pub returns-clause-bits : goal.returns-clause-bits
-returns-clause-bits c = either_way BitsAgree bits_agree
+returns-clause-bits c = either_way BitsAgreeInModel bits_agree
 
 pub returns-clause-link : goal.returns-clause-link
 returns-clause-link c = either_way OnOneLink on_one_link
 
 pub returns-clause-allocation : goal.returns-clause-allocation
-returns-clause-allocation c = either_way WithinAllocation within
+returns-clause-allocation c = either_way WithinAllocationInModel within
 
 pub returns-clause-parted : goal.returns-clause-parted
-returns-clause-parted c = either_way Parted parted
+returns-clause-parted c = either_way PartedInModel parted
 
 pub returns-clause-held : goal.returns-clause-held
 returns-clause-held c = either_way TakenOrHeld held_all
 
 pub returns-clause-beginning : goal.returns-clause-beginning
-returns-clause-beginning c = either_way Begins begins
+returns-clause-beginning c = either_way BeginsInModel begins

@@ -7,9 +7,9 @@ use Rattle.ncp_model.specs.Act.{answer, made_if_any}
 use Rattle.ncp_model.specs.Texts.{Rfnm}
 use Rattle.ncp_model.specs.Ends.{cut_in, answered_in}
 use Rattle.ncp_model.specs.Phase.{is_rst, is_rrp, is_other, is_resetting}
-use Rattle.ncp_proof_resets.specs.Delivery.{Slot, Empty, Ready, Travelling, Held, Subnet, Free, Accepted, Delivered, Lost, Dead}
-use Rattle.ncp_proof_resets.specs.Resets.{Host, is_up, host_resets}
-use Rattle.ncp_proof_machine.specs.Hosts.{TextOut, Node, quiet, cleared, frees, hears, hears_text, Call, calls, calls_echo, calls_reset, cuts, sends_text, text_answered, control_answered, message_comes, text_comes, World, base, Step, Calls_reset, Calls, Calls_echo, Sends, Sends_text, Hears, Hears_text, Is_answered, Text_is_answered, steps}
+use Rattle.ncp_proof_resets.specs.Delivery.{Slot, Empty, Ready, Travelling, Held, MessageTransit, Free, Accepted, Delivered, Lost, Dead}
+use Rattle.ncp_proof_resets.specs.Resets.{ResetHost, is_up, host_resets}
+use Rattle.ncp_proof_machine.specs.Hosts.{TextOut, Node, quiet, node_cleared, node_frees, node_hears, node_hears_text, PairCall, node_calls, node_calls_echo, node_calls_reset, node_cuts, node_sends_text, text_answered, control_answered, message_comes, node_text_comes, TwoNodes, base, NodeStep, Calls_reset, Calls, Calls_echo, Sends, Sends_text, Hears, Hears_text, Is_answered, Text_is_answered, node_steps}
 use Rattle.ncp_model.proofs.ResetLists.{bit, rsts, any-rsts}
 use Rattle.ncp_proof_headline.proofs.HostsHeld.{ever}
 use Rattle.ncp_proof_resets.proofs.Waiting.{down, silent_all, settling, waiting, sends-wait}
@@ -23,60 +23,60 @@ stays b x n e = ap (λ (c : Bool). if c then x else n) e
 not_up : (n : Node) → n.host.phase.wait ≡ true → is_up n.host ≡ false
 not_up n w = down n.host w
 
-commands : (c : Command) (n : Node) → n.host.phase.wait ≡ true → is_other c ≡ true → hears c n ≡ n
+commands : (c : Command) (n : Node) → n.host.phase.wait ≡ true → is_other c ≡ true → node_hears c n ≡ n
 commands Rst n w o = absurd (cc o)
 commands Rrp n w o = absurd (cc o)
 commands c n w o = stays (is_up n.host) _ n (not_up n w)
 
-texts : (on : ℕ) (head : List Bool) (t : TextOut) (n : Node) → n.host.phase.wait ≡ true → hears_text on head t n ≡ n
+texts : (on : ℕ) (head : List Bool) (t : TextOut) (n : Node) → n.host.phase.wait ≡ true → node_hears_text on head t n ≡ n
 texts on head t n w = stays (is_up n.host) _ n (not_up n w)
 
-all_calls : (pair : Pair) (call : Call) (n : Node) → n.host.phase.wait ≡ true → calls pair call n ≡ n
+all_calls : (pair : Pair) (call : PairCall) (n : Node) → n.host.phase.wait ≡ true → node_calls pair call n ≡ n
 all_calls pair call n w = stays (is_up n.host) _ n (not_up n w)
 
-echoes : (byte : ℕ) (n : Node) → n.host.phase.wait ≡ true → calls_echo byte n ≡ n
+echoes : (byte : ℕ) (n : Node) → n.host.phase.wait ≡ true → node_calls_echo byte n ≡ n
 echoes byte n w = stays (is_up n.host) _ n (not_up n w)
 
 -- a reset is under way
-resets-stay : (n : Node) → n.host.phase.wait ≡ true → calls_reset n ≡ n
-resets-stay n w = let r : is_resetting n.host.phase ≡ true = grind arith in ap (λ (c : Bool). if c then n else cleared (host_resets (quiet n) n.host) n) r
+resets-stay : (n : Node) → n.host.phase.wait ≡ true → node_calls_reset n ≡ n
+resets-stay n w = let r : is_resetting n.host.phase ≡ true = grind arith in ap (λ (c : Bool). if c then n else node_cleared (host_resets (quiet n) n.host) n) r
 
 -- The waiting ends where an RRP comes.
 
 abbrev waits : Node → Bool
 waits n = n.host.phase.wait
 
-abbrev Ends : World → Type 0
+abbrev Ends : TwoNodes → Type 0
 Ends w = (m : List Command) × (w.that.control.subnet ≡ Accepted m) × (list_any is_rrp m ≡ true)
 
-cut-waits : (on : ℕ) (o : Option (ℕ × List Bool)) (n : Node) → waits (cuts on o n) ≡ waits n
+cut-waits : (on : ℕ) (o : Option (ℕ × List Bool)) (n : Node) → waits (node_cuts on o n) ≡ waits n
 cut-waits on None n = refl
 cut-waits on (Some text) n = refl
 
-sent-waits : (on : ℕ) (slot : Slot TextOut) (n : Node) → waits (sends_text on slot n) ≡ waits n
+sent-waits : (on : ℕ) (slot : Slot TextOut) (n : Node) → waits (node_sends_text on slot n) ≡ waits n
 sent-waits on Empty n = cut-waits on (answer (cut_in on n.ends)) n
 sent-waits on (Ready t) n = refl
 sent-waits on (Travelling t) n = refl
 sent-waits on (Held t) n = refl
 
-answered-waits : (on : ℕ) (slot : Slot TextOut) (subnet : Subnet TextOut) (n : Node) → waits n ≡ true → waits (text_answered on slot subnet n) ≡ true
+answered-waits : (on : ℕ) (slot : Slot TextOut) (subnet : MessageTransit TextOut) (n : Node) → waits n ≡ true → waits (text_answered on slot subnet n) ≡ true
 answered-waits on (Travelling t) Delivered n w =
     let same = silent_all (made_if_any (answer (answered_in on Rfnm n.ends))) n.host w in
-    settling (quiet (frees on n)) (frees on n).host.phase (ap (λ (h : Host). h.phase.wait) same ∙ w)
+    settling (quiet (node_frees on n)) (node_frees on n).host.phase (ap (λ (h : ResetHost). h.phase.wait) same ∙ w)
 answered-waits on slot subnet n w = w
 
-control-waits : (slot : Slot (List Command)) (subnet : Subnet (List Command)) (n : Node) → waits n ≡ true → waits (control_answered slot subnet n) ≡ true
+control-waits : (slot : Slot (List Command)) (subnet : MessageTransit (List Command)) (n : Node) → waits n ≡ true → waits (control_answered slot subnet n) ≡ true
 control-waits (Travelling m) Delivered n w = settling (quiet n) n.host.phase w
 control-waits slot subnet n w = w
 
-text-waits : (on : ℕ) (head : List Bool) (subnet : Subnet TextOut) (w : World) → waits w.this ≡ true → waits (text_comes on head subnet w).this ≡ true
+text-waits : (on : ℕ) (head : List Bool) (subnet : MessageTransit TextOut) (w : TwoNodes) → waits w.this ≡ true → waits (node_text_comes on head subnet w).this ≡ true
 text-waits on head (Accepted t) w a = ap waits (texts on head t w.this a) ∙ a
 text-waits on head Free w a = a
 text-waits on head Delivered w a = a
 text-waits on head Lost w a = a
 text-waits on head Dead w a = a
 
-message : (subnet : Subnet (List Command)) (w : World) → waits w.this ≡ true → waits (message_comes subnet w).this ≡ false → (m : List Command) × (subnet ≡ Accepted m) × (list_any is_rrp m ≡ true)
+message : (subnet : MessageTransit (List Command)) (w : TwoNodes) → waits w.this ≡ true → waits (message_comes subnet w).this ≡ false → (m : List Command) × (subnet ≡ Accepted m) × (list_any is_rrp m ≡ true)
 message Free w a b = absurd (cc (a, b))
 message Delivered w a b = absurd (cc (a, b))
 message Lost w a b = absurd (cc (a, b))
@@ -87,9 +87,9 @@ message (Accepted m) w a b = go (list_any is_rrp m) refl
     go true e = (m, refl, e)
     go false e =
         let k = waiting m (reactions m w.this) w.this.host a e in
-        absurd (cc (ap (λ (h : Host). h.phase.wait) (hears_all-host m w.this) ∙ k, b))
+        absurd (cc (ap (λ (h : ResetHost). h.phase.wait) (hears_all-host m w.this) ∙ k, b))
 
-until : (step : Step) (w : World) → waits w.this ≡ true → waits (steps step w).this ≡ false → Ends w
+until : (step : NodeStep) (w : TwoNodes) → waits w.this ≡ true → waits (node_steps step w).this ≡ false → Ends w
 until Calls_reset w a b = absurd (cc (ap waits (resets-stay w.this a) ∙ a, b))
 until (Calls pair call) w a b = absurd (cc (ap waits (all_calls pair call w.this a) ∙ a, b))
 until (Calls_echo byte) w a b = absurd (cc (ap waits (echoes byte w.this a) ∙ a, b))
@@ -105,7 +105,7 @@ until step w a b = absurd (cc (a, b))
 counted : (u : List Command) (a b : Bool) (c : ℕ) → list_any is_rst u ≡ true → rsts u + bit a + c ≡ bit b → b ≡ true
 counted u a b c r e = grind (arith, any-rsts)
 
-each : (step : Step) (w : World) → (steps step w).that.host ≡ w.that.host
+each : (step : NodeStep) (w : TwoNodes) → (node_steps step w).that.host ≡ w.that.host
 each step w = other-keeps (λ (n : Node). n.host ≡ w.that.host) (λ n l e. e) (λ n ls e. e) step w refl
 
 pub returns-clause-waits : goal.returns-clause-waits

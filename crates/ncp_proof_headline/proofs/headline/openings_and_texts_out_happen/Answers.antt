@@ -2,7 +2,7 @@ use Rattle.std.proofs.Common.{ap}
 use Rattle.ncp_model.specs.Ends.{lowest}
 use Rattle.ncp_model.specs.Rows.{outward, inward}
 use Rattle.ncp_proof_machine.specs.Hosts.{all_empty}
-use Rattle.ncp_proof_machine.specs.HostRuns.{with_text_out, meets, met, meets_there, met_there}
+use Rattle.ncp_proof_machine.specs.HostRuns.{with_text_out, meets, met_and_heard, meets_there, met_there}
 use Rattle.ncp_proof_machine.proofs.HostsListed.{this-end, that-end, this-control}
 use Rattle.ncp_proof_headline.proofs.headline.openings_and_texts_out_happen.Goals as goal
 use Rattle.std.proofs.Common.{Option, List, ◌∙◌}
@@ -25,7 +25,7 @@ returns-clause-stays_out c = (ap (λ (l : Link TextOut). is_empty l.slot) (this-
 
 pub returns-clause-sender : goal.returns-clause-sender
 unfolding lowest all_empty
-returns-clause-sender c = (ap (λ (o : Option End). opens o (get (run met).this.ends outward)) (this-end meets outward) ∙ ap (λ (o : Option End). opens (find pair_cmp outward (low_run meets).this.ends) o) (this-end met outward), ap (λ (o : Option End). passes (hears_link 2) outward o) (this-end met outward))
+returns-clause-sender c = (ap (λ (o : Option End). opens o (get (run met_and_heard).this.ends outward)) (this-end meets outward) ∙ ap (λ (o : Option End). opens (find pair_cmp outward (low_run meets).this.ends) o) (this-end met_and_heard outward), ap (λ (o : Option End). passes (hears_link 2) outward o) (this-end met_and_heard outward))
 
 pub returns-clause-receiver : goal.returns-clause-receiver
 unfolding lowest all_empty

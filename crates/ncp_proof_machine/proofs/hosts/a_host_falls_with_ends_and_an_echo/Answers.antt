@@ -1,6 +1,6 @@
 use Rattle.std.proofs.Common.{ap}
 use Rattle.ncp_model.specs.Ends.{lowest}
-use Rattle.ncp_proof_resets.specs.Resets.{Host}
+use Rattle.ncp_proof_resets.specs.Resets.{ResetHost}
 use Rattle.ncp_model.specs.Rows.{outward, inward}
 use Rattle.ncp_proof_machine.specs.Hosts.{all_empty}
 use Rattle.ncp_proof_machine.specs.HostRuns.{open_with_echo, fallen}
@@ -9,8 +9,8 @@ use Rattle.ncp_proof_machine.proofs.hosts.a_host_falls_with_ends_and_an_echo.Goa
 
 pub returns-clause-open : goal.returns-clause-open
 unfolding lowest all_empty
-returns-clause-open c = (this-end open_with_echo outward, this-echoes open_with_echo, ap (λ (h : Host). h.phase) (this-host open_with_echo))
+returns-clause-open c = (this-end open_with_echo outward, this-echoes open_with_echo, ap (λ (h : ResetHost). h.phase) (this-host open_with_echo))
 
 pub returns-clause-fallen : goal.returns-clause-fallen
 unfolding lowest all_empty
-returns-clause-fallen c = (this-end fallen outward, this-echoes fallen, ap (λ (h : Host). h.phase) (this-host fallen), ap (λ (h : Host). h.made) (this-host fallen), that-end fallen inward)
+returns-clause-fallen c = (this-end fallen outward, this-echoes fallen, ap (λ (h : ResetHost). h.phase) (this-host fallen), ap (λ (h : ResetHost). h.made) (this-host fallen), that-end fallen inward)

@@ -1,6 +1,6 @@
 use Rattle.std.proofs.Common.{ap}
 use Rattle.ncp_model.specs.Ends.{lowest}
-use Rattle.ncp_proof_resets.specs.Resets.{Host}
+use Rattle.ncp_proof_resets.specs.Resets.{ResetHost}
 use Rattle.ncp_model.specs.Rows.{outward, inward}
 use Rattle.ncp_proof_machine.specs.Hosts.{all_empty}
 use Rattle.ncp_proof_machine.specs.HostRuns.{other_outward, other_inward, opens_another, reset_under_other_text}
@@ -13,4 +13,4 @@ returns-clause-beside c = (this-end opens_another outward, that-end opens_anothe
 
 pub returns-clause-waits : goal.returns-clause-waits
 unfolding lowest all_empty
-returns-clause-waits c = (ap (λ (h : Host). h.phase) (this-host reset_under_other_text), this-link reset_under_other_text 2, this-link reset_under_other_text 3)
+returns-clause-waits c = (ap (λ (h : ResetHost). h.phase) (this-host reset_under_other_text), this-link reset_under_other_text 2, this-link reset_under_other_text 3)

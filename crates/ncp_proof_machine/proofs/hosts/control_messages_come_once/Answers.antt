@@ -1,6 +1,6 @@
 use Rattle.std.proofs.Common.{ap}
 use Rattle.ncp_model.specs.Ends.{lowest}
-use Rattle.ncp_proof_resets.specs.Resets.{Host}
+use Rattle.ncp_proof_resets.specs.Resets.{ResetHost}
 use Rattle.ncp_model.specs.Rows.{inward}
 use Rattle.ncp_proof_machine.specs.Hosts.{all_empty}
 use Rattle.ncp_proof_machine.specs.HostRuns.{request_lost, request_again, request_held, request_woken}
@@ -13,7 +13,7 @@ returns-clause-lost c = this-control request_lost
 
 pub returns-clause-again : goal.returns-clause-again
 unfolding lowest all_empty
-returns-clause-again c = (this-control request_again, that-end request_again inward, ap (λ (h : Host). h.came) (that-host request_again))
+returns-clause-again c = (this-control request_again, that-end request_again inward, ap (λ (h : ResetHost). h.came) (that-host request_again))
 
 pub returns-clause-held : goal.returns-clause-held
 unfolding lowest all_empty
@@ -21,4 +21,4 @@ returns-clause-held c = (this-control request_held, that-end request_held inward
 
 pub returns-clause-woken : goal.returns-clause-woken
 unfolding lowest all_empty
-returns-clause-woken c = (this-control request_woken, that-end request_woken inward, ap (λ (h : Host). h.came) (that-host request_woken))
+returns-clause-woken c = (this-control request_woken, that-end request_woken inward, ap (λ (h : ResetHost). h.came) (that-host request_woken))

@@ -1,7 +1,7 @@
 use Rattle.std.proofs.Common.{ap}
 use Rattle.ncp_model.specs.Ends.{lowest}
 use Rattle.ncp_proof_watch.specs.Histories.{Past}
-use Rattle.ncp_proof_resets.specs.Resets.{Host}
+use Rattle.ncp_proof_resets.specs.Resets.{ResetHost}
 use Rattle.ncp_model.specs.Rows.{outward, inward}
 use Rattle.ncp_proof_machine.specs.Hosts.{all_empty}
 use Rattle.ncp_proof_machine.specs.HostRuns.{both_reset, reset_under_text, reset_over, asks_again}
@@ -10,15 +10,15 @@ use Rattle.ncp_proof_machine.proofs.hosts.resets_leave_no_ends.Goals as goal
 
 pub returns-clause-both : goal.returns-clause-both
 unfolding lowest all_empty
-returns-clause-both c = (ap (λ (h : Host). h.phase) (this-host both_reset), ap (λ (h : Host). h.phase) (that-host both_reset), this-end both_reset outward, that-end both_reset inward)
+returns-clause-both c = (ap (λ (h : ResetHost). h.phase) (this-host both_reset), ap (λ (h : ResetHost). h.phase) (that-host both_reset), this-end both_reset outward, that-end both_reset inward)
 
 pub returns-clause-waits : goal.returns-clause-waits
 unfolding lowest all_empty
-returns-clause-waits c = (ap (λ (h : Host). h.phase) (this-host reset_under_text), ap (λ (h : Host). h.phase) (that-host reset_under_text), this-end reset_under_text outward, that-end reset_under_text inward, ap (λ (p : Past). p.got) (that-past reset_under_text inward))
+returns-clause-waits c = (ap (λ (h : ResetHost). h.phase) (this-host reset_under_text), ap (λ (h : ResetHost). h.phase) (that-host reset_under_text), this-end reset_under_text outward, that-end reset_under_text inward, ap (λ (p : Past). p.got) (that-past reset_under_text inward))
 
 pub returns-clause-up : goal.returns-clause-up
 unfolding lowest all_empty
-returns-clause-up c = (ap (λ (h : Host). h.phase) (this-host reset_over), ap (λ (h : Host). h.phase) (that-host reset_over))
+returns-clause-up c = (ap (λ (h : ResetHost). h.phase) (this-host reset_over), ap (λ (h : ResetHost). h.phase) (that-host reset_over))
 
 pub returns-clause-again : goal.returns-clause-again
 unfolding lowest all_empty

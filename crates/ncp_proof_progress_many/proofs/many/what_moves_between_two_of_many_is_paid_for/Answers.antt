@@ -1,5 +1,5 @@
 use Rattle.std.proofs.Common.{◌+◌, ◌≤◌, List}
-use Rattle.ncp_proof_machine.specs.Hosts as hosts
+use Rattle.ncp_proof_machine.specs.Hosts.{TwoNodes}
 use Rattle.ncp_transcript_two.specs.Tie.{Tied}
 use Rattle.ncp_transcript_two.specs.Seen.{histories}
 use Rattle.ncp_transcript_two.specs.Watch.{no_histories}
@@ -11,7 +11,7 @@ use Rattle.ncp_proof_settling.specs.Settled.{IsSettled, AreFinished}
 use Rattle.ncp_proof_progress_many.proofs.many.what_moves_between_two_of_many_is_paid_for.Goals as goal
 
 pub returns-clause-work : goal.returns-clause-work
-returns-clause-work c = for-two (λ ns h v. (x : hosts.World) × Tied x v × (notes_move ns + work x ≤ notes_allow ns h)) c.moves_are_paid_for.ensures.work
+returns-clause-work c = for-two (λ ns h v. (x : TwoNodes) × Tied x v × (notes_move ns + work x ≤ notes_allow ns h)) c.moves_are_paid_for.ensures.work
 
 pub returns-clause-waits : goal.returns-clause-waits
 returns-clause-waits c = for-two (λ ns h v. LeftWaits v.this × LeftWaits v.that) c.what_is_left_waits_for_something.ensures

@@ -3,19 +3,19 @@ use Rattle.std.proofs.Common.{◌≡◌, true, false, List, [], ◌∷◌, refl}
 use Rattle.ncp_terms.specs.declared.command.Command.{Command}
 use Rattle.ncp_terms.specs.declared.command.Command.TheVariants.{Rst, Rrp}
 use Rattle.ncp_model.specs.Phase.{Reaction, is_other}
-use Rattle.ncp_proof_resets.specs.Resets.{Event, This, That, Resets, Makes, Sends, Hears, Is_answered, run, is_up}
+use Rattle.ncp_proof_resets.specs.Resets.{ResetEvent, This, That, Resets, Makes, Sends, Hears, Is_answered, reset_run, is_up}
 use Rattle.ncp_proof_resets.proofs.resets.both_come_up.Goals as goal
 
 abbrev quietly : List Reaction
 quietly = record { quiet = true; full = false; replies = [] } ∷ []
 
-abbrev schedule : Command → List Event
+abbrev schedule : Command → List ResetEvent
 schedule c =
     record { side = This; step = Resets true } ∷ record { side = This; step = Sends 0 } ∷ record { side = That; step = Hears quietly }
     ∷ record { side = This; step = Is_answered } ∷ record { side = That; step = Sends 0 } ∷ record { side = This; step = Hears quietly }
     ∷ record { side = This; step = Makes c } ∷ record { side = This; step = Sends 0 } ∷ record { side = That; step = Hears quietly } ∷ []
 
-comes : (c : Command) → is_other c ≡ true → (events : List Event) × (is_up (run events).this ≡ true) × (is_up (run events).that ≡ true) × ((run events).that.came ≡ c ∷ [])
+comes : (c : Command) → is_other c ≡ true → (events : List ResetEvent) × (is_up (reset_run events).this ≡ true) × (is_up (reset_run events).that ≡ true) × ((reset_run events).that.came ≡ c ∷ [])
 comes Rst o = absurd (cc o)
 comes Rrp o = absurd (cc o)
 comes c o = (schedule c, refl, refl, refl)

@@ -1,7 +1,6 @@
 use Rattle.std.proofs.Common.{List, ◌∷◌, ◌++◌, sym, subst}
 use Rattle.ncp_transcript_two.specs.declared.note.Note.{Note}
-use Rattle.ncp_transcript_two.specs.declared.note.Note.TheVariants as notes
-use Rattle.ncp_transcript_two.specs.Between.{after_notes}
+use Rattle.ncp_transcript_two.specs.Between.{hosts_after_notes}
 use Rattle.ncp_transcript_two.specs.Transcript.{began, IsTranscript}
 use Rattle.ncp_transcript_two.specs.Vain.{CannotBe}
 use Rattle.ncp_subnet.specs.Ways.{OnLink}
@@ -14,7 +13,7 @@ returns-clause-carried c ns w side on t = carried-is side on ns w t (c.what_goes
 
 pub returns-clause-vain : goal.returns-clause-vain
 returns-clause-vain c ns w t before after side link wanted e =
-    let at : IsTranscript (before ++ notes.Nothing side link wanted ∷ after) w = subst (λ (xs : List Note). IsTranscript xs w) e t in
-    let v = after_notes before (began w) in
-    let front = begins before (notes.Nothing side link wanted ∷ after) w at in
+    let at : IsTranscript (before ++ Note.Nothing side link wanted ∷ after) w = subst (λ (xs : List Note). IsTranscript xs w) e t in
+    let v = hosts_after_notes before (began w) in
+    let front = begins before (Note.Nothing side link wanted ∷ after) w at in
     subst (λ (has : OnLink). CannotBe wanted has) (sym (carried-is side link before v front (c.what_goes_out_is_taken.ensures before v front))) (c.nothing_is_noted_only_where_nothing_can_be.ensures.moves before after w side link wanted at)

@@ -3,14 +3,14 @@ use Rattle.ncp_model.specs.declared.pair.Pair.{Pair}
 use Rattle.ncp_model.specs.Pairs.{turned}
 use Rattle.ncp_proof_watch.specs.Histories.{Watched, IsBeginning}
 use Rattle.ncp_proof_sharing.specs.Sharing.{shared, Shared}
-use Rattle.ncp_proof_machine.specs.Hosts.{Pasts, World, run, swap, past_of}
-use Rattle.ncp_proof_headline.specs.Tied.{watched, IsTied}
+use Rattle.ncp_proof_machine.specs.Hosts.{Pasts, TwoNodes, run, nodes_swapped, past_of}
+use Rattle.ncp_proof_headline.specs.Tied.{watched_at, IsTied}
 use Rattle.ncp_transcript_two.specs.declared.side.Side.TheVariants.{A, B}
 use Rattle.ncp_proof_statement.proofs.EachMoment.{at-each-moment}
 use Rattle.ncp_proof_statement.proofs.moments.what_is_taken_begins_what_is_given.Goals as goal
 
 -- what a machine says of its ends, said of the hosts and of their histories
-said : (v : World) (s : Shared) (p : Pair) (h k : Pasts) → v.this.pasts ≡ h → v.that.pasts ≡ k → s.sender p ≡ watched v.this p → s.receiver p ≡ watched v.that (turned p) → IsBeginning (s.receiver p).past.taken (s.sender p).past.given
+said : (v : TwoNodes) (s : Shared) (p : Pair) (h k : Pasts) → v.this.pasts ≡ h → v.that.pasts ≡ k → s.sender p ≡ watched_at v.this p → s.receiver p ≡ watched_at v.that (turned p) → IsBeginning (s.receiver p).past.taken (s.sender p).past.given
     → IsBeginning (past_of k (turned p)).taken (past_of h p).given
 said v s p h k e f a b m =
     subst (λ (x : Pasts). IsBeginning (past_of x (turned p)).taken (past_of h p).given) f
@@ -25,5 +25,5 @@ returns c ns w t A pair =
     at-each-moment ns w t A pair (λ s. said (run m.0) (shared tied.0) pair _ _ m.2 m.3 (tied.2 pair s).0 (tied.2 pair s).1 (c.each_loses_and_makes_nothing.ensures.taken tied.0 pair tied.1 s))
 returns c ns w t B pair =
     let m = c.transcripts_are_of_the_model.ensures ns w t in
-    let tied : IsTied (swap (run m.0)) = c.hosts_are_tied_to_machines.ensures.back m.0 in
-    at-each-moment ns w t B pair (λ s. said (swap (run m.0)) (shared tied.0) pair _ _ m.3 m.2 (tied.2 pair s).0 (tied.2 pair s).1 (c.each_loses_and_makes_nothing.ensures.taken tied.0 pair tied.1 s))
+    let tied : IsTied (nodes_swapped (run m.0)) = c.hosts_are_tied_to_machines.ensures.back m.0 in
+    at-each-moment ns w t B pair (λ s. said (nodes_swapped (run m.0)) (shared tied.0) pair _ _ m.3 m.2 (tied.2 pair s).0 (tied.2 pair s).1 (c.each_loses_and_makes_nothing.ensures.taken tied.0 pair tied.1 s))

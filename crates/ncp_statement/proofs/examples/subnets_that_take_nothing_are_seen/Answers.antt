@@ -8,7 +8,7 @@ use Rattle.ncp_transcript_two.specs.declared.note.Note.{Note}
 use Rattle.ncp_transcript_two.specs.declared.note.Note.TheVariants as notes
 use Rattle.ncp_transcript_two.specs.Vain.{CannotBe}
 use Rattle.ncp_statement.specs.Statement.{carried}
-use Rattle.ncp_statement.specs.Examples.{goes_out, comes, is_lost, had_none}
+use Rattle.ncp_statement.specs.Examples.{noted_out, noted_in, is_lost, had_none}
 use Rattle.ncp_statement.proofs.examples.subnets_that_take_nothing_are_seen.Goals as goal
 
 itself : (n : ℕ) → (n == n) ≡ true
@@ -25,16 +25,16 @@ has_answer : (n : ℕ) → Some n ≡ None → ⊥
 has_answer n e = absurd (cc)
 
 pub returns-clause-nothing : goal.returns-clause-nothing
-returns-clause-nothing c m t = accepted_it (on m (λ b. is_accepted (if b then Accepted m else Free) ≡ false) (t (goes_out m ∷ []) [] A (link_in m) moves.Deliver refl))
+returns-clause-nothing c m t = accepted_it (on m (λ b. is_accepted (if b then Accepted m else Free) ≡ false) (t (noted_out m ∷ []) [] A (link_in m) moves.Deliver refl))
 
 pub returns-clause-none_lost : goal.returns-clause-none_lost
-returns-clause-none_lost c m t = accepted_it (on m (λ b. is_accepted (if b then Accepted m else Free) ≡ false) (t (goes_out m ∷ []) [] A (link_in m) moves.Lose refl))
+returns-clause-none_lost c m t = accepted_it (on m (λ b. is_accepted (if b then Accepted m else Free) ≡ false) (t (noted_out m ∷ []) [] A (link_in m) moves.Lose refl))
 
 pub returns-clause-unanswered : goal.returns-clause-unanswered
-returns-clause-unanswered c m n r t = has_answer _ (on m (λ b. answer_kind (if b then Delivered else (if b then Accepted m else Free)) ≡ None) (t (goes_out m ∷ comes m n r ∷ []) [] A (link_in m) moves.Answer refl))
+returns-clause-unanswered c m n r t = has_answer _ (on m (λ b. answer_kind (if b then Delivered else (if b then Accepted m else Free)) ≡ None) (t (noted_out m ∷ noted_in m n r ∷ []) [] A (link_in m) moves.Answer refl))
 
 pub returns-clause-untold : goal.returns-clause-untold
-returns-clause-untold c m t = has_answer _ (on m (λ b. answer_kind (if b then Lost else (if b then Accepted m else Free)) ≡ None) (t (goes_out m ∷ is_lost m ∷ []) [] A (link_in m) moves.Answer refl))
+returns-clause-untold c m t = has_answer _ (on m (λ b. answer_kind (if b then Lost else (if b then Accepted m else Free)) ≡ None) (t (noted_out m ∷ is_lost m ∷ []) [] A (link_in m) moves.Answer refl))
 
 abbrev Behind : Note → Note → Type 0
 Behind first (notes.Nothing side link wanted) = CannotBe wanted (carried side link (first ∷ []))
@@ -55,11 +55,11 @@ returns-clause-not_yet c m before after side link wanted e = go before e
     here true = refl
     here false = refl
 
-    go : (before : List Note) → goes_out m ∷ had_none m moves.Answer ∷ [] ≡ before ++ notes.Nothing side link wanted ∷ after → CannotBe wanted (carried side link before)
+    go : (before : List Note) → noted_out m ∷ had_none m moves.Answer ∷ [] ≡ before ++ notes.Nothing side link wanted ∷ after → CannotBe wanted (carried side link before)
     go [] e = absurd (cc e)
     go (x ∷ []) e =
-        let one : goes_out m ≡ x = ap (first_or (goes_out m)) e in
-        let two : had_none m moves.Answer ≡ notes.Nothing side link wanted = ap (second_or (goes_out m)) e in
+        let one : noted_out m ≡ x = ap (first_or (noted_out m)) e in
+        let two : had_none m moves.Answer ≡ notes.Nothing side link wanted = ap (second_or (noted_out m)) e in
         subst (λ (n : Note). Behind x n) two (subst (λ (n : Note). Behind n (had_none m moves.Answer)) one (here (link_in m == link_in m)))
     go (x ∷ y ∷ []) e = absurd (cc e)
     go (x ∷ y ∷ z ∷ rest) e = absurd (cc e)

@@ -1,6 +1,6 @@
 use Rattle.std.proofs.Common.{◌≡◌, ◌≤◌, ℕ, ◌==◌, Bool, true, false, List, [], ◌∷◌, length, refl, sym, subst, arith}
 use Rattle.ncp_subnet.specs.Messages.{link_in, from_host}
-use Rattle.ncp_transcript_two.specs.Honest.{Deed, Sent, Comes, Taken, Refused, Clear, HonestFrom, if_on, sent_from, coming, IsBeginning}
+use Rattle.ncp_transcript_two.specs.Honest.{MessageDeed, Sent, Comes, Taken, Refused, Clear, HonestFrom, if_on, sent_from, messages_coming, IsBeginningWithin}
 use Rattle.ncp_transcript_two.specs.declared.side.Side.TheVariants.{A, B}
 use Rattle.ncp_statement.proofs.examples.wrong_subnets_are_seen.Goals as goal
 
@@ -31,8 +31,8 @@ returns-clause-unsaid c m r t = on m (λ b. HonestFrom 1 Clear (if_on b (Sent m)
 pub returns-clause-denied : goal.returns-clause-denied
 returns-clause-denied c m r s t = (on m (λ b. HonestFrom 1 Clear (if_on b (Sent m) ∷ if_on b (Comes (from_host 1 m)) ∷ if_on b Refused ∷ [])) (t A (link_in m))).1
 
-abbrev Behind : List Deed → Type 0
-Behind ds = IsBeginning 1 (coming ds) (sent_from 1 true ds)
+abbrev Behind : List MessageDeed → Type 0
+Behind ds = IsBeginningWithin 1 (messages_coming ds) (sent_from 1 true ds)
 
 came_more : (n : List Bool) (rest : List (List Bool)) → [] ≡ n ∷ rest → ⊥
 came_more n rest e = absurd (cc e)

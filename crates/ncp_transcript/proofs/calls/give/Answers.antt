@@ -1,6 +1,6 @@
 use Rattle.std.proofs.Common.{◌≡◌, Bool, List, sym, ap, ◌∙◌}
 use Rattle.ncp_model.specs.Peers.{Give}
-use Rattle.ncp_host.specs.Calls.{call_reply, after_call}
+use Rattle.ncp_host.specs.Calls.{call_reply, after_call_to}
 use Rattle.ncp_transcript.specs.declared.call.Call.TheVariants as calls
 use Rattle.ncp_transcript.specs.Notes.{done_or_refused}
 use Rattle.ncp_transcript.proofs.Doing.{done_or_stays}
@@ -18,4 +18,4 @@ pub returns-clause-host : goal.returns-clause-host
 returns-clause-host g c =
     let peer = c.args.peer in let pair = c.args.pair in let h = c.args.host.now in
     done_or_stays (calls.Give peer pair c.in_ok-text.text) c.give-reply.result c.done.result h c.give-reply.new.self c.done.ensures
-    (c.give-reply.ensures.host ∙ ap (λ (bits : List Bool). after_call peer pair (Give bits) h) (sym c.in_ok-text.ensures)) c.give-reply.ensures.err
+    (c.give-reply.ensures.host ∙ ap (λ (bits : List Bool). after_call_to peer pair (Give bits) h) (sym c.in_ok-text.ensures)) c.give-reply.ensures.err

@@ -1,10 +1,10 @@
 use Rattle.std.proofs.Common.{◌≡◌, ℕ, true, List}
 use Rattle.ncp_model.specs.declared.pair.Pair.{Pair}
 use Rattle.ncp_model.specs.Pairs.{sends}
-use Rattle.ncp_proof_resets.specs.Resets.{Side}
+use Rattle.ncp_proof_resets.specs.Resets.{Party}
 use Rattle.ncp_proof_machine.specs.Hosts as hosts
 use Rattle.ncp_transcript_two.specs.World.{World, swap}
-use Rattle.ncp_transcript_two.specs.Honest.{IsHonest, IsBeginning, number_of_side, sent, came}
+use Rattle.ncp_transcript_two.specs.Honest.{IsHonest, IsBeginningWithin, number_of_side, sent, came}
 use Rattle.ncp_transcript_two.specs.Watch.{Both, no_histories, turn}
 use Rattle.ncp_transcript_two.specs.Streams.{GotIsBeginning}
 use Rattle.ncp_transcript_two.specs.Tie.{Tied}
@@ -14,7 +14,7 @@ use Rattle.ncp_transcript_two.specs.Seen.{told, histories}
 use Rattle.ncp_proof_promises.specs.EachNote.{OfEachNote}
 use Rattle.ncp_proof_promises.specs.Judged.{ActsOnce, MakesNoErr}
 use Rattle.ncp_proof_promises.specs.Errless.{HasNoErr}
-use Rattle.ncp_proof_promises.specs.Resetting.{Waits, StillWaits, OnlyResetsAct}
+use Rattle.ncp_proof_promises.specs.Resetting.{AwaitsReply, StillWaits, OnlyResetsAct}
 use Rattle.ncp_proof_promises.specs.Openings.{OpensUnderNoText}
 use Rattle.ncp_proof_promises.specs.Since.{none_watched, watched_from, other_way, CommandsAgree}
 use Rattle.ncp_proof_promises.specs.Promised.{IsOnce, IsAllowed, AreBalanced}
@@ -41,7 +41,7 @@ pub returns-clause-ledger : goal.returns-clause-ledger
 returns-clause-ledger c = for-two (Either AreBalanced) c.the_headline.ensures.ledger
 
 pub returns-clause-order : goal.returns-clause-order
-returns-clause-order c = for-two (λ ns h v. (side : Side) (on : ℕ) → IsBeginning 1 (came side on (told ns)) (sent (number_of_side v.here v.there side) side on (told ns))) c.the_headline.ensures.order
+returns-clause-order c = for-two (λ ns h v. (side : Party) (on : ℕ) → IsBeginningWithin 1 (came side on (told ns)) (sent (number_of_side v.here v.there side) side on (told ns))) c.the_headline.ensures.order
 
 pub returns-clause-commands : goal.returns-clause-commands
 returns-clause-commands c = for-two (λ ns h v. CommandsAgree v (watched_from ns h none_watched) × CommandsAgree (swap v) (other_way (watched_from ns h none_watched))) c.the_headline.ensures.commands
@@ -59,10 +59,10 @@ pub returns-clause-resets : goal.returns-clause-resets
 returns-clause-resets c = for-two (λ ns h v. OfEachNote OnlyResetsAct ns h) c.only_resets_act_until_the_answer.ensures.acts
 
 pub returns-clause-waits : goal.returns-clause-waits
-returns-clause-waits c = for-two (λ ns h v. (Waits v.this → StillWaits v.this) × (Waits v.that → StillWaits v.that)) c.only_resets_act_until_the_answer.ensures.waiting
+returns-clause-waits c = for-two (λ ns h v. (AwaitsReply v.this → StillWaits v.this) × (AwaitsReply v.that → StillWaits v.that)) c.only_resets_act_until_the_answer.ensures.waiting
 
 pub returns-clause-openings : goal.returns-clause-openings
 returns-clause-openings c = for-two (λ ns h v. OfEachNote OpensUnderNoText ns h) c.none_opens_while_its_link_has_a_text.ensures
 
 pub returns-clause-model : goal.returns-clause-model
-returns-clause-model c = for-two (λ ns h v. (events : List hosts.Event) × Tied (hosts.run events) v × ((hosts.run events).this.pasts ≡ (histories ns h no_histories).this) × ((hosts.run events).that.pasts ≡ (histories ns h no_histories).that)) c.transcripts_are_of_the_model.ensures
+returns-clause-model c = for-two (λ ns h v. (events : List hosts.NodeEvent) × Tied (hosts.run events) v × ((hosts.run events).this.pasts ≡ (histories ns h no_histories).this) × ((hosts.run events).that.pasts ≡ (histories ns h no_histories).that)) c.transcripts_are_of_the_model.ensures

@@ -14,7 +14,7 @@ use Rattle.ncp_transcript_two.specs.World as worlds
 use Rattle.ncp_transcript_two.proofs.laws.one_peer_is_its_state.Goals as goal
 
 after : (me number : ℕ) (i : Ignored) (s : PeerState) (bits : List Bool) (l : Leader) → leader_in bits ≡ Ok l → is_kind l.kind ≡ true → l.host ≡ number
-    → arrivals.after_received bits (one_peer me number i s) ≡ one_peer me number i (worlds.after_received bits s)
+    → arrivals.after_received bits (one_peer me number i s) ≡ one_peer me number i (worlds.state_after_received bits s)
 after me number i s bits l e k n =
     let h : Host = one_peer me number i s in
     let same : (number == l.host) ≡ true = eq-eqb number l.host (sym n) in
@@ -22,7 +22,7 @@ after me number i s bits l e k n =
     ∙ ap (λ (b : Bool). if b then arrivals.after_from (state_of h l.host) l bits h else arrivals.one_other h) k
     ∙ ap (λ (b : Bool). arrivals.after_from (if b then Some s else None) l bits h) same
     ∙ ap (λ (b : Bool). (let x : Host = record h { peers = if b then (number, after_bits l bits s) ∷ [] else (number, s) ∷ [] } in x)) same
-    ∙ ap (λ (r : Result Leader Short). one_peer me number i (worlds.after_with r bits s)) (sym e)
+    ∙ ap (λ (r : Result Leader Short). one_peer me number i (worlds.state_after_with r bits s)) (sym e)
 
 pub returns-clause-after : goal.returns-clause-after
 returns-clause-after c = after

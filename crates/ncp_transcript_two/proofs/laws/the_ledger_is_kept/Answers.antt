@@ -1,5 +1,5 @@
 use Rattle.std.proofs.Common.{List}
-use Rattle.ncp_transcript_two.specs.World.{World, Event, swap, run_from}
+use Rattle.ncp_transcript_two.specs.World.{World, WorldEvent, swap, world_run_from}
 use Rattle.ncp_transcript_two.specs.Watch.{turn, no_histories, histories_from}
 use Rattle.ncp_transcript_two.specs.Tie.{IsNewWorld, AreEvents}
 use Rattle.ncp_transcript_two.proofs.Runs.{OfModelWith, run-watched, new-watched}
@@ -7,14 +7,14 @@ use Rattle.ncp_transcript_two.proofs.Carried.{turned-over}
 use Rattle.ncp_transcript_two.proofs.Underway.{messages-carried, bits-carried, parted-carried}
 use Rattle.ncp_transcript_two.proofs.laws.the_ledger_is_kept.Goals as goal
 
-whole : (v : World) (es : List Event) → IsNewWorld v → AreEvents es → OfModelWith (histories_from es v no_histories) (run_from es v)
+whole : (v : World) (es : List WorldEvent) → IsNewWorld v → AreEvents es → OfModelWith (histories_from es v no_histories) (world_run_from es v)
 whole v es new ok = run-watched es v no_histories ok (new-watched v new)
 
 pub returns-clause-messages : goal.returns-clause-messages
-returns-clause-messages c = λ v es pair new ok s. (let p = histories_from es v no_histories in let t = whole v es new ok in (messages-carried pair s (run_from es v) p t, messages-carried pair s (swap (run_from es v)) (turn p) (turned-over (run_from es v) p t)))
+returns-clause-messages c = λ v es pair new ok s. (let p = histories_from es v no_histories in let t = whole v es new ok in (messages-carried pair s (world_run_from es v) p t, messages-carried pair s (swap (world_run_from es v)) (turn p) (turned-over (world_run_from es v) p t)))
 
 pub returns-clause-bits : goal.returns-clause-bits
-returns-clause-bits c = λ v es pair new ok s. (let p = histories_from es v no_histories in let t = whole v es new ok in (bits-carried pair s (run_from es v) p t, bits-carried pair s (swap (run_from es v)) (turn p) (turned-over (run_from es v) p t)))
+returns-clause-bits c = λ v es pair new ok s. (let p = histories_from es v no_histories in let t = whole v es new ok in (bits-carried pair s (world_run_from es v) p t, bits-carried pair s (swap (world_run_from es v)) (turn p) (turned-over (world_run_from es v) p t)))
 
 pub returns-clause-parted : goal.returns-clause-parted
-returns-clause-parted c = λ v es pair new ok s. (let p = histories_from es v no_histories in let t = whole v es new ok in (parted-carried pair s (run_from es v) p t, parted-carried pair s (swap (run_from es v)) (turn p) (turned-over (run_from es v) p t)))
+returns-clause-parted c = λ v es pair new ok s. (let p = histories_from es v no_histories in let t = whole v es new ok in (parted-carried pair s (world_run_from es v) p t, parted-carried pair s (swap (world_run_from es v)) (turn p) (turned-over (world_run_from es v) p t)))

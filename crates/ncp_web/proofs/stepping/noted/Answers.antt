@@ -1,6 +1,6 @@
 use Rattle.std.proofs.Common.{◌∙◌, ℕ, if◌then◌else◌, Some, ap, subst}
 use Rattle.ncp_play_stream.specs.Streams.{SaysText, SaysBeginning}
-use Rattle.ncp_web.specs.Sessions.{number_of}
+use Rattle.ncp_web.specs.Sessions.{note_number}
 use Rattle.ncp_web.proofs.stepping.noted.Goals as goal
 
 pub returns-in-Ok-say-clause-notes : goal.returns-in-Ok-say-clause-notes
@@ -9,7 +9,7 @@ returns-in-Ok-say-clause-notes g c =
     let old = Some c.args.out.now.sink.now.written in let now = Some c.say.new.out.sink.now.written in let last = c.say.new.out.page.now in let more = c.in-Ok.more in
     let part = c.in-Ok.ensures.part in
     let one = g.met.C.Scene.noted_one c.args.event.now c.args.left.now more before hosts part in
-    let number = c.number_of.ensures ∙ ap number_of c.told.ensures in
+    let number = c.number_of.ensures ∙ ap note_number c.told.ensures in
     let left = c.left_then.ensures ∙ ap (λ (n : ℕ). if more then n else 0) c.in-Some.ensures.1 in
     (one.0, (part, one.1), left, subst (λ (n : ℕ). SaysText page old (tale.of_note n one.0 hosts) last now) number (c.in-Ok-say.ensures.told (rules.notes before) one.0 one.1))
 
@@ -19,6 +19,6 @@ returns-in-Err-clause-notes g c =
     let old = Some c.args.out.now.sink.now.written in let now = Some c.say.new.out.sink.now.written in let more = c.in-Ok.more in
     let part = c.in-Ok.ensures.part in
     let one = g.met.C.Scene.noted_one c.args.event.now c.args.left.now more before hosts part in
-    let number = c.number_of.ensures ∙ ap number_of c.told.ensures in
+    let number = c.number_of.ensures ∙ ap note_number c.told.ensures in
     let left = c.left_then.ensures ∙ ap (λ (n : ℕ). if more then n else 0) c.in-Some.ensures.1 in
     (more, one.0, (part, one.1), left, subst (λ (n : ℕ). SaysBeginning page old (tale.of_note n one.0 hosts) now) number (c.in-Err.ensures.told (rules.notes before) one.0 one.1))

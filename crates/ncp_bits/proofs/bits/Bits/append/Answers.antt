@@ -1,6 +1,6 @@
 use Rattle.std.proofs.Common.{◌≡◌, ◌+◌, ◌++◌, List, ℕ, length, take, drop, refl, sym, ap, ◌∙◌, arith}
 use Rattle.std.proofs.lemmas.List.{take_at, length-append}
-use Rattle.ncp_bits.specs.Packed.{run}
+use Rattle.ncp_bits.specs.Packed.{bit_run}
 use Rattle.ncp_bits.proofs.Runs.{length-packed, run-take}
 use Rattle.ncp_bits.proofs.bits.Bits.append.Goals as goal
 
@@ -31,13 +31,13 @@ returns-clause-variant c =
 pub returns-clause-ok : goal.returns-clause-ok
 returns-clause-ok c =
     let e : length c.as_mut_slice.result.now ≡ length c.lengthen.new.bytes.items = ap length c.as_mut_slice.ensures.value in
-    ap (λ (bytes : List ℕ). run bytes 0 (c.self.inside.len + c.len-2.result)) (same c)
-    ∙ ap (run c.write_behind.new.out 0) (now c)
+    ap (λ (bytes : List ℕ). bit_run bytes 0 (c.self.inside.len + c.len-2.result)) (same c)
+    ∙ ap (bit_run c.write_behind.new.out 0) (now c)
     ∙ c.write_behind.ensures
     ∙ ap (λ bits. bits ++ c.args.part) (
-    ap (λ (bytes : List ℕ). run bytes 0 c.self.inside.len) c.as_mut_slice.ensures.value
+    ap (λ (bytes : List ℕ). bit_run bytes 0 c.self.inside.len) c.as_mut_slice.ensures.value
     ∙ sym (run-take c.lengthen.new.bytes.items (length c.self.inside.bytes.items) 0 c.self.inside.len (omega arith) (omega (arith, c.self.invariant.inside)))
-    ∙ ap (λ (bytes : List ℕ). run bytes 0 c.self.inside.len) c.lengthen.ensures.front
+    ∙ ap (λ (bytes : List ℕ). bit_run bytes 0 c.self.inside.len) c.lengthen.ensures.front
     ∙ c.self.view_is)
 
 pub returns-clause-len : goal.returns-clause-len

@@ -1,6 +1,6 @@
 use Rattle.std.proofs.Common.{◌≡◌, ◌∙◌, ◌++◌, refl, sym, ap, length, take, drop, Ok, List, ℕ, arith}
 use Rattle.std.proofs.lemmas.List.{take_at}
-use Rattle.ncp_bits.specs.Packed.{run}
+use Rattle.ncp_bits.specs.Packed.{bit_run}
 use Rattle.ncp_bits.proofs.Runs.{run-append, length-packed}
 use Rattle.ncp_bits.proofs.bits.Bits.copy_from_bytes.Goals as goal
 
@@ -26,7 +26,7 @@ returns-clause-ok c =
     let used = c.in_ok-taken.ensures.used in
     c.in_ok-taken.ensures.read
     ∙ ap Ok (sym (run-append taken (drop (length taken) c.as_mut_slice.result.now) 0 c.args.len (omega arith)))
-    ∙ ap (λ (bytes : List ℕ). Ok (run bytes 0 c.args.len)) (sym (now c))
+    ∙ ap (λ (bytes : List ℕ). Ok (bit_run bytes 0 c.args.len)) (sym (now c))
 
 pub returns-clause-len : goal.returns-clause-len
 returns-clause-len c = sym (length-packed (invariant_of-self c) refl)

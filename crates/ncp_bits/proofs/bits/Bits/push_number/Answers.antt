@@ -2,7 +2,7 @@ use Rattle.std.proofs.Common.{◌≡◌, ◌+◌, ◌-◌, ◌++◌, ℕ, List, 
 use Rattle.std.proofs.lemmas.Result.{IfOk-at_ok}
 use Rattle.std.proofs.lemmas.List.{append_assoc, length-append, length-replicate}
 use Rattle.ncp_numbers.specs.Numbers.{bits_of}
-use Rattle.ncp_bits.specs.Packed.{run}
+use Rattle.ncp_bits.specs.Packed.{bit_run}
 use Rattle.ncp_numbers.proofs.Numbers.{bits_of-spelled}
 use Rattle.ncp_bits.proofs.Runs.{run-number, run-zeros, length-packed}
 use Rattle.ncp_bits.proofs.Joins.{min_is}
@@ -32,7 +32,7 @@ widened c =
 appended : (c : goal.After-append-2) → c.append.new.self ++ c.of_bytes-2.result ≡ c.args.self.now ++ bits_of c.args.width c.args.value
 appended c =
     let own : c.of_bytes-2.result ≡ bits_of c.min-spelled.result c.args.value =
-    c.of_bytes-2.ensures.bits ∙ ap (λ (bytes : List ℕ). run bytes (64 - c.min-spelled.result) c.min-spelled.result) c.to_be_bytes-bytes.ensures ∙ run-number c.args.value c.min-spelled.result (omega arith) in
+    c.of_bytes-2.ensures.bits ∙ ap (λ (bytes : List ℕ). bit_run bytes (64 - c.min-spelled.result) c.min-spelled.result) c.to_be_bytes-bytes.ensures ∙ run-number c.args.value c.min-spelled.result (omega arith) in
     ap (λ bits. bits ++ c.of_bytes-2.result) (widened c)
     ∙ append_assoc c.args.self.now (replicate (c.args.width - c.min-spelled.result) false) c.of_bytes-2.result
     ∙ ap (λ bits. c.args.self.now ++ bits) (

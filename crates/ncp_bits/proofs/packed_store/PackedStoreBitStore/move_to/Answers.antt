@@ -2,7 +2,7 @@ use Rattle.std.specs.Box.{boxed_slice_items}
 use Rattle.std.proofs.Common.{◌≡◌, ◌++◌, sym, ap, ◌∙◌, length, take, drop, List, Bool, ℕ, arith}
 use Rattle.std.proofs.lemmas.Result.{IfOk-at_ok}
 use Rattle.ncp_bits.specs.Store.{Stored}
-use Rattle.ncp_bits.specs.Packed.{run}
+use Rattle.ncp_bits.specs.Packed.{bit_run}
 use Rattle.ncp_bits.proofs.Runs.{length-held, take-run, drop-run}
 use Rattle.ncp_bits.proofs.packed_store.PackedStoreBitStore.move_to.Goals as goal
 
@@ -33,7 +33,7 @@ returns-clause-bits c =
     let l : c.self.inside.len ≡ length c.args.self.now.held = length-held c.self.invariant (ap (λ (store : Stored). store.held) c.self.view_is) in
     IfOk-at_ok (λ _. c.append.new.self ≡ c.args.bits.now ++ c.of_bytes.result) c.unwrap.ensures c.append.ensures.ok
     ∙ ap (λ (bits : List Bool). c.args.bits.now ++ bits) (c.of_bytes.ensures.bits
-    ∙ ap (λ (bytes : List ℕ). run bytes c.self.inside.from c.args.count) c.as_slice.ensures.value
+    ∙ ap (λ (bytes : List ℕ). bit_run bytes c.self.inside.from c.args.count) c.as_slice.ensures.value
     ∙ sym (take-run (boxed_slice_items c.self.inside.bytes) c.self.inside.from c.self.inside.len c.args.count (omega arith))
     ∙ ap (λ (store : Stored). take c.args.count store.held) c.self.view_is)
 

@@ -3,7 +3,7 @@ use Rattle.std.proofs.lemmas.List.{append_assoc, append-nil}
 use Rattle.ncp_numbers.specs.Bytes.{bytes_of}
 use Rattle.ncp_terms.specs.declared.command.Command.{Command}
 use Rattle.ncp_terms.specs.declared.fault.CommandFault.{CommandFault}
-use Rattle.ncp_control.specs.Texts.{items_of, commands_of}
+use Rattle.ncp_control.specs.Texts.{items_of, commands_among}
 use Rattle.ncp_control.specs.Reading.{commands_in, fault_in}
 use Rattle.ncp_model.specs.Peers.{Peer}
 use Rattle.ncp_host.specs.declared.counts.Counts.{Counts}
@@ -22,7 +22,7 @@ loop-item-preserved-in-Ok g c = record {
   can = tt;
   ends = tt;
   items = append_assoc c.loop-item.yielded (c.in-Some.item ∷ []) c.next.new.self ∙ ap (λ items. c.loop-item.yielded ++ items) (sym c.in-Some.ensures.steps) ∙ c.loop-item.invariant.items;
-  count = ap (λ n. n + 1) c.loop-item.invariant.count ∙ sym (commands_ok c.loop-item.yielded c.in-Ok.command) ∙ ap (λ x. length (commands_of (c.loop-item.yielded ++ x ∷ []))) (sym c.in-Ok.is);
+  count = ap (λ n. n + 1) c.loop-item.invariant.count ∙ sym (commands_ok c.loop-item.yielded c.in-Ok.command) ∙ ap (λ x. length (commands_among (c.loop-item.yielded ++ x ∷ []))) (sym c.in-Ok.is);
   heard = item_heard c.args.quiet c.loop-item.yielded c.in-Some.item (Ok c.in-Ok.command) (c.args.self.now, c.args.counts.now) (c.loop-item.self, c.loop-item.counts) (c.hear.new.self, c.hear.new.counts)
       c.in-Ok.is c.loop-item.invariant.heard (both c.hear.ensures.peer c.hear.ensures.counts);
 }
@@ -32,7 +32,7 @@ loop-item-preserved g c = record {
   can = tt;
   ends = tt;
   items = append_assoc c.loop-item.yielded (c.in-Some.item ∷ []) c.next.new.self ∙ ap (λ items. c.loop-item.yielded ++ items) (sym c.in-Some.ensures.steps) ∙ c.loop-item.invariant.items;
-  count = c.loop-item.invariant.count ∙ sym (commands_err c.loop-item.yielded c.in-Err.fault) ∙ ap (λ x. length (commands_of (c.loop-item.yielded ++ x ∷ []))) (sym c.in-Err.is);
+  count = c.loop-item.invariant.count ∙ sym (commands_err c.loop-item.yielded c.in-Err.fault) ∙ ap (λ x. length (commands_among (c.loop-item.yielded ++ x ∷ []))) (sym c.in-Err.is);
   heard = item_heard c.args.quiet c.loop-item.yielded c.in-Some.item (Err c.in-Err.fault) (c.args.self.now, c.args.counts.now) (c.loop-item.self, c.loop-item.counts) (c.hear_fault.new.self, c.hear_fault.new.counts)
       c.in-Err.is c.loop-item.invariant.heard (both c.hear_fault.ensures.peer c.hear_fault.ensures.counts);
 }

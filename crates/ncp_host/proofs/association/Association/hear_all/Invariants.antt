@@ -1,5 +1,5 @@
 use Rattle.std.proofs.Common.{◌≡◌, ◌++◌, length}
-use Rattle.ncp_control.specs.Texts.{commands_of}
+use Rattle.ncp_control.specs.Texts.{commands_among}
 use Rattle.ncp_host.specs.Steps.{heard_items}
 use Rattle.ncp_host.proofs.association.Association.hear_all.Given as goal
 
@@ -8,6 +8,6 @@ invariant-loop-item g l = record {
   can : (goal.iterator-loop-item g).can_next l.item-iterator;
   ends : (goal.iterator-loop-item g).is_finite l.item-iterator;
   items : l.yielded ++ l.item-iterator ≡ l.initial.item-iterator;
-  count : l.count ≡ length (commands_of l.yielded);
+  count : l.count ≡ length (commands_among l.yielded);
   heard : (l.self, l.counts) ≡ heard_items l.fn.quiet l.yielded (l.initial.self, l.initial.counts);
 }

@@ -1,7 +1,7 @@
 use Rattle.std.proofs.Common.{true, sym, ap, ◌∙◌}
 use Rattle.std.specs.List.{list_all}
 use Rattle.ncp_model.specs.Peers.{Peer}
-use Rattle.ncp_host.specs.Soundness.{is_short}
+use Rattle.ncp_host.specs.Soundness.{has_short_data}
 use Rattle.ncp_host.proofs.Placed.{placed_agree, all_short}
 use Rattle.ncp_host.proofs.association.Association.is_well.Goals as goal
 
@@ -9,4 +9,4 @@ pub returns-then-are_placed-clause-agree : goal.returns-then-are_placed-clause-a
 returns-then-are_placed-clause-agree g c = λ _. placed_agree c.args.self.now.ends c.args.slots.now (c.are_placed.ensures c.if-are_placed.true)
 
 pub returns-then-are_placed-clause-fit : goal.returns-then-are_placed-clause-fit
-returns-then-are_placed-clause-fit g c = λ e. all_short c.args.self.now.phase.waiting (ap (λ (p : Peer). list_all is_short p.phase.waiting) (sym c.self.view_is) ∙ sym c.is_short.ensures ∙ e)
+returns-then-are_placed-clause-fit g c = λ e. all_short c.args.self.now.phase.waiting (ap (λ (p : Peer). list_all has_short_data p.phase.waiting) (sym c.self.view_is) ∙ sym c.is_short.ensures ∙ e)

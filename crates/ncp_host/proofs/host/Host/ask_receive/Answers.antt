@@ -2,7 +2,7 @@ use Rattle.std.proofs.Common.{inl, Err, ap, ◌∙◌}
 use Rattle.std.specs.Box.{boxed_slice_items}
 use Rattle.std.proofs.lemmas.Result.{err_from_is_err_and}
 use Rattle.ncp_model.specs.Peers.{Ask_to_receive, comes_of, reply}
-use Rattle.ncp_host.specs.PeerState.{calls}
+use Rattle.ncp_host.specs.PeerState.{state_calls}
 use Rattle.ncp_host.specs.Calls.{sockets}
 use Rattle.ncp_host.proofs.Calling.{host_called, called_lives, stays, unknown, untouched}
 use Rattle.ncp_host.proofs.host.Host.ask_receive.Goals as goal
@@ -28,7 +28,7 @@ returns-in_err-place-clause-done g c =
       told,
       untouched c.self.inside.me c.self.inside.numbers.items (boxed_slice_items c.self.inside.peers) c.self.inside.ignored c.args.peer
           c.args.self.now c.as_slice.result.now c.deref.result.now c.in_err-place.field-0.0 c.self.view_is c.as_slice.ensures.value c.deref.ensures.value c.in_err-place.ensures.found
-          (calls (sockets c.args.local c.args.remote) (Ask_to_receive c.args.room)),
+          (state_calls (sockets c.args.local c.args.remote) (Ask_to_receive c.args.room)),
     )
 
 pub invariant_of-self : goal.invariant_of-self

@@ -1,7 +1,7 @@
 use Rattle.std.proofs.Common.{Ok, Err, refl, ap, ◌∙◌}
 use Rattle.std.specs.Box.{boxed_slice_items}
 use Rattle.std.proofs.lemmas.Result.{err_from_is_err_and}
-use Rattle.ncp_host.specs.PeerState.{calls_wake}
+use Rattle.ncp_host.specs.PeerState.{state_calls_wake}
 use Rattle.ncp_host.specs.Running.{Wakes}
 use Rattle.ncp_host.proofs.Calling.{answered, became, lives, unknown, untouched}
 use Rattle.ncp_host.proofs.host.Host.wake.Goals as goal
@@ -10,7 +10,7 @@ pub returns-clause-host : goal.returns-clause-host
 returns-clause-host g c =
     became c.self.inside.me c.self.inside.numbers.items (boxed_slice_items c.self.inside.peers) c.self.inside.ignored c.args.peer c.in_ok-place.place c.index_mut.result.now c.index_mut.result.now
     c.args.self.now c.as_slice.result.now c.deref.result.now c.self.view_is c.as_slice.ensures.value c.deref.ensures.value c.in_ok-place.ensures.found c.in_ok-place.ensures.inside c.index_mut.ensures.value
-    calls_wake c.wake.new.self c.wake.ensures
+    state_calls_wake c.wake.new.self c.wake.ensures
 
 pub returns-clause-reply : goal.returns-clause-reply
 returns-clause-reply g c =
@@ -29,10 +29,10 @@ pub returns-in_err-place-clause-host : goal.returns-in_err-place-clause-host
 returns-in_err-place-clause-host g c =
     untouched c.self.inside.me c.self.inside.numbers.items (boxed_slice_items c.self.inside.peers) c.self.inside.ignored c.args.peer
     c.args.self.now c.as_slice.result.now c.deref.result.now c.in_err-place.field-0.0 c.self.view_is c.as_slice.ensures.value c.deref.ensures.value c.in_err-place.ensures.found
-    calls_wake
+    state_calls_wake
 
 pub invariant_of-self : goal.invariant_of-self
 invariant_of-self g c =
     lives c.self.inside.me c.self.inside.numbers.items (boxed_slice_items c.self.inside.peers) c.self.inside.ignored c.args.peer c.in_ok-place.place c.index_mut.result.now c.index_mut.result.now
     c.args.self.now c.as_slice.result.now c.deref.result.now c.self.view_is c.as_slice.ensures.value c.deref.ensures.value c.in_ok-place.ensures.found c.in_ok-place.ensures.inside c.index_mut.ensures.value
-    (Wakes c.args.peer) calls_wake c.wake.new.self c.wake.ensures refl c.self.invariant
+    (Wakes c.args.peer) state_calls_wake c.wake.new.self c.wake.ensures refl c.self.invariant

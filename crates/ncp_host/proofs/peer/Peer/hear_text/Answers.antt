@@ -1,6 +1,6 @@
 use Rattle.std.proofs.Common.{◌≡◌, inl, inr, ℕ, sym, ap, ◌∙◌}
 use Rattle.ncp_host.specs.PeerState.{PeerState}
-use Rattle.ncp_host.specs.Hearing.{text_after, text_received}
+use Rattle.ncp_host.specs.Hearing.{state_after_text, text_received}
 use Rattle.ncp_host.specs.Counting.{counts_of_text}
 use Rattle.ncp_host.proofs.Receiving.{down_received, down_heard, up_received, up_heard}
 use Rattle.ncp_host.proofs.peer.Peer.hear_text.Goals as goal
@@ -15,7 +15,7 @@ pub returns-then-not-is_up-clause-state : goal.returns-then-not-is_up-clause-sta
 returns-then-not-is_up-clause-state g c =
     let s : PeerState = record { peer = c.self.inside.association; slots = c.self.inside.slots; counts = c.self.inside.counts } in
     down_heard c.args.link c.args.head c.args.message.now s c.one_more-self-inside.result (sym c.is_up.ensures ∙ c.if-not-is_up.true) c.one_more-self-inside.ensures
-    ∙ ap (text_after c.args.link c.args.head c.args.message.now) c.self.view_is
+    ∙ ap (state_after_text c.args.link c.args.head c.args.message.now) c.self.view_is
 
 pub returns-in-Late-clause-received : goal.returns-in-Late-clause-received
 returns-in-Late-clause-received g c =
@@ -29,7 +29,7 @@ returns-in-Late-clause-state g c =
     up_heard c.args.link c.args.head c.args.message.now s c.size.result c.text.result c.hear_text-took.result (sym c.is_up.ensures ∙ c.if-not-is_up.false) c.size.ensures.size c.text.ensures.text c.hear_text-took.ensures.took
     c.hear_text-took.new.self _ c.hear_text-took.ensures.peer
     (ap (λ (n : ℕ). record s.counts { late = n }) c.one_more-self-inside-in-Late.ensures ∙ sym (ap (λ t. counts_of_text t s.counts) c.in-Late.is))
-    ∙ ap (text_after c.args.link c.args.head c.args.message.now) c.self.view_is
+    ∙ ap (state_after_text c.args.link c.args.head c.args.message.now) c.self.view_is
 
 pub returns-in-WrongSize-clause-received : goal.returns-in-WrongSize-clause-received
 returns-in-WrongSize-clause-received g c =
@@ -43,7 +43,7 @@ returns-in-WrongSize-clause-state g c =
     up_heard c.args.link c.args.head c.args.message.now s c.size.result c.text.result c.hear_text-took.result (sym c.is_up.ensures ∙ c.if-not-is_up.false) c.size.ensures.size c.text.ensures.text c.hear_text-took.ensures.took
     c.hear_text-took.new.self _ c.hear_text-took.ensures.peer
     (ap (λ (n : ℕ). record s.counts { wrong_size = n }) c.one_more-self-inside-in-WrongSize.ensures ∙ sym (ap (λ t. counts_of_text t s.counts) c.in-WrongSize.is))
-    ∙ ap (text_after c.args.link c.args.head c.args.message.now) c.self.view_is
+    ∙ ap (state_after_text c.args.link c.args.head c.args.message.now) c.self.view_is
 
 pub returns-in-Over-clause-received : goal.returns-in-Over-clause-received
 returns-in-Over-clause-received g c =
@@ -57,7 +57,7 @@ returns-in-Over-clause-state g c =
     up_heard c.args.link c.args.head c.args.message.now s c.size.result c.text.result c.hear_text-took.result (sym c.is_up.ensures ∙ c.if-not-is_up.false) c.size.ensures.size c.text.ensures.text c.hear_text-took.ensures.took
     c.hear_text-took.new.self _ c.hear_text-took.ensures.peer
     (ap (λ (n : ℕ). record s.counts { over = n }) c.one_more-self-inside-in-Over.ensures ∙ sym (ap (λ t. counts_of_text t s.counts) c.in-Over.is))
-    ∙ ap (text_after c.args.link c.args.head c.args.message.now) c.self.view_is
+    ∙ ap (state_after_text c.args.link c.args.head c.args.message.now) c.self.view_is
 
 pub returns-in-Admitted-clause-received : goal.returns-in-Admitted-clause-received
 returns-in-Admitted-clause-received g c =
@@ -74,4 +74,4 @@ returns-in-Admitted-clause-state g c =
     ] in
     up_heard c.args.link c.args.head c.args.message.now s c.size.result c.text.result c.hear_text-took.result (sym c.is_up.ensures ∙ c.if-not-is_up.false) c.size.ensures.size c.text.ensures.text c.hear_text-took.ensures.took
     c.hear_text-took.new.self c.self.inside.counts c.hear_text-took.ensures.peer counts
-    ∙ ap (text_after c.args.link c.args.head c.args.message.now) c.self.view_is
+    ∙ ap (state_after_text c.args.link c.args.head c.args.message.now) c.self.view_is

@@ -1,6 +1,6 @@
 use Rattle.std.proofs.Common.{subst}
 use Rattle.std.specs.Result.{OnOk}
-use Rattle.ncp_transcript.specs.Alone.{Alone, IsStep}
+use Rattle.ncp_transcript.specs.Alone.{Alone, IsHostStep}
 use Rattle.ncp_transcript.proofs.Growing.{transcript_stepped}
 use Rattle.ncp_transcript.proofs.alone.Alone.step.Goals as goal
 
@@ -12,7 +12,7 @@ invariant_of-self g c =
 pub returns-clause-step : goal.returns-clause-step
 returns-clause-step g c =
     let now : Alone = record { host = c.note.new.host; notes = c.note.new.self } in
-    subst (λ (before : Alone). OnOk c.note.result (IsStep c.args.input.now before now)) c.self.view_is c.note.ensures.step
+    subst (λ (before : Alone). OnOk c.note.result (IsHostStep c.args.input.now before now)) c.self.view_is c.note.ensures.step
 
 pub returns-clause-run : goal.returns-clause-run
 returns-clause-run g c =

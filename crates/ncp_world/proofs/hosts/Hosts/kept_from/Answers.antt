@@ -3,7 +3,7 @@ use Rattle.ncp_subnet.specs.Transit.{is_delivered}
 use Rattle.ncp_host.specs.Host.{state_of}
 use Rattle.ncp_host.specs.Calls.{kept_for}
 use Rattle.ncp_transcript_two.specs.declared.side.Side.{Side}
-use Rattle.ncp_transcript_two.specs.Between.{Hosts, other, number_of, host_of}
+use Rattle.ncp_transcript_two.specs.Between.{Hosts, other, side_number, host_of}
 use Rattle.ncp_world.specs.Reckoning.{unless_came}
 use Rattle.ncp_world.proofs.Delivering.{transit-is}
 use Rattle.ncp_world.proofs.hosts.Hosts.kept_from.Goals as goal
@@ -11,15 +11,15 @@ use Rattle.ncp_world.proofs.hosts.Hosts.kept_from.Goals as goal
 pub returns-then-delivered : goal.returns-then-delivered
 returns-then-delivered g c =
     let was : Hosts = record { number_a = c.self.inside.number_a; number_b = c.self.inside.number_b; a = c.self.inside.a; b = c.self.inside.b; subnet = c.self.inside.subnet } in
-    let kept = kept_for (state_of (host_of c.args.side c.args.self.now) (number_of (other c.args.side) c.args.self.now)) c.args.link in
+    let kept = kept_for (state_of (host_of c.args.side c.args.self.now) (side_number (other c.args.side) c.args.self.now)) c.args.link in
     ap (λ (b : Bool). unless_came b kept)
     (sym c.if-delivered.true ∙ c.delivered.ensures ∙ ap is_delivered (transit-is was c.args.self.now c.args.side c.other.result c.args.link c.number-from.result c.number-to.result c.self.view_is c.number-from.ensures c.other.ensures c.number-to.ensures))
 
 pub returns-else-delivered : goal.returns-else-delivered
 returns-else-delivered g c =
     let was : Hosts = record { number_a = c.self.inside.number_a; number_b = c.self.inside.number_b; a = c.self.inside.a; b = c.self.inside.b; subnet = c.self.inside.subnet } in
-    let to : c.number-to.result ≡ number_of (other c.args.side) c.args.self.now = c.number-to.ensures ∙ ap (λ (s : Side). number_of s c.args.self.now) c.other.ensures in
-    let kept = kept_for (state_of (host_of c.args.side c.args.self.now) (number_of (other c.args.side) c.args.self.now)) c.args.link in
+    let to : c.number-to.result ≡ side_number (other c.args.side) c.args.self.now = c.number-to.ensures ∙ ap (λ (s : Side). side_number s c.args.self.now) c.other.ensures in
+    let kept = kept_for (state_of (host_of c.args.side c.args.self.now) (side_number (other c.args.side) c.args.self.now)) c.args.link in
     c.kept.ensures ∙ (λ k. kept_for (state_of (c.host.ensures k) (to k)) c.args.link)
     ∙ ap (λ (b : Bool). unless_came b kept)
     (sym c.if-delivered.false ∙ c.delivered.ensures ∙ ap is_delivered (transit-is was c.args.self.now c.args.side c.other.result c.args.link c.number-from.result c.number-to.result c.self.view_is c.number-from.ensures c.other.ensures c.number-to.ensures))
