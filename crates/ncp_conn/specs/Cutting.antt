@@ -1,6 +1,6 @@
 -- Which link may send next.
 use Rattle.std.specs.Prelude.{ℕ, zero, suc, ◌+◌, ◌-◌, ◌/◌, Bool, if◌then◌else◌, List, [], length, Option, None, Some, is_some}
-use Rattle.ncp_model.specs.declared.limits.TheConstants.{LAST_LINK}
+use Rattle.ncp_terms.specs.declared.links.TheConstants.{LAST_LINK}
 use Rattle.ncp_model.specs.Act.{answer}
 use Rattle.ncp_model.specs.Ends.{Ends, cut_in}
 

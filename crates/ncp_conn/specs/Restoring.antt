@@ -2,7 +2,8 @@
 use Rattle.std.specs.Prelude.{ℕ, ◌+◌, ◌==◌, ◌≡◌, Bool, true, false, not, ◌&&◌, ◌||◌, nat_le, nat_lt, if◌then◌else◌, is_none, List, length, refl}
 use Rattle.std.specs.FinMap.{get}
 use Rattle.ncp_model.specs.declared.pair.Pair.{Pair}
-use Rattle.ncp_model.specs.declared.limits.TheConstants.{LAST_LINK, MAX_ROOM, MAX_OWN, MAX_BY_PEER}
+use Rattle.ncp_model.specs.declared.limits.TheConstants.{MAX_ROOM, MAX_OWN, MAX_BY_PEER}
+use Rattle.ncp_terms.specs.declared.links.TheConstants.{LAST_LINK}
 use Rattle.ncp_model.specs.Pairs.{sends}
 use Rattle.ncp_model.specs.End.{End, is_over, new_end}
 use Rattle.ncp_model.specs.Ends.{Ends, count, any, has_asked, is_by_peer, hears_link, uses_link}

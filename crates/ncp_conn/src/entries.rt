@@ -16,7 +16,8 @@ use crate::fixed_slab::FixedSlab;
 use crate::link_index::LinkIndex;
 use crate::link_set::LinkSet;
 use ncp_bits::BitStore;
-use ncp_model::{LAST_LINK, MAX_BY_PEER, MAX_OWN, Pair};
+use ncp_model::{MAX_BY_PEER, MAX_OWN, Pair};
+use ncp_terms::LAST_LINK;
 use std::alloc::{AllocError, Global};
 
 /// The entries under their keys, with the keys of the senders that heard a link and of the

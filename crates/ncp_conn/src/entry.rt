@@ -18,8 +18,8 @@ mod texts;
 
 use crate::record::{End, Record};
 use ncp_bits::{BitStore, Bits, MAX_BITS};
-use ncp_model::{Heard, LAST_LINK, MAX_ROOM, Pair};
-use ncp_terms::{Command, error_for};
+use ncp_model::{Heard, MAX_ROOM, Pair};
+use ncp_terms::{Command, LAST_LINK, error_for};
 use std::marker::Model;
 
 /// A pair of sockets, and what is known of its connection here.

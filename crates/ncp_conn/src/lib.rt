@@ -51,8 +51,8 @@ mod table;
 
 pub use link_set::LinkSet;
 pub use ncp_model::{
-    CallFault, FIRST_LINK, Heard, LAST_LINK, MAX_AMOUNT, MAX_BY_PEER, MAX_MESSAGES, MAX_OWN,
-    MAX_ROOM, MAX_TEXT, Pair, Took,
+    CallFault, Heard, MAX_AMOUNT, MAX_BY_PEER, MAX_MESSAGES, MAX_OWN, MAX_ROOM, MAX_TEXT, Pair,
+    Took,
 };
 pub use pairs::Pairs;
 pub use record::{End, Record};

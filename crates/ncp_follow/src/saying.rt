@@ -10,16 +10,7 @@ use crate::turn::Turn;
 use ncp_bits::Part;
 use ncp_control::Commands;
 use ncp_leader::Regular;
-use ncp_terms::{Command, CommandFault};
-
-// The control link, the size of the bytes of its messages, and the links of connections (NIC 8246).
-const CONTROL_LINK: u8 = 0;
-
-const CONTROL_SIZE: u8 = 8;
-
-const FIRST_LINK: u8 = 2;
-
-const LAST_LINK: u8 = 71;
+use ncp_terms::{CONTROL_LINK, CONTROL_SIZE, Command, CommandFault, FIRST_LINK, LAST_LINK};
 
 /// What is read of a message.
 #[derive(Clone, Copy, Drop)]

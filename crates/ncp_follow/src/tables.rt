@@ -10,12 +10,8 @@ use crate::request::Request;
 use crate::told::Told;
 use crate::turn::Turn;
 use ncp_bits::Part;
+use ncp_terms::{FIRST_LINK, LAST_LINK};
 use std::alloc::{AllocError, Global};
-
-// The links of connections (NIC 8246).
-const FIRST_LINK: u8 = 2;
-
-const LAST_LINK: u8 = 71;
 
 /// The connections that have not ended, and those that were opened.
 #[derive(Drop)]

@@ -1,6 +1,6 @@
 -- On which links to a peer no message is ready. Of these private functions speak.
 use Rattle.std.specs.Prelude.{◌≡◌, ◌<◌, ◌≤◌, min, ℕ, true, false, Option, None, Some}
-use Rattle.ncp_slot.specs.declared.slots.TheConstants.{FIRST_DATA_LINK, LAST_LINK}
+use Rattle.ncp_terms.specs.declared.links.TheConstants.{FIRST_LINK, LAST_LINK}
 use Rattle.ncp_slot.specs.Slot.{is_empty, is_ready}
 use Rattle.ncp_slot.specs.Slots.{LinkSlots, slot_at}
 use Rattle.ncp_conn.specs.Links.{is_in}
@@ -13,7 +13,7 @@ HasReady links slots = (on : ℕ) → on ≤ LAST_LINK → is_ready (slot_at slo
 
 -- each data link with a message is in a set
 abbrev pub HasKept : ℕ → LinkSlots → Type 0
-HasKept links slots = (on : ℕ) → FIRST_DATA_LINK ≤ on → on ≤ LAST_LINK → is_empty (slot_at slots on) ≡ false → is_in links on ≡ true
+HasKept links slots = (on : ℕ) → FIRST_LINK ≤ on → on ≤ LAST_LINK → is_empty (slot_at slots on) ≡ false → is_in links on ≡ true
 
 -- what a peer knows of the slots of the links to it
 pub record AreMarked (kept again : ℕ) (slots : LinkSlots) : Type 0 where

@@ -17,8 +17,8 @@ use crate::reader::{Reader, Unread};
 use ncp_bits::BitStore;
 use ncp_conn::{End, Record, Table};
 use ncp_model::{MAX_BY_PEER, MAX_ERRORS, MAX_OWN, MAX_ROOM, MAX_WAITING, Pair};
-use ncp_slot::{FIRST_DATA_LINK, LAST_LINK, Slots, has_slot};
-use ncp_terms::Answer;
+use ncp_slot::{Slots, has_slot};
+use ncp_terms::{Answer, FIRST_LINK, LAST_LINK};
 use std::alloc::Global;
 
 fn read_flags(reader: &mut Reader<'_>) -> Result<Flags, Unread> {
@@ -211,7 +211,7 @@ fn read_slot(reader: &mut Reader<'_>, slots: &mut Slots, link: u8) -> Result<(),
 
 fn read_each_slot(reader: &mut Reader<'_>, slots: &mut Slots) -> Result<(), Unread> {
     read_slot(reader, slots, 0)?;
-    for link in FIRST_DATA_LINK..LAST_LINK + 1 {
+    for link in FIRST_LINK..LAST_LINK + 1 {
         read_slot(reader, slots, link)?;
     }
     Ok(())

@@ -4,7 +4,7 @@ use Rattle.std.specs.Prelude.{slice_get}
 use Rattle.std.specs.Result.{IfOk, OnErr}
 use Rattle.std.proofs.lemmas.Bool.{both_ways, ne_eqb, eqb-true, eq-eqb}
 use Rattle.std.proofs.lemmas.List.{length-map}
-use Rattle.ncp_slot.specs.declared.slots.TheConstants.{LAST_LINK}
+use Rattle.ncp_terms.specs.declared.links.TheConstants.{LAST_LINK}
 use Rattle.ncp_host.specs.Host.{Host, state_of, is_one_of}
 use Rattle.ncp_host.specs.Calls.{kept_for}
 use Rattle.ncp_host.specs.Turns.{next_output}

@@ -4,7 +4,8 @@ use Rattle.std.specs.List.{count_by}
 use Rattle.std.specs.FinMap.{entries}
 use Rattle.std.proofs.lemmas.List.Sums.{sum_by-cons}
 use Rattle.ncp_model.specs.declared.pair.Pair.{Pair}
-use Rattle.ncp_model.specs.declared.limits.TheConstants.{FIRST_LINK, LAST_LINK, DATA_LINKS, MAX_OWN}
+use Rattle.ncp_model.specs.declared.limits.TheConstants.{MAX_OWN}
+use Rattle.ncp_terms.specs.declared.links.TheConstants.{FIRST_LINK, LAST_LINK, DATA_LINKS}
 use Rattle.ncp_model.specs.End.{End}
 use Rattle.ncp_model.specs.Ends.{Ends, count, any, has_asked, uses_link, lowest, free_link}
 

@@ -10,7 +10,8 @@ use Rattle.ncp_model.specs.declared.pair.Pair.{Pair}
 use Rattle.ncp_model.specs.declared.call_fault.CallFault.{CallFault}
 use Rattle.ncp_model.specs.declared.outcomes.Heard.{Heard}
 use Rattle.ncp_model.specs.declared.outcomes.Heard.TheVariants.{Nothing, Reply, Late, Full}
-use Rattle.ncp_model.specs.declared.limits.TheConstants.{FIRST_LINK, LAST_LINK, MAX_ROOM}
+use Rattle.ncp_model.specs.declared.limits.TheConstants.{MAX_ROOM}
+use Rattle.ncp_terms.specs.declared.links.TheConstants.{FIRST_LINK, LAST_LINK}
 use Rattle.ncp_model.specs.End.{End, is_going, is_over}
 
 -- A refusal, and whatever has no effect, leaves the end, or that there is none, as it is.

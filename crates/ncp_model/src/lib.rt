@@ -31,8 +31,8 @@ pub mod rows;
 pub use amounts::give_back;
 pub use call_fault::CallFault;
 pub use limits::{
-    DATA_LINKS, FIRST_LINK, GIVE_BACK_PARTS, LAST_LINK, MAX_AMOUNT, MAX_BY_PEER, MAX_CALLED,
-    MAX_CONTROL, MAX_COUNT, MAX_ERRORS, MAX_MESSAGES, MAX_OWN, MAX_ROOM, MAX_TEXT, MAX_WAITING,
+    GIVE_BACK_PARTS, MAX_AMOUNT, MAX_BY_PEER, MAX_CALLED, MAX_CONTROL, MAX_COUNT, MAX_ERRORS,
+    MAX_MESSAGES, MAX_OWN, MAX_ROOM, MAX_TEXT, MAX_WAITING,
 };
 pub use outcomes::{Error, Heard, Took};
 pub use pair::Pair;

@@ -1,11 +1,5 @@
 //! The limits of this profile.
 
-/// The first link that carries a connection.
-pub const FIRST_LINK: u8 = 2;
-/// The last link that carries a connection.
-pub const LAST_LINK: u8 = 71;
-/// How many links carry connections.
-pub const DATA_LINKS: u8 = LAST_LINK - FIRST_LINK + 1;
 /// How many bits of text a message has at most that is made.
 pub const MAX_TEXT: u32 = 7928;
 /// How many bytes of whole commands a control text has at most that is made.

@@ -17,10 +17,10 @@ ghost use Rattle.ncp_model.specs.OnlyEnds.{OfTheOnlyEnd, WhereNoEnd};
 ghost use Rattle.ncp_model.specs.Rows.{outward, inward, ones, noughts, link_heard, size_heard, asked_send, asked_receive, opened_end, due, gone, shut, counting, err, both_ways};
 ghost use Rattle.ncp_model.specs.RowFacts.{new_outward, new_inward, its_receiver, its_request, loaded, with_interrupts, recalling, one_granted, busy_end, left_end, ten_bytes, refusal, erred, one_end};
 
-use crate::limits::{FIRST_LINK, LAST_LINK, MAX_BY_PEER, MAX_OWN};
+use crate::limits::{MAX_BY_PEER, MAX_OWN};
 use crate::outcomes::{Heard, Took};
 use crate::pair::Pair;
-use ncp_terms::Command;
+use ncp_terms::{Command, FIRST_LINK, LAST_LINK};
 
 /// A receiver takes the lowest link from 2 up that no receiving end uses; while at most 64 ends
 /// have an own request there is one up to 71.

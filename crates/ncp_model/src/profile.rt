@@ -7,9 +7,10 @@ ghost use Rattle.ncp_model.specs.Happenings as all;
 
 use crate::call_fault::CallFault;
 use crate::limits::{
-    DATA_LINKS, FIRST_LINK, GIVE_BACK_PARTS, LAST_LINK, MAX_AMOUNT, MAX_BY_PEER, MAX_CALLED,
-    MAX_CONTROL, MAX_COUNT, MAX_ERRORS, MAX_MESSAGES, MAX_OWN, MAX_ROOM, MAX_TEXT, MAX_WAITING,
+    GIVE_BACK_PARTS, MAX_AMOUNT, MAX_BY_PEER, MAX_CALLED, MAX_CONTROL, MAX_COUNT, MAX_ERRORS,
+    MAX_MESSAGES, MAX_OWN, MAX_ROOM, MAX_TEXT, MAX_WAITING,
 };
+use ncp_terms::{DATA_LINKS, FIRST_LINK, LAST_LINK};
 
 /// The limits, and the codes of ERR.
 pub fn the_numbers_of_the_profile()

@@ -22,7 +22,8 @@ use Rattle.ncp_model.specs.Texts.{may_send, cut_bits, bytes_to_send}
 use Rattle.ncp_model.specs.Sending.{next_commands, fitting}
 use Rattle.ncp_terms.specs.Spelling.{spelling}
 use Rattle.std.proofs.Math.Seq.{drop-nil}
-use Rattle.ncp_model.specs.declared.limits.TheConstants.{DATA_LINKS, FIRST_LINK, MAX_CONTROL}
+use Rattle.ncp_model.specs.declared.limits.TheConstants.{MAX_CONTROL}
+use Rattle.ncp_terms.specs.declared.links.TheConstants.{FIRST_LINK, DATA_LINKS}
 use Rattle.ncp_proof_resets.specs.Delivery.{Slot, Empty, Ready, Travelling, Held, MessageTransit, Free, Accepted, Delivered, Lost, Dead, Link, idle, out}
 use Rattle.ncp_proof_machine.specs.Hosts.{TwoNodes, base, node_moved, set_link, all_empty, node_cuts, text_answered, control_answered, node_text_comes, message_comes, Calls_reset, Calls, Calls_echo, Falls, Sends, Sends_text, Hears, Hears_text, Is_answered, Text_is_answered, node_steps}
 use Rattle.ncp_proof_machine.specs.Seen.{CallsAgree, EchoesAgree, ResetsAgree, FallsAgree, HearsAgree, TextsAgree, FreesAgree, SettlesAgree, HearingAgrees, CutsAgree, SendsAgree, StepsAgree, OtherNodeStays, hears_each, takes_commands, hears_message, hears_coming, control_taken, text_taken}

@@ -3,7 +3,7 @@
 use Rattle.std.specs.Prelude.{◌≡◌, ℕ, zero, suc, ◌+◌, ◌*◌, ◌≤◌, Bool, true, false, List, [], ◌∷◌, Option, None, Some}
 use Rattle.std.specs.FinMap.{get}
 use Rattle.ncp_terms.specs.declared.command.Command.{Command}
-use Rattle.ncp_model.specs.declared.limits.TheConstants.{DATA_LINKS, FIRST_LINK}
+use Rattle.ncp_terms.specs.declared.links.TheConstants.{FIRST_LINK, DATA_LINKS}
 use Rattle.ncp_model.specs.Act.{answer, is_data_link}
 use Rattle.ncp_model.specs.Ends.{cut_in}
 use Rattle.ncp_slot.specs.Slot.{ready_message}

@@ -4,7 +4,7 @@
 -- keeps one, nothing of the host to the peer is ready, in transit or held.
 use Rattle.std.proofs.Common.{◌≡◌, ◌≢◌, ◌≤◌, ℕ, ◌==◌, Bool, true, false, if◌then◌else◌, List, [], ◌∷◌, Option, None, Some, Ok, is_some, inl, inr, refl, sym, ap, ◌∙◌, subst}
 use Rattle.std.proofs.lemmas.Bool.{eqb-true}
-use Rattle.ncp_slot.specs.declared.slots.TheConstants.{LAST_LINK}
+use Rattle.ncp_terms.specs.declared.links.TheConstants.{LAST_LINK}
 use Rattle.ncp_slot.specs.Slots.{slot_at}
 use Rattle.ncp_proof_machine.specs.Hosts.{Node}
 use Rattle.ncp_subnet.specs.Transit.{is_accepted, answer_kind}

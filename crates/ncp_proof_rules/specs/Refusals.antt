@@ -9,7 +9,8 @@ use Rattle.ncp_terms.specs.declared.command.Command.{Command}
 use Rattle.ncp_model.specs.declared.pair.Pair.{Pair}
 use Rattle.ncp_model.specs.declared.call_fault.CallFault.{CallFault}
 use Rattle.ncp_model.specs.declared.call_fault.CallFault.TheVariants.{BadSex, BadSize, BadRoom, NoEntry, AlreadyAsked, Closing, NotOpen, WrongEnd, NotWhole, Busy, NoRoom, TooMuch, TableFull, QueueFull}
-use Rattle.ncp_model.specs.declared.limits.TheConstants.{FIRST_LINK, LAST_LINK, MAX_ROOM, MAX_MESSAGES, MAX_AMOUNT, MAX_OWN, MAX_BY_PEER}
+use Rattle.ncp_model.specs.declared.limits.TheConstants.{MAX_ROOM, MAX_MESSAGES, MAX_AMOUNT, MAX_OWN, MAX_BY_PEER}
+use Rattle.ncp_terms.specs.declared.links.TheConstants.{FIRST_LINK, LAST_LINK}
 use Rattle.ncp_model.specs.Pairs.{is_receive, is_send}
 use Rattle.ncp_model.specs.End.{End, or_new}
 use Rattle.ncp_model.specs.Act.{text_error}

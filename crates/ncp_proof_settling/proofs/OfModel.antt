@@ -10,7 +10,8 @@ use Rattle.ncp_terms.specs.Spelling.{IsCommand, spelling}
 use Rattle.ncp_control.proofs.Reading.{spelling_short}
 use Rattle.ncp_slot.specs.Slot.{ready_message}
 use Rattle.ncp_slot.specs.Slots.{HasSlot, LinkSlot, slot_at}
-use Rattle.ncp_model.specs.declared.limits.TheConstants.{DATA_LINKS, FIRST_LINK, MAX_CONTROL}
+use Rattle.ncp_model.specs.declared.limits.TheConstants.{MAX_CONTROL}
+use Rattle.ncp_terms.specs.declared.links.TheConstants.{FIRST_LINK, DATA_LINKS}
 use Rattle.ncp_model.specs.Act.{answer, is_data_link}
 use Rattle.ncp_model.specs.Ends.{cut_in}
 use Rattle.ncp_model.specs.Sending.{fitting, next_commands}

@@ -5,7 +5,7 @@ use Rattle.std.proofs.Common.{◌≡◌, ◌≢◌, ◌≤◌, ◌<◌, ◌+◌,
 use Rattle.std.proofs.lemmas.Bool.{both_ways, eq-eqb, eqb-true}
 use Rattle.std.proofs.lemmas.List.{length-append}
 use Rattle.ncp_slot.specs.Slots.{LinkSlot, slot_at}
-use Rattle.ncp_model.specs.declared.limits.TheConstants.{DATA_LINKS, FIRST_LINK}
+use Rattle.ncp_terms.specs.declared.links.TheConstants.{FIRST_LINK, DATA_LINKS}
 use Rattle.ncp_model.specs.Act.{is_data_link}
 use Rattle.ncp_proof_resets.specs.Delivery.{Link}
 use Rattle.ncp_proof_resets.specs.Resets.{Party, This, That}

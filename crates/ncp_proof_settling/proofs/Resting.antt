@@ -5,7 +5,7 @@
 use Rattle.std.proofs.Common.{◌≡◌, ◌≤◌, ℕ, ◌==◌, Bool, true, false, List, [], ◌∷◌, Option, None, Some, Ok, is_some, inl, inr, refl, sym, ap, ◌∙◌, subst}
 use Rattle.std.proofs.lemmas.Bool.{both_ways, eqb-true}
 use Rattle.ncp_slot.specs.declared.slot.Slot.{Slot}
-use Rattle.ncp_slot.specs.declared.slots.TheConstants.{LAST_LINK}
+use Rattle.ncp_terms.specs.declared.links.TheConstants.{LAST_LINK}
 use Rattle.ncp_slot.specs.Slot.{kept_message}
 use Rattle.ncp_slot.specs.Slots.{HasSlot, LinkSlot, slot_at}
 use Rattle.ncp_slot.proofs.Places.{slot_at-no_slots}

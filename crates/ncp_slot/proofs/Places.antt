@@ -11,7 +11,8 @@ use Rattle.std.proofs.lemmas.Option.{unwrap_or-slice_get}
 use Rattle.std.proofs.lemmas.List.{get_or_default}
 use Rattle.std.proofs.Math.ListN.{get_or-eq_default}
 use Rattle.ncp_slot.specs.declared.slot.Slot.TheVariants.{Empty, Ready, Travelling, Held}
-use Rattle.ncp_slot.specs.declared.slots.TheConstants.{FIRST_DATA_LINK, DATA_LINKS, SLOTS}
+use Rattle.ncp_slot.specs.declared.slots.TheConstants.{SLOTS}
+use Rattle.ncp_terms.specs.declared.links.TheConstants.{FIRST_LINK, DATA_LINKS}
 use Rattle.ncp_slot.specs.Slot.{is_empty, is_ready}
 use Rattle.ncp_slot.specs.Slots.{LinkSlot, LinkSlots, IsQuiet, is_quiet, no_slots, slot_at, with_slot, OtherSlotsStay, link_of_place, with_links, slots_in}
 
@@ -243,8 +244,8 @@ empty_told (Held message) h = cc
 pub is_quiet-tells : (all : LinkSlots) → (is_quiet all ≡ true) ↔ IsQuiet all
 unfolding is_quiet
 is_quiet-tells all = (
-  λ h link low high. empty_told (slot_at all link) (list_all_in (λ k. is_empty (slot_at all k)) FIRST_DATA_LINK DATA_LINKS h link low (omega arith)),
-  λ quiet. all_in_list (λ k. is_empty (slot_at all k)) FIRST_DATA_LINK DATA_LINKS (λ k low high. ap is_empty (quiet k low (omega arith))),
+  λ h link low high. empty_told (slot_at all link) (list_all_in (λ k. is_empty (slot_at all k)) FIRST_LINK DATA_LINKS h link low (omega arith)),
+  λ quiet. all_in_list (λ k. is_empty (slot_at all k)) FIRST_LINK DATA_LINKS (λ k low high. ap is_empty (quiet k low (omega arith))),
 )
 
 pub same_test : (a b : Bool) {P : Type 0} → ((a ≡ true) ↔ P) → ((b ≡ true) ↔ P) → a ≡ b

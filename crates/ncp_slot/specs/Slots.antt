@@ -5,7 +5,8 @@ use Rattle.std.specs.List.{list_all, range_with_len}
 use Rattle.std.specs.Ordering.{nat_cmp}
 use Rattle.std.specs.FinMap.{FinMap, code, entries, get, insert, from_entries}
 use Rattle.std.specs.Coded.{Coded, code_by, coded×, coded_ℕ, coded_bool, coded_list}
-use Rattle.ncp_slot.specs.declared.slots.TheConstants.{UNUSED_LINK, FIRST_DATA_LINK, LAST_LINK, DATA_LINKS, SLOTS}
+use Rattle.ncp_slot.specs.declared.slots.TheConstants.{SLOTS}
+use Rattle.ncp_terms.specs.declared.links.TheConstants.{UNUSED_LINK, FIRST_LINK, LAST_LINK, DATA_LINKS}
 use Rattle.ncp_slot.specs.declared.slot.Slot.{Slot}
 use Rattle.ncp_slot.specs.declared.slot.Slot.TheVariants.{Empty, Ready, Travelling, Held}
 use Rattle.ncp_slot.specs.Slot.{woken, is_empty, is_ready, is_held}
@@ -56,11 +57,11 @@ IsFirstReady slots link = IsReady slots link × ((lower : ℕ) → lower < link 
 
 -- the data links are quiet where each of their slots is empty
 abbrev pub IsQuiet : LinkSlots → Type 0
-IsQuiet slots = (link : ℕ) → FIRST_DATA_LINK ≤ link → link ≤ LAST_LINK → slot_at slots link ≡ Empty
+IsQuiet slots = (link : ℕ) → FIRST_LINK ≤ link → link ≤ LAST_LINK → slot_at slots link ≡ Empty
 
 -- the data links
 abbrev pub data_links : List ℕ
-data_links = range_with_len FIRST_DATA_LINK DATA_LINKS
+data_links = range_with_len FIRST_LINK DATA_LINKS
 
 -- whether they are quiet
 unfoldable pub is_quiet : LinkSlots → Bool

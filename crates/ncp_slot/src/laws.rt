@@ -10,7 +10,8 @@ ghost use Rattle.ncp_slot.specs.Links.{HasItsLinks};
 ghost use Rattle.ncp_slot.specs.Slots.{HasSlot, all_woken, LinkSlot, LinkSlots, no_slots, slot_at, with_slot, OtherSlotsStay, OthersStayEmpty, IsQuiet, is_quiet};
 ghost use Rattle.ncp_slot.specs.Deeds.{history_of, deeds_of};
 ghost use Rattle.ncp_slot.specs.Laws.{AreNotesOf, OneAnswerBetween, SameAfterFailure, OthersInOrder, PutsTold, AnswersTold, HandsTold, slot_told};
-ghost use Rattle.ncp_slot.specs.declared.slots.TheConstants.{UNUSED_LINK, FIRST_DATA_LINK, LAST_LINK, DATA_LINKS, SLOTS};
+ghost use Rattle.ncp_slot.specs.declared.slots.TheConstants.{SLOTS};
+ghost use Rattle.ncp_terms.specs.declared.links.TheConstants.{UNUSED_LINK, FIRST_LINK, LAST_LINK, DATA_LINKS};
 ghost use Rattle.ncp_slot.specs.Steps.{slot_after, note_at};
 
 use crate::slot::{Busy, Slot, Stray};
@@ -113,7 +114,7 @@ pub fn each_slot_is_woken()
 /// The links of a host, by their numbers in the standard.
 pub fn links_are_numbered()
     ensures unused { UNUSED_LINK ≡ 1 }
-    ensures first { FIRST_DATA_LINK ≡ 2 }
+    ensures first { FIRST_LINK ≡ 2 }
     ensures last { LAST_LINK ≡ 71 }
     ensures data { DATA_LINKS ≡ 70 }
     ensures slots { SLOTS ≡ 71 }

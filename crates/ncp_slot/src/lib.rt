@@ -30,4 +30,4 @@ mod slots;
 
 pub use ncp_terms::Answer;
 pub use slot::{Busy, Slot, Stray};
-pub use slots::{DATA_LINKS, FIRST_DATA_LINK, LAST_LINK, SLOTS, Slots, UNUSED_LINK, has_slot};
+pub use slots::{SLOTS, Slots, has_slot};

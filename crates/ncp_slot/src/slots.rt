@@ -11,27 +11,15 @@ ghost use Rattle.ncp_slot.specs.Slots.{HasSlot, no_slots, slot_at, with_slot, al
 use crate::place::{Place, write_over};
 use crate::slot::{Busy, Slot, Stray};
 use ncp_bits::Bits;
-use ncp_terms::Answer;
+use ncp_terms::{Answer, DATA_LINKS, LAST_LINK, UNUSED_LINK};
 use std::alloc::{AllocError, Global};
 use std::boxed::BoxedSlice;
 use std::marker::Model;
 
-/// The first link that carries a connection.
-pub const FIRST_DATA_LINK: u8 = 2;
-
-/// The last link that carries a connection.
-pub const LAST_LINK: u8 = 71;
-
-/// The link between the control link and the data links. It has no slot.
-pub const UNUSED_LINK: u8 = 1;
-
-/// How many links carry connections.
-pub const DATA_LINKS: usize = (LAST_LINK - FIRST_DATA_LINK + 1) as usize;
-
 /// How many slots there are: that of the control link, 0, and those of the data links.
-pub const SLOTS: usize = 1 + DATA_LINKS;
+pub const SLOTS: usize = 1 + DATA_LINKS as usize;
 
-/// Whether a link has a slot: link 0 and links [`FIRST_DATA_LINK`] to [`LAST_LINK`].
+/// Whether a link has a slot: link 0 and links [`FIRST_LINK`] to [`LAST_LINK`].
 pub fn has_slot(link: u8) -> bool
     ensures { IsTrue result ↔ HasSlot link }
 {
@@ -71,7 +59,7 @@ fn all_empty(slots: &[Place]) -> bool
     slots.iter().all(|slot| slot.is_empty())
 }
 
-/// The slots of a host's links to one peer, link 0 and links [`FIRST_DATA_LINK`] to [`LAST_LINK`].
+/// The slots of a host's links to one peer, link 0 and links [`FIRST_LINK`] to [`LAST_LINK`].
 /// Their room is made by [`Slots::new`] and [`Slots::copy`]. No other call takes memory, by the type: a boxed slice cannot
 /// grow, and lends no allocator.
 #[derive(Debug, Drop)]

@@ -15,6 +15,7 @@ mod command;
 pub mod equality;
 mod fault;
 pub mod laws;
+mod links;
 pub mod opcodes;
 
 pub use answer::Answer;
@@ -23,3 +24,4 @@ pub use fault::{
     CommandFault, ERRONEOUS_PARAMETERS, ILLEGAL_OPCODE, NONEXISTENT_SOCKET, SHORT_PARAMETER_SPACE,
     SOCKET_NOT_CONNECTED,
 };
+pub use links::{CONTROL_LINK, CONTROL_SIZE, DATA_LINKS, FIRST_LINK, LAST_LINK, UNUSED_LINK};

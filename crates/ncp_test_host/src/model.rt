@@ -1,11 +1,10 @@
 //! What no clause says: that the definitions mean what the worked rows mean.
 use crate::known::is_told;
 use ncp_model::{
-    CallFault, FIRST_LINK, GIVE_BACK_PARTS, Heard, LAST_LINK, MAX_AMOUNT, MAX_BY_PEER, MAX_CALLED,
-    MAX_CONTROL, MAX_COUNT, MAX_ERRORS, MAX_MESSAGES, MAX_OWN, MAX_ROOM, MAX_TEXT, MAX_WAITING,
-    Pair, Took, give_back,
+    CallFault, GIVE_BACK_PARTS, Heard, MAX_AMOUNT, MAX_BY_PEER, MAX_CALLED, MAX_CONTROL, MAX_COUNT,
+    MAX_ERRORS, MAX_MESSAGES, MAX_OWN, MAX_ROOM, MAX_TEXT, MAX_WAITING, Pair, Took, give_back,
 };
-use ncp_terms::Command;
+use ncp_terms::{Command, FIRST_LINK, LAST_LINK};
 use std::test::Fail;
 
 #[test]

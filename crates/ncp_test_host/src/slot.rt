@@ -7,9 +7,9 @@ use ncp_slot::laws::{
     quiet_links_are_empty, refusals_are_compared, run_link, slots_are_apart, slots_are_compared,
     what_is_held_stays,
 };
-use ncp_slot::{Busy, FIRST_DATA_LINK, LAST_LINK, Slot, Slots, Stray, UNUSED_LINK, has_slot};
-use ncp_terms::Answer;
+use ncp_slot::{Busy, Slot, Slots, Stray, has_slot};
 use ncp_terms::laws::answers_are_compared;
+use ncp_terms::{Answer, FIRST_LINK, LAST_LINK, UNUSED_LINK};
 use std::alloc::{AllocError, Global};
 use std::process::Abort;
 use std::test::Fail;
@@ -205,7 +205,7 @@ const RUNS: &[(&str, u8, &[Noted<'static>], &[Step<'static>])] = &[
     ),
     (
         "holds_a_message_until_woken",
-        FIRST_DATA_LINK,
+        FIRST_LINK,
         &[
             Noted::Put(&TEXT, true),
             Noted::Handed(Some(&TEXT)),
@@ -256,16 +256,16 @@ const EXAMPLES: &[(&str, &[Step<'static>])] = &[
             Step::Puts(0, &TEXT),
             Step::Hands(0, Some(&TEXT)),
             Step::Answers(0, Answer::Dead),
-            Step::Puts(FIRST_DATA_LINK, &TEXT),
-            Step::Hands(FIRST_DATA_LINK, Some(&TEXT)),
-            Step::Answers(FIRST_DATA_LINK, Answer::Dead),
+            Step::Puts(FIRST_LINK, &TEXT),
+            Step::Hands(FIRST_LINK, Some(&TEXT)),
+            Step::Answers(FIRST_LINK, Answer::Dead),
             Step::Puts(LAST_LINK, &TEXT),
             Step::Hands(LAST_LINK, Some(&TEXT)),
             Step::Answers(LAST_LINK, Answer::Dead),
             Step::HasReady(None),
             Step::Wakes,
             Step::Hands(0, Some(&TEXT)),
-            Step::Hands(FIRST_DATA_LINK, Some(&TEXT)),
+            Step::Hands(FIRST_LINK, Some(&TEXT)),
             Step::Hands(LAST_LINK, Some(&TEXT)),
         ],
     ),
@@ -274,20 +274,20 @@ const EXAMPLES: &[(&str, &[Step<'static>])] = &[
         &[
             Step::Keeps(0, None),
             Step::Keeps(UNUSED_LINK, None),
-            Step::Keeps(FIRST_DATA_LINK, None),
+            Step::Keeps(FIRST_LINK, None),
             Step::Keeps(LAST_LINK, None),
             Step::Keeps(72, None),
             Step::Keeps(255, None),
-            Step::Puts(FIRST_DATA_LINK, &TEXT),
-            Step::Keeps(FIRST_DATA_LINK, Some(&TEXT)),
-            Step::Hands(FIRST_DATA_LINK, Some(&TEXT)),
-            Step::Keeps(FIRST_DATA_LINK, Some(&TEXT)),
-            Step::Answers(FIRST_DATA_LINK, Answer::Dead),
-            Step::Keeps(FIRST_DATA_LINK, Some(&TEXT)),
+            Step::Puts(FIRST_LINK, &TEXT),
+            Step::Keeps(FIRST_LINK, Some(&TEXT)),
+            Step::Hands(FIRST_LINK, Some(&TEXT)),
+            Step::Keeps(FIRST_LINK, Some(&TEXT)),
+            Step::Answers(FIRST_LINK, Answer::Dead),
+            Step::Keeps(FIRST_LINK, Some(&TEXT)),
             Step::Wakes,
-            Step::Hands(FIRST_DATA_LINK, Some(&TEXT)),
-            Step::Answers(FIRST_DATA_LINK, Answer::Rfnm),
-            Step::Keeps(FIRST_DATA_LINK, None),
+            Step::Hands(FIRST_LINK, Some(&TEXT)),
+            Step::Answers(FIRST_LINK, Answer::Rfnm),
+            Step::Keeps(FIRST_LINK, None),
         ],
     ),
     (
@@ -422,18 +422,18 @@ fn has_memory_for_a_run(rt: HostRuntime) {
 #[test]
 fn asks_for_memory_once(rt: HostRuntime) -> Result<(), Fail> {
     const STEPS: &[Step<'static>] = &[
-        Step::Puts(FIRST_DATA_LINK, &TEXT),
-        Step::IsBusy(FIRST_DATA_LINK, &TEXT),
-        Step::HasReady(Some(FIRST_DATA_LINK)),
-        Step::Hands(FIRST_DATA_LINK, Some(&TEXT)),
-        Step::Answers(FIRST_DATA_LINK, Answer::Dead),
-        Step::IsStray(FIRST_DATA_LINK, Answer::Dead),
+        Step::Puts(FIRST_LINK, &TEXT),
+        Step::IsBusy(FIRST_LINK, &TEXT),
+        Step::HasReady(Some(FIRST_LINK)),
+        Step::Hands(FIRST_LINK, Some(&TEXT)),
+        Step::Answers(FIRST_LINK, Answer::Dead),
+        Step::IsStray(FIRST_LINK, Answer::Dead),
         Step::Wakes,
-        Step::Keeps(FIRST_DATA_LINK, Some(&TEXT)),
+        Step::Keeps(FIRST_LINK, Some(&TEXT)),
         Step::IsQuiet(false),
-        Step::Hands(FIRST_DATA_LINK, Some(&TEXT)),
-        Step::Answers(FIRST_DATA_LINK, Answer::Rfnm),
-        Step::IsEmpty(FIRST_DATA_LINK, true),
+        Step::Hands(FIRST_LINK, Some(&TEXT)),
+        Step::Answers(FIRST_LINK, Answer::Rfnm),
+        Step::IsEmpty(FIRST_LINK, true),
         Step::IsQuiet(true),
     ];
     goes(&rt, rt.alloc(), "asks_for_memory_once", STEPS)?;

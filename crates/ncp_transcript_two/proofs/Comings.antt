@@ -10,7 +10,7 @@ use Rattle.ncp_leader.specs.Message.{Message, message_with}
 use Rattle.ncp_host.specs.Hearing.{is_wrong_link}
 use Rattle.ncp_host.specs.Output.{leader_to, message_to}
 use Rattle.ncp_slot.specs.Slots.{slot_at, is_quiet}
-use Rattle.ncp_model.specs.declared.limits.TheConstants.{LAST_LINK}
+use Rattle.ncp_terms.specs.declared.links.TheConstants.{LAST_LINK}
 use Rattle.ncp_proof_resets.specs.Delivery.{Link}
 use Rattle.ncp_proof_resets.specs.Delivery as model
 use Rattle.ncp_proof_resets.specs.Resets.{That}

@@ -13,7 +13,7 @@ use Rattle.ncp_control.proofs.Reading.{spellings_small, spelled_alone}
 use Rattle.ncp_slot.specs.Slots.{LinkSlot}
 use Rattle.ncp_slot.specs.Slots.{slot_at}
 use Rattle.ncp_model.specs.declared.pair.Pair.{Pair}
-use Rattle.ncp_model.specs.declared.limits.TheConstants.{LAST_LINK}
+use Rattle.ncp_terms.specs.declared.links.TheConstants.{LAST_LINK}
 use Rattle.ncp_model.specs.Pairs.{sends, turned}
 use Rattle.ncp_model.specs.Act.{is_data_link}
 use Rattle.ncp_model.specs.End.{End, is_open, or_new}

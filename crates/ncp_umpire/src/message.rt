@@ -5,16 +5,7 @@ ghost use Rattle.ncp_umpire.specs.Messages.{is_unused, bits_after_text, most_bit
 
 use crate::finding::Rule;
 use ncp_leader::{FRONT_BITS, MAX_TEXT_BITS, MessageFault, Regular};
-
-// The control link, and the size of the bytes of its messages.
-const CONTROL_LINK: u8 = 0;
-
-const CONTROL_SIZE: u8 = 8;
-
-// The link between link 0 and those of connections, and the last one of a connection (NIC 8246).
-const UNUSED_LINK: u8 = 1;
-
-const LAST_LINK: u8 = 71;
+use ncp_terms::{CONTROL_LINK, CONTROL_SIZE, LAST_LINK, UNUSED_LINK};
 
 // How many bits a control text has at most, as it is made (NIC 8246: 120 bytes).
 const MAX_CONTROL_BITS: usize = 960;

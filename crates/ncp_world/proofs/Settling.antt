@@ -1,7 +1,7 @@
 -- What was tried, and what that leaves: notes that are a transcript; and of a side that it went on, or is still.
 use Rattle.std.proofs.Common.{◌≡◌, ◌≤◌, ℕ, Bool, true, false, List, Option, None, Result, Ok, Err, is_some, sym, ap, ◌∙◌, subst}
 use Rattle.std.specs.Result.{IfOk, OnErr}
-use Rattle.ncp_slot.specs.declared.slots.TheConstants.{LAST_LINK}
+use Rattle.ncp_terms.specs.declared.links.TheConstants.{LAST_LINK}
 use Rattle.ncp_host.specs.Host.{Host, state_of}
 use Rattle.ncp_host.specs.Calls.{kept_for}
 use Rattle.ncp_transcript.specs.declared.call.Call.TheVariants as calls

@@ -13,10 +13,7 @@ use ncp_control::Commands;
 use ncp_host::Host;
 use ncp_leader::read_regular;
 use ncp_model::MAX_WAITING;
-use ncp_terms::Command;
-
-/// The byte size of control messages (NIC 8246, control messages).
-const CONTROL_SIZE: u8 = 8;
+use ncp_terms::{CONTROL_SIZE, Command};
 
 /// What is counted of commands.
 #[derive(Clone, Copy, Drop)]

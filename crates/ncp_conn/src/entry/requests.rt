@@ -6,7 +6,8 @@ ghost use Rattle.ncp_conn.specs.Changes.{with_end};
 
 use crate::entry::Entry;
 use ncp_bits::BitStore;
-use ncp_model::{CallFault, LAST_LINK, MAX_ROOM};
+use ncp_model::{CallFault, MAX_ROOM};
+use ncp_terms::LAST_LINK;
 
 impl<S: BitStore> Entry<S> {
     /// Whether the own request may be made, as far as this entry goes.

@@ -6,7 +6,8 @@ ghost use Rattle.ncp_conn.specs.Restoring.{end_told, can_be};
 use crate::entry::Entry;
 use crate::record::Record;
 use ncp_bits::BitStore;
-use ncp_model::{LAST_LINK, MAX_ROOM, Pair};
+use ncp_model::{MAX_ROOM, Pair};
+use ncp_terms::LAST_LINK;
 
 // How many bits a store holds: none where there is no store.
 fn stored_bits<S: BitStore>(store: &Option<S>) -> usize

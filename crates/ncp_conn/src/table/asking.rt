@@ -14,8 +14,8 @@ use crate::entries::free_from;
 use crate::entry::Entry;
 use crate::table::Table;
 use ncp_bits::BitStore;
-use ncp_model::{CallFault, FIRST_LINK, LAST_LINK, MAX_OWN, MAX_ROOM, Pair};
-use ncp_terms::Command;
+use ncp_model::{CallFault, MAX_OWN, MAX_ROOM, Pair};
+use ncp_terms::{Command, FIRST_LINK, LAST_LINK};
 pub(super) use stores::Stores;
 
 // Whether a store may have so many bits.

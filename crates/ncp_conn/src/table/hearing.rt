@@ -9,8 +9,10 @@ ghost use Rattle.ncp_model.specs.Ends.{any, count, is_by_peer, hears_link, sende
 use crate::entry::{Entry, refused};
 use crate::table::Table;
 use ncp_bits::BitStore;
-use ncp_model::{FIRST_LINK, Heard, LAST_LINK, MAX_BY_PEER, Pair};
-use ncp_terms::{Command, ERRONEOUS_PARAMETERS, NONEXISTENT_SOCKET, SOCKET_NOT_CONNECTED};
+use ncp_model::{Heard, MAX_BY_PEER, Pair};
+use ncp_terms::{
+    Command, ERRONEOUS_PARAMETERS, FIRST_LINK, LAST_LINK, NONEXISTENT_SOCKET, SOCKET_NOT_CONNECTED,
+};
 
 // Whether a link carries connections.
 fn is_data_link(link: u8) -> bool

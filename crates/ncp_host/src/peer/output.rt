@@ -7,10 +7,10 @@ ghost use Rattle.ncp_host.specs.Output.{output_on, after_output_on, next_of, aft
 ghost use Rattle.ncp_host.specs.Sending.{link_on};
 ghost use Rattle.ncp_host.specs.Silence.{IsSilent, SilentFrom, lower_of};
 
-use crate::peer::{CONTROL_LINK, Peer};
+use crate::peer::Peer;
 use crate::sending::{write_control, write_text};
 use ncp_bits::BitStore;
-use ncp_slot::FIRST_DATA_LINK;
+use ncp_terms::{CONTROL_LINK, FIRST_LINK};
 
 impl<S: BitStore> Peer<S> {
     // The commands that wait go out on the control link, whose slot is empty. Whether there are some.
@@ -96,7 +96,7 @@ impl<S: BitStore> Peer<S> {
                 return Some(CONTROL_LINK);
             }
         }
-        let mut from = FIRST_DATA_LINK;
+        let mut from = FIRST_LINK;
         while let Some(link) = self.next_data_link(from) {
             if self.send_on(number, link) {
                 return Some(link);

@@ -10,13 +10,12 @@ ghost use Rattle.ncp_host.specs.Restarting.{gives_up, restarts};
 ghost use Rattle.ncp_host.specs.Hearing.{state_after_control, control_received, state_after_text, text_received, message_after, message_received, answer_of, answer_received, after_bits, received_of};
 
 use crate::counts::one_more;
-use crate::peer::{CONTROL_LINK, CONTROL_SIZE, Peer};
+use crate::peer::Peer;
 use crate::received::Received;
 use ncp_bits::{BitStore, Bits, Part};
 use ncp_leader::{DESTINATION_DEAD, FRONT_BITS, Leader, REGULAR, RFNM, Regular, read_regular};
 use ncp_model::Took;
-use ncp_slot::{FIRST_DATA_LINK, LAST_LINK, UNUSED_LINK};
-use ncp_terms::Answer;
+use ncp_terms::{Answer, CONTROL_LINK, CONTROL_SIZE, FIRST_LINK, LAST_LINK, UNUSED_LINK};
 
 impl<S: BitStore> Peer<S> {
     // The message that went out on a link was taken, and its slot is empty.
@@ -65,7 +64,7 @@ impl<S: BitStore> Peer<S> {
         ensures { self.new ≡ restarts self.old }
     {
         self.give_up(CONTROL_LINK);
-        for link in FIRST_DATA_LINK..LAST_LINK + 1 {
+        for link in FIRST_LINK..LAST_LINK + 1 {
             self.give_up(link);
         }
     }

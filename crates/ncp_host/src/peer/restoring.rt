@@ -9,7 +9,8 @@ use crate::counts::Counts;
 use crate::peer::Peer;
 use ncp_bits::BitStore;
 use ncp_conn::LinkSet;
-use ncp_slot::{FIRST_DATA_LINK, LAST_LINK, Slots, has_slot};
+use ncp_slot::{Slots, has_slot};
+use ncp_terms::{FIRST_LINK, LAST_LINK};
 
 impl<S: BitStore> Peer<S> {
     /// A peer with what was read of it, where that is sound.
@@ -47,7 +48,7 @@ impl<S: BitStore> Peer<S> {
         ensures { self.new ≡ self.old }
     {
         self.pass_over(0);
-        for link in FIRST_DATA_LINK..LAST_LINK + 1 {
+        for link in FIRST_LINK..LAST_LINK + 1 {
             self.pass_over(link);
         }
     }

@@ -5,10 +5,11 @@ ghost use Rattle.ncp_slot.specs.Links.{HasItsLinks};
 ghost use Rattle.ncp_slot.specs.Slots.{slot_at};
 ghost use Rattle.ncp_host.specs.Saved.{bits_saved, slot_saved, slots_saved, state_saved};
 
-use crate::peer::{CONTROL_LINK, Peer};
+use crate::peer::Peer;
 use crate::writing::{put_bits, put_byte, put_counts};
 use ncp_bits::BitStore;
-use ncp_slot::{FIRST_DATA_LINK, LAST_LINK, Slots};
+use ncp_slot::Slots;
+use ncp_terms::{CONTROL_LINK, FIRST_LINK, LAST_LINK};
 use std::alloc::{AllocError, Global};
 
 // What becomes of the message of a link that has one.
@@ -42,7 +43,7 @@ fn put_slots(out: &mut Vec<u8>, slots: &Slots) -> Result<(), AllocError>
     ensures { OnOk result (out.new.items ≡ out.old.items ++ slots_saved slots.now) }
 {
     put_slot(out, slots, CONTROL_LINK)?;
-    for link in FIRST_DATA_LINK..LAST_LINK + 1 {
+    for link in FIRST_LINK..LAST_LINK + 1 {
         put_slot(out, slots, link)?;
     }
     Ok(())

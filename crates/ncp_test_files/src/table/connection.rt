@@ -1,7 +1,8 @@
 //! A whole connection, from the requests of either side to the CLS of either side.
 use super::steps::{Call, Say, Step};
 use super::{Example, INWARD, LINK, OUTWARD, RECEIVER, ROOM, SENDER, goes_through};
-use ncp_conn::{End, FIRST_LINK, Heard, Took, equality};
+use ncp_conn::{End, Heard, Took, equality};
+use ncp_terms::FIRST_LINK;
 use std::test::Fail;
 
 #[test]

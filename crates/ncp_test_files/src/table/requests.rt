@@ -7,8 +7,8 @@ use super::{
 };
 use ncp_bits::{BitStore, PackedStore, PlainStore};
 use ncp_conn::{CallFault, Heard, Pair, Record};
-use ncp_model::{FIRST_LINK, LAST_LINK, MAX_BY_PEER, MAX_OWN, MAX_ROOM};
-use ncp_terms::Command;
+use ncp_model::{MAX_BY_PEER, MAX_OWN, MAX_ROOM};
+use ncp_terms::{Command, FIRST_LINK, LAST_LINK};
 use std::alloc::Global;
 use std::process::Abort;
 use std::test::Fail;

@@ -11,10 +11,8 @@ use crate::carrying::{Quantity, carried_by_message, carried_by_waiting};
 use ncp_bits::{BitStore, Bits};
 use ncp_host::{CallFault, Pair, Record};
 use ncp_leader::read_regular;
+use ncp_terms::CONTROL_LINK;
 use ncp_transcript_two::{Amount, Ledger, Side};
-
-/// The link of control messages.
-const CONTROL_LINK: u8 = 0;
 
 // The record of an end that is open.
 fn if_open(told: Result<Record, CallFault>) -> Option<Record>

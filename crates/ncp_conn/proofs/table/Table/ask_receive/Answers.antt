@@ -4,7 +4,8 @@ use Rattle.ncp_model.specs.declared.pair.Pair.{Pair}
 use Rattle.ncp_model.specs.Pairs.{receives}
 use Rattle.ncp_model.specs.Act.{answer, is_room}
 use Rattle.ncp_model.specs.Ends.{count, any, has_asked, uses_link, map_after}
-use Rattle.ncp_model.specs.declared.limits.TheConstants.{LAST_LINK, MAX_OWN}
+use Rattle.ncp_model.specs.declared.limits.TheConstants.{MAX_OWN}
+use Rattle.ncp_terms.specs.declared.links.TheConstants.{LAST_LINK}
 use Rattle.ncp_model.proofs.FreeLinks.{free-free, free-room}
 use Rattle.ncp_conn.proofs.Requests.{receive_err}
 use Rattle.ncp_conn.proofs.table.Table.ask_receive.Goals as goal

@@ -2,7 +2,7 @@ use Rattle.std.specs.Box.{boxed_slice_items}
 use Rattle.std.proofs.Common.{◌≡◌, ◌≢◌, ◌<◌, ◌≤◌, ◌-◌, ◌∙◌, inl, inr, true, length, sym, ap, arith}
 use Rattle.std.proofs.lemmas.Bool.{cases_lt}
 use Rattle.ncp_slot.specs.declared.slot.Slot.TheVariants.{Empty}
-use Rattle.ncp_slot.specs.declared.slots.TheConstants.{LAST_LINK}
+use Rattle.ncp_terms.specs.declared.links.TheConstants.{LAST_LINK}
 use Rattle.ncp_slot.specs.Slot.{kept_message}
 use Rattle.ncp_slot.specs.Slots.{HasSlot, slot_at}
 use Rattle.ncp_slot.proofs.Places.{slot_at-place, slot_at-past}
