@@ -11,3 +11,6 @@ pub mod Sending
 pub mod Walking
 pub mod Listing
 pub mod Restoring
+pub mod Hearing
+pub mod Asked
+pub mod Stored

@@ -139,7 +139,7 @@ impl<S: BitStore> Entries<S> {
     pub(crate) fn insert(&mut self, entry: Entry<S>)
         requires { HasRoomFor self.old.slab 1 }
         ensures vacant { get self.old.slab self.old.slab.vacant_key ≡ None }
-        ensures enters { Puts self.old self.new self.old.slab.vacant_key (Some entry) entry (Some self.old.slab.vacant_key) }
+        ensures enters { let at = self.old.slab.vacant_key in Puts self.old self.new at (Some entry) entry (Some at) }
         ensures sending { Notes entry self.old.sending self.new.sending }
     {
         let key = self.slab.insert(entry);

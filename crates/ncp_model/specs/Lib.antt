@@ -17,3 +17,6 @@ pub mod Echo
 pub mod Peers
 pub mod PeerRows
 pub mod OnlyEnds
+pub mod InUse
+pub mod InTables
+pub mod PhaseRows

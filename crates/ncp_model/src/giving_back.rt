@@ -10,8 +10,8 @@ use crate::limits::GIVE_BACK_PARTS;
 pub fn parts_are_rounded_up()
     ensures parts { GIVE_BACK_PARTS ≡ 128 }
     ensures at_most { (counter fraction : ℕ) → back counter fraction ≤ counter }
-    ensures enough { (counter fraction : ℕ) → fraction ≤ GIVE_BACK_PARTS → counter * fraction ≤ GIVE_BACK_PARTS * back counter fraction }
-    ensures no_more { (counter fraction : ℕ) → GIVE_BACK_PARTS * back counter fraction < counter * fraction + GIVE_BACK_PARTS }
+    ensures enough { (count part : ℕ) → part ≤ GIVE_BACK_PARTS → count * part ≤ GIVE_BACK_PARTS * back count part }
+    ensures no_more { (count part : ℕ) → GIVE_BACK_PARTS * back count part < count * part + GIVE_BACK_PARTS }
     ensures all { (counter fraction : ℕ) → GIVE_BACK_PARTS ≤ fraction → back counter fraction ≡ counter }
     ensures none { (counter fraction : ℕ) → (back counter 0 ≡ 0) × (back 0 fraction ≡ 0) }
     ensures up { (back 1 1 ≡ 1) × (back 1000 3 ≡ 24) × (back 129 1 ≡ 2) × (back 128 1 ≡ 1) × (back 128 127 ≡ 127) }

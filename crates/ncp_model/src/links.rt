@@ -1,26 +1,26 @@
 //! Laws of links: which one a receiver takes, and where one leads.
-ghost use Rattle.std.specs.Prelude.{◌≡◌, ℕ, Bool, true, false, ◌≤◌, ◌<◌, List, [], ◌∷◌, ◌++◌, Option, None, Some, Ok};
+ghost use Rattle.std.specs.Prelude.{◌≡◌, ℕ, true, false, ◌≤◌, ◌<◌, [], ◌∷◌, ◌++◌, None, Some, Ok};
 ghost use Rattle.std.specs.FinMap.{get, from_sorted};
 ghost use Rattle.ncp_terms.specs.declared.command.Command.TheVariants.{Nop, Rts, Str, Cls, All, Gvb, Ret, Inr, Ins, Eco, Erp, Rst, Rrp};
 ghost use Rattle.ncp_model.specs.declared.call_fault.CallFault.TheVariants.{TableFull};
 ghost use Rattle.ncp_terms.specs.declared.answer.Answer.TheVariants.{Rfnm};
 ghost use Rattle.ncp_model.specs.declared.outcomes.Heard.TheVariants.{Nothing, Reply};
-ghost use Rattle.ncp_model.specs.End.{End};
-ghost use Rattle.ncp_model.specs.Act.{Act, Stays, Becomes, end_after, made_by_call, made_if_any, made_by_hearing};
-ghost use Rattle.ncp_model.specs.Ends.{Ends, count, any, has_asked, is_by_peer, hears_link, uses_link, first_by, free_link, sender_on, receiver_on, pair_of, leads_to, hear, ask_send_in, ask_receive_in, text_in, cut_in, answered_in, put, map_after, map_after_at, no_ends};
-ghost use Rattle.ncp_model.specs.Texts.{made_by_text};
-ghost use Rattle.ncp_terms.specs.declared.answer.Answer.{Answer};
-ghost use Rattle.ncp_model.specs.Happenings.{Happening, happens, happened, outcome_of_call, of_hearing, outcome_of_text, of_cut};
+ghost use Rattle.ncp_model.specs.Act.{Act, Stays, Becomes, end_after};
+ghost use Rattle.ncp_model.specs.Ends.{Ends, count, any, has_asked, is_by_peer, hears_link, uses_link, first_by, free_link, sender_on, receiver_on, leads_to, hear, ask_send_in, ask_receive_in, text_in, cut_in, answered_in, put, map_after, map_after_at, no_ends};
+ghost use Rattle.ncp_model.specs.Happenings.{Text_comes, Text_goes_out, Is_answered};
+ghost use Rattle.ncp_model.specs.Peers.{Ask_to_send, Ask_to_receive};
 ghost use Rattle.ncp_model.specs.Happenings as all;
-ghost use Rattle.ncp_model.specs.Leading.{suits, leads, link_in_head, comes};
+ghost use Rattle.ncp_model.specs.Leading.{suits, leads, comes};
 ghost use Rattle.ncp_model.specs.OnlyEnds.{OfTheOnlyEnd, WhereNoEnd};
 ghost use Rattle.ncp_model.specs.Rows.{outward, inward, ones, noughts, link_heard, size_heard, asked_send, asked_receive, opened_end, due, gone, shut, counting, err, both_ways};
-ghost use Rattle.ncp_model.specs.RowFacts.{new_outward, new_inward, its_receiver, its_request, loaded, with_interrupts, recalling, one_granted, busy_end, left_end, ten_bytes, refusal, erred, one_end};
+ghost use Rattle.ncp_model.specs.RowFacts.{new_outward, new_inward, its_receiver, its_request, loaded, with_interrupts, recalling, one_granted, busy_end, left_end, ten_bytes, refusal, erred, one_end, receive_request};
+ghost use Rattle.ncp_model.specs.InUse.{joining, left_beside_others, third_link_used, is_led_by};
+ghost use Rattle.ncp_model.specs.InTables.{WhateverHappens, WhereFull, WhereNoneMayAsk, OfCommandsLed, OfTextsLed, OfSendersLed, OfAnswersLed, OfSending, OfReceiving, leads_in, happens_in, calls_in, hearing_in, taking_in, cutting_in, answering_in, sending_in, receiving_in};
 
 use crate::limits::{MAX_BY_PEER, MAX_OWN};
 use crate::outcomes::{Heard, Took};
 use crate::pair::Pair;
-use ncp_terms::{Command, FIRST_LINK, LAST_LINK};
+use ncp_terms::{FIRST_LINK, LAST_LINK};
 
 /// A receiver takes the lowest link from 2 up that no receiving end uses; while at most 64 ends
 /// have an own request there is one up to 71.
@@ -48,7 +48,7 @@ pub fn links_lead_to_ends()
     ensures uses_no_other { uses_link 3 (inward, asked_receive) ≡ false }
     ensures uses_none_yet { uses_link 0 (inward, size_heard) ≡ false }
     ensures uses_not_of_sender { uses_link 2 (outward, opened_end) ≡ false }
-    ensures leads { first_by (uses_link 2) ((outward, opened_end) ∷ (record { local = 4; remote = 5 }, record asked_receive { link = 3 }) ∷ (inward, gone asked_receive) ∷ []) ≡ Some (inward, gone asked_receive) }
+    ensures leads { first_by (uses_link 2) left_beside_others ≡ Some (inward, gone asked_receive) }
     ensures leads_nowhere { first_by (hears_link 2) ((inward, opened_end) ∷ (outward, asked_send) ∷ []) ≡ None }
 {}
 
@@ -66,9 +66,9 @@ pub fn ends_are_counted_by_request()
 
 /// An act at a pair changes its end as the act says, and no other.
 pub fn acts_change_one_end<A>()
-    ensures there { (m : Ends) (pair : Pair) (act : Act A) → get (map_after m pair act) pair ≡ end_after (get m pair) act }
-    ensures elsewhere { (m : Ends) (pair other : Pair) (act : Act A) → ((other ≡ pair) → ⊥) → get (map_after m pair act) other ≡ get m other }
-    ensures put { (m : Ends) (pair other : Pair) (act : Act A) → get (map_after m pair act) other ≡ get (put m pair (end_after (get m pair) act)) other }
+    ensures there { (m : Ends) (p : Pair) (act : Act A) → get (map_after m p act) p ≡ end_after (get m p) act }
+    ensures elsewhere { (m : Ends) (p q : Pair) (act : Act A) → ((q ≡ p) → ⊥) → get (map_after m p act) q ≡ get m q }
+    ensures put { (m : Ends) (p q : Pair) (act : Act A) → get (map_after m p act) q ≡ get (put m p (end_after (get m p) act)) q }
     ensures led { (m : Ends) (pair : Pair) (act : Act A) → map_after_at m (Some pair) act ≡ map_after m pair act }
     ensures led_nowhere { (m : Ends) (pair : Pair) (act : Act A) → map_after_at m None act ≡ m }
     ensures cleared { (pair : Pair) → get no_ends pair ≡ None }
@@ -96,8 +96,8 @@ pub fn commands_lead_to_ends()
     ensures ins_counts { hear (Ins 2) both_ways ≡ Becomes (with_interrupts 1 (recalling (counting 3 24))) Nothing }
     ensures nowhere { leads_to (All 3 1 1) both_ways ≡ None }
     ensures nowhere_is_an_error { hear (All 3 1 1) both_ways ≡ erred 5 (ten_bytes 4 3 0 1 0 0 0 1 0 0) }
-    ensures full_rts { (m : Ends) → MAX_BY_PEER ≤ count is_by_peer m → any (hears_link 2) m ≡ false → get m outward ≡ None → hear (Rts 2 3 2) m ≡ Stays Heard.Full }
-    ensures full_str { (m : Ends) → MAX_BY_PEER ≤ count is_by_peer m → get m inward ≡ None → hear (Str 3 2 8) m ≡ Stays Heard.Full }
+    ensures full_rts { WhereFull outward (λ m. any (hears_link 2) m ≡ false → hear (Rts 2 3 2) m ≡ Stays Heard.Full) }
+    ensures full_str { WhereFull inward (λ m. hear (Str 3 2 8) m ≡ Stays Heard.Full) }
     ensures lowest { free_link both_ways ≡ 4 }
     ensures first { free_link (from_sorted []) ≡ 2 }
     ensures second { free_link (one_end inward asked_receive) ≡ 3 }
@@ -115,17 +115,17 @@ pub fn commands_lead_to_ends()
 /// link, or asked with it, and it sends where a sender is meant, and receives where a receiver is.
 /// What then happens in the table of all ends is what happens to that end.
 pub fn what_leads_somewhere_suits()
-    ensures command { (m : Ends) (c : Command) (pair : Pair) (what : Happening) → leads_to c m ≡ Some pair → comes c m ≡ Some what → leads pair what (get m pair) ≡ true }
-    ensures command_happens { (m : Ends) (c : Command) (pair : Pair) (what : Happening) → leads_to c m ≡ Some pair → comes c m ≡ Some what → happens pair what (get m pair) ≡ happened (get m pair) (hear c m) made_by_hearing of_hearing }
-    ensures text { (m : Ends) (head : List Bool) (of_size : ℕ) (text : List Bool) (pair : Pair) → pair_of (receiver_on (link_in_head head) m) ≡ Some pair → leads pair (all.Text_comes head of_size text) (get m pair) ≡ true }
-    ensures text_happens { (m : Ends) (head : List Bool) (of_size : ℕ) (text : List Bool) (pair : Pair) → pair_of (receiver_on (link_in_head head) m) ≡ Some pair → happens pair (all.Text_comes head of_size text) (get m pair) ≡ happened (get m pair) (text_in (link_in_head head) of_size text m) (made_by_text head text) outcome_of_text }
-    ensures cut { (m : Ends) (on : ℕ) (pair : Pair) → pair_of (sender_on on m) ≡ Some pair → leads pair all.Text_goes_out (get m pair) ≡ true }
-    ensures cut_happens { (m : Ends) (on : ℕ) (pair : Pair) → pair_of (sender_on on m) ≡ Some pair → happens pair all.Text_goes_out (get m pair) ≡ happened (get m pair) (cut_in on m) (λ _. []) of_cut }
-    ensures answered { (m : Ends) (on : ℕ) (how : Answer) (pair : Pair) → pair_of (sender_on on m) ≡ Some pair → leads pair (all.Is_answered how) (get m pair) ≡ true }
-    ensures answered_happens { (m : Ends) (on : ℕ) (how : Answer) (pair : Pair) → pair_of (sender_on on m) ≡ Some pair → happens pair (all.Is_answered how) (get m pair) ≡ happened (get m pair) (answered_in on how m) made_if_any (λ _. all.Accepted) }
-    ensures asks { (m : Ends) (pair : Pair) (of_size with_room : ℕ) (full : Bool) → happens pair (all.Asks_to_send of_size with_room (count has_asked m) full) (get m pair) ≡ happened (get m pair) (ask_send_in pair of_size with_room full m) made_by_call outcome_of_call }
-    ensures asks_too { (m : Ends) (pair : Pair) (with_room : ℕ) (full : Bool) → happens pair (all.Asks_to_receive with_room (free_link m) (count has_asked m) full) (get m pair) ≡ happened (get m pair) (ask_receive_in pair with_room full m) made_by_call outcome_of_call }
-    ensures suits { (pair : Pair) (what : Happening) (before : Option End) → leads pair what before ≡ true → suits pair what ≡ true }
+    ensures command { OfCommandsLed (λ m c pair what. leads_in m pair what ≡ true) }
+    ensures command_happens { OfCommandsLed (λ m c pair what. happens_in m pair what ≡ hearing_in m pair c) }
+    ensures text { OfTextsLed (λ m head size text pair. leads_in m pair (Text_comes head size text) ≡ true) }
+    ensures text_happens { OfTextsLed (λ m h n text p. happens_in m p (Text_comes h n text) ≡ taking_in m p h n text) }
+    ensures cut { OfSendersLed (λ m on pair. leads_in m pair Text_goes_out ≡ true) }
+    ensures cut_happens { OfSendersLed (λ m on pair. happens_in m pair Text_goes_out ≡ cutting_in m pair on) }
+    ensures answered { OfAnswersLed (λ m on how pair. leads_in m pair (Is_answered how) ≡ true) }
+    ensures answered_happens { OfAnswersLed (λ m on how p. happens_in m p (Is_answered how) ≡ answering_in m p on how) }
+    ensures asks { OfSending (λ m p n room full. calls_in m p (Ask_to_send n room) full ≡ sending_in m p n room full) }
+    ensures asks_too { OfReceiving (λ m p n full. calls_in m p (Ask_to_receive n) full ≡ receiving_in m p n full) }
+    ensures suits { WhateverHappens (λ pair what before. leads pair what before ≡ true → suits pair what ≡ true) }
 {}
 
 /// What becomes of a text, and of a request, at a host with a sender and a receiver on link 2 and a
@@ -141,19 +141,19 @@ pub fn texts_lead_to_ends()
     ensures answered { answered_in 2 Rfnm (one_end outward (due busy_end)) ≡ Becomes left_end (Some (Cls 3 2)) }
     ensures answered_nowhere { answered_in 3 Rfnm both_ways ≡ Stays None }
     ensures answered_not_at_receiver { answered_in 2 Rfnm (one_end inward (due opened_end)) ≡ Stays None }
-    ensures asks { ask_receive_in new_inward 64 false both_ways ≡ Becomes (record asked_receive { link = 4 }) (Ok (Rts 8 9 4)) }
+    ensures asks { ask_receive_in new_inward 64 false both_ways ≡ Becomes (receive_request 4 64) (Ok (Rts 8 9 4)) }
     ensures asks_to_send { ask_send_in new_outward 8 64 false both_ways ≡ Becomes asked_send (Ok (Str 9 8 8)) }
-    ensures asks_in_vain { (m : Ends) → get m outward ≡ None → MAX_OWN ≤ count has_asked m → ask_send_in outward 8 64 false m ≡ refusal TableFull }
-    ensures asks_in_vain_too { (m : Ends) → get m inward ≡ None → MAX_OWN ≤ count has_asked m → ask_receive_in inward 64 false m ≡ refusal TableFull }
+    ensures asks_in_vain { WhereNoneMayAsk outward (λ m. ask_send_in outward 8 64 false m ≡ refusal TableFull) }
+    ensures asks_in_vain_too { WhereNoneMayAsk inward (λ m. ask_receive_in inward 64 false m ≡ refusal TableFull) }
     ensures leads { leads outward (all.All_comes 2 1 1) (Some link_heard) ≡ true }
     ensures leads_to_receiver { leads inward (all.Ret_comes 2 1 1) (Some asked_receive) ≡ true }
     ensures leads_not_on_another_link { leads outward (all.All_comes 3 1 1) (Some opened_end) ≡ false }
     ensures leads_not_at_receiver { leads inward (all.All_comes 2 1 1) (Some opened_end) ≡ false }
     ensures leads_not_where_none_is { leads outward (all.All_comes 2 1 1) None ≡ false }
     ensures leads_not_to_sender { leads outward (all.Ret_comes 2 1 1) (Some opened_end) ≡ false }
-    ensures leads_by_head { leads inward (all.Text_comes (noughts 22 ++ ones 1 ++ noughts 49) 8 []) (Some opened_end) ≡ true }
-    ensures leads_not_by_another_head { leads inward (all.Text_comes (noughts 23 ++ ones 1 ++ noughts 48) 8 []) (Some opened_end) ≡ false }
-    ensures leads_by_link { leads inward (all.Text_comes (ones 16 ++ noughts 6 ++ ones 1 ++ noughts 1 ++ ones 8 ++ noughts 40) 8 []) (Some opened_end) ≡ true }
+    ensures leads_by_head { is_led_by (noughts 22 ++ ones 1 ++ noughts 49) ≡ true }
+    ensures leads_not_by_another_head { is_led_by (noughts 23 ++ ones 1 ++ noughts 48) ≡ false }
+    ensures leads_by_link { is_led_by (ones 16 ++ noughts 6 ++ ones 1 ++ noughts 1 ++ ones 8 ++ noughts 40) ≡ true }
     ensures all_suits_sender { suits outward (all.All_comes 2 1 1) ≡ true }
     ensures gvb_suits_sender { suits outward (all.Gvb_comes 2 1 1) ≡ true }
     ensures inr_suits_sender { suits outward (all.Inr_comes 2) ≡ true }
@@ -171,7 +171,7 @@ pub fn texts_lead_to_ends()
     ensures going_out_suits_no_receiver { suits inward all.Text_goes_out ≡ false }
     ensures answer_suits_no_receiver { suits inward (all.Is_answered Rfnm) ≡ false }
     ensures anew { ask_receive_in inward 64 false (from_sorted []) ≡ Becomes asked_receive (Ok (Rts 2 3 2)) }
-    ensures freed { ask_receive_in (record { local = 10; remote = 11 }) 64 false (from_sorted ((record { local = 4; remote = 5 }, record asked_receive { link = 3 }) ∷ [])) ≡ Becomes asked_receive (Ok (Rts 10 11 2)) }
+    ensures freed { ask_receive_in (joining 10 11) 64 false third_link_used ≡ Becomes asked_receive (Ok (Rts 10 11 2)) }
 {}
 
 /// Where one end alone is on a link, the look-up by that link finds it; where none is, the test

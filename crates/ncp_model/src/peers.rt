@@ -1,20 +1,19 @@
 //! Laws of one host with one peer: what its phase lets through, and how a user's call is answered.
-ghost use Rattle.std.specs.Prelude.{◌≡◌, ℕ, Bool, true, false, ◌++◌, ◌<◌, ◌≤◌, List, [], ◌∷◌, length, replicate, Ok, Err};
+ghost use Rattle.std.specs.Prelude.{◌≡◌, ℕ, Bool, true, false, List, [], ◌∷◌, replicate, Ok, Err};
 ghost use Rattle.ncp_terms.specs.declared.fault.CommandFault.{CommandFault};
 ghost use Rattle.ncp_terms.specs.declared.command.Command.TheVariants.{Nop, Rts, Cls, All, Erp, Rst, Rrp};
 ghost use Rattle.ncp_model.specs.declared.call_fault.CallFault.TheVariants.{BadSex, QueueFull, NoEntry, WrongEnd, NotWhole, Busy, NotUp};
-ghost use Rattle.ncp_model.specs.Echo.{echo_answer, eco_reply};
 ghost use Rattle.ncp_model.specs.Happenings.{Accepted, Refused, Took_out};
 ghost use Rattle.ncp_model.specs.Peers.{Peer, PairCall, happened_at, calls, calls_up, comes_of, reply, reply_of_take, calls_echo, echo_called, call_accepted, reply_of_echo, hears_fault, hears_text, takes_text, frees, falls, hears, calls_reset};
 ghost use Rattle.ncp_model.specs.Peers as peers;
 ghost use Rattle.ncp_model.specs.PeerRows.{WhileUp, WhileNotUp, peer_in, up_peer, with_waiting, answering_peer, owing_peer, awaiting_peer};
-ghost use Rattle.ncp_model.specs.Phase.{new_phase, up_phase, up, is_resetting, makes_all};
+ghost use Rattle.ncp_model.specs.Phase.{new_phase, up_phase, up, is_resetting};
 ghost use Rattle.ncp_model.specs.Rows.{outward, inward, ones, err};
 ghost use Rattle.ncp_model.specs.RowFacts.{its_receiver};
-ghost use Rattle.ncp_model.specs.Sending.{is_full};
+ghost use Rattle.ncp_model.specs.InUse.{joining};
+ghost use Rattle.ncp_model.specs.PhaseRows.{OfTextsWhileUp, WhileUpWithPlace, WhileUpWithoutPlace, echo_judged, with_error, EndsTheEcho, up_with, replying_peer, bad_opcode, cut_short};
 
 use crate::call_fault::CallFault;
-use crate::limits::MAX_WAITING;
 use crate::pair::Pair;
 
 /// While a host is not up with the peer, a call is refused for that before all that its end judges,
@@ -33,13 +32,13 @@ pub fn nothing_passes_while_not_up()
 /// While it is up its end judges a call, and a text is taken as the end does; the phase stands in no
 /// way. The fault of a control text makes its ERR, and where 512 commands wait the host goes down.
 pub fn ends_judge_while_up()
-    ensures call { (pair : Pair) (call : PairCall) → WhileUp (λ p. comes_of pair call p ≡ (happened_at pair call p).outcome) }
+    ensures call { (q : Pair) (call : PairCall) → WhileUp (λ p. comes_of q call p ≡ (happened_at q call p).outcome) }
     ensures call_changes { (pair : Pair) (call : PairCall) → WhileUp (λ p. calls pair call p ≡ calls_up pair call p) }
-    ensures echo { (byte : ℕ) → WhileUp (λ p. reply_of_echo byte p ≡ call_accepted (echo_answer byte (is_full p.phase) p.echoes)) }
+    ensures echo { (byte : ℕ) → WhileUp (λ p. reply_of_echo byte p ≡ call_accepted (echo_judged byte p)) }
     ensures echo_changes { (byte : ℕ) → WhileUp (λ p. calls_echo byte p ≡ echo_called byte p) }
-    ensures text { (on of_size : ℕ) (head text : List Bool) (p : Peer) → up p.phase ≡ true → hears_text on head of_size text p ≡ takes_text on head of_size text p }
-    ensures fault { (fault : CommandFault) (p : Peer) → up p.phase ≡ true → length p.phase.waiting < MAX_WAITING → hears_fault fault p ≡ record p { phase = record p.phase { waiting = p.phase.waiting ++ err fault.code fault.bytes ∷ [] } } }
-    ensures fault_too_many { (fault : CommandFault) → WhileUp (λ p. MAX_WAITING ≤ length p.phase.waiting → hears_fault fault p ≡ falls p) }
+    ensures text { OfTextsWhileUp (λ on head n text p. hears_text on head n text p ≡ takes_text on head n text p) }
+    ensures fault { (fault : CommandFault) → WhileUpWithPlace (λ p. hears_fault fault p ≡ with_error fault p) }
+    ensures fault_too_many { (fault : CommandFault) → WhileUpWithoutPlace (λ p. hears_fault fault p ≡ falls p) }
 {}
 
 /// What comes of a call is its reply: a refusal is told, and all else is good. A taking gives the bits.
@@ -65,29 +64,29 @@ pub fn what_is_not_up_lets_nothing_through()
     ensures text { hears_text 2 [] 8 (ones 16) answering_peer ≡ takes_text 2 [] 8 (ones 16) answering_peer }
     ensures text_dropped { hears_text 2 [] 8 (ones 16) owing_peer ≡ owing_peer }
     ensures text_awaiting { hears_text 2 [] 8 (ones 16) awaiting_peer ≡ awaiting_peer }
-    ensures fault { hears_fault (record { code = 1; bytes = 14 ∷ 0 ∷ replicate 8 0 }) up_peer ≡ peer_in (record up_phase { waiting = err 1 (14 ∷ 0 ∷ replicate 8 0) ∷ [] }) }
-    ensures fault_dropped { hears_fault (record { code = 2; bytes = 4 ∷ 2 ∷ 0 ∷ replicate 7 0 }) (peer_in new_phase) ≡ peer_in new_phase }
-    ensures fault_early { hears_fault (record { code = 2; bytes = 4 ∷ 2 ∷ 0 ∷ replicate 7 0 }) up_peer ≡ peer_in (record up_phase { waiting = err 2 (4 ∷ 2 ∷ 0 ∷ replicate 7 0) ∷ [] }) }
-    ensures fault_behind { hears_fault (record { code = 1; bytes = 14 ∷ replicate 9 0 }) (peer_in (makes_all (eco_reply 65 ∷ []) up_phase)) ≡ peer_in (record up_phase { waiting = Erp 65 ∷ err 1 (14 ∷ replicate 9 0) ∷ [] }) }
+    ensures fault { hears_fault bad_opcode up_peer ≡ up_with (err 1 (14 ∷ 0 ∷ replicate 8 0) ∷ []) }
+    ensures fault_dropped { hears_fault cut_short (peer_in new_phase) ≡ peer_in new_phase }
+    ensures fault_early { hears_fault cut_short up_peer ≡ up_with (err 2 (4 ∷ 2 ∷ 0 ∷ replicate 7 0) ∷ []) }
+    ensures fault_behind { hears_fault bad_opcode replying_peer ≡ up_with (Erp 65 ∷ err 1 (14 ∷ replicate 9 0) ∷ []) }
 {}
 
 /// A clearing ends the echo, and leaves the byte of the last one and the errors: a reset that is
 /// accepted, an RST that comes, and going down. A reset that is refused changes nothing, and an RRP is no
 /// clearing. After an RST that came the next echo is good at once.
 pub fn clearings_end_the_echo_alone()
-    ensures reset { (quiet : Bool) (p : Peer) → is_resetting p.phase ≡ false → (calls_reset quiet p).echoes ≡ record p.echoes { awaited = false } }
+    ensures reset { (quiet : Bool) (p : Peer) → is_resetting p.phase ≡ false → EndsTheEcho p (calls_reset quiet p) }
     ensures refused { (quiet : Bool) (p : Peer) → is_resetting p.phase ≡ true → calls_reset quiet p ≡ p }
-    ensures rst { (quiet : Bool) (p : Peer) → (hears quiet Rst p).echoes ≡ record p.echoes { awaited = false } }
+    ensures rst { (quiet : Bool) (p : Peer) → EndsTheEcho p (hears quiet Rst p) }
     ensures rrp { (quiet : Bool) (p : Peer) → (hears quiet Rrp p).echoes ≡ p.echoes }
-    ensures down { (p : Peer) → (falls p).echoes ≡ record p.echoes { awaited = false } }
+    ensures down { (p : Peer) → EndsTheEcho p (falls p) }
     ensures again { reply_of_echo 66 (hears true Rst (calls_echo 65 up_peer)) ≡ Ok tt }
 {}
 
 /// What comes of calls at a host that is up, with a sender and a receiver open on link 2: what they ask
 /// of the other ends and of what waits is looked up.
 pub fn calls_at_a_host_that_is_up()
-    ensures asks { (happened_at (record { local = 8; remote = 11 }) (peers.Ask_to_receive 64) up_peer).made ≡ Rts 8 11 4 ∷ [] }
-    ensures asks_to_send { comes_of (record { local = 11; remote = 8 }) (peers.Ask_to_send 8 64) up_peer ≡ Accepted }
+    ensures asks { (happened_at (joining 8 11) (peers.Ask_to_receive 64) up_peer).made ≡ Rts 8 11 4 ∷ [] }
+    ensures asks_to_send { comes_of (joining 11 8) (peers.Ask_to_send 8 64) up_peer ≡ Accepted }
     ensures gives { comes_of outward (peers.Give (ones 8)) up_peer ≡ Accepted }
     ensures gives_in_part { comes_of outward (peers.Give (ones 9)) up_peer ≡ Refused NotWhole }
     ensures takes { reply_of_take (comes_of its_receiver (peers.Take 1) up_peer) ≡ Ok [] }

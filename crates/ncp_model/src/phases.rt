@@ -1,15 +1,16 @@
 //! Laws of a host's phase: what the theorem on resets does not guard.
-ghost use Rattle.std.specs.Prelude.{◌≡◌, ℕ, Bool, true, false, ◌+◌, ◌++◌, ◌<◌, ◌≤◌, List, [], ◌∷◌, length, take, replicate, None, Some, Result, Ok, Err, Option};
-ghost use Rattle.std.specs.List.{filter, list_any};
+ghost use Rattle.std.specs.Prelude.{◌≡◌, ℕ, Bool, true, false, ◌++◌, ◌<◌, ◌≤◌, List, [], ◌∷◌, length, replicate, Ok, Err};
+ghost use Rattle.std.specs.List.{filter};
 ghost use Rattle.ncp_terms.specs.declared.command.Command.{Command};
-ghost use Rattle.ncp_terms.specs.declared.command.Command.TheVariants.{Nop, Rts, All, Inr, Rst, Rrp};
-ghost use Rattle.ncp_model.specs.Phase.{Phase, Reaction, new_phase, up_phase, up, is_rst, is_rrp, is_reset, is_other, purge, phase_settles, is_resetting, reset_answer, wants_reset, resets, owes_answer, hears_rst, hears_rrp, is_stray_rrp, goes_down, phase_makes, makes_all, is_dropped, phase_hears};
+ghost use Rattle.ncp_terms.specs.declared.command.Command.TheVariants.{Nop, Rts, All, Rst, Rrp};
+ghost use Rattle.ncp_model.specs.Phase.{Phase, Reaction, new_phase, up, is_reset, is_other, purge, phase_settles, is_resetting, reset_answer, wants_reset, resets, owes_answer, hears_rst, hears_rrp, is_stray_rrp, goes_down, phase_makes, makes_all, is_dropped, phase_hears, queued};
 ghost use Rattle.ncp_model.specs.PeerRows.{flagged};
+ghost use Rattle.ncp_model.specs.Rows.{err};
 ghost use Rattle.ncp_terms.specs.Spelling.{IsCommand, spelling, spellings};
 ghost use Rattle.ncp_model.specs.Sending.{is_full, next_commands};
-ghost use Rattle.ncp_model.specs.declared.pair.Pair.{Pair};
-ghost use Rattle.ncp_model.specs.Happenings.{Happening, happens};
-ghost use Rattle.ncp_model.specs.End.{End};
+ghost use Rattle.ncp_model.specs.Happenings.{happens};
+ghost use Rattle.ncp_model.specs.InTables.{WhateverHappens};
+ghost use Rattle.ncp_model.specs.PhaseRows.{settled, WhereRrpIsDue, WhereRstIsDue, WhereBothAreDue, awaiting_rrp, IfUp, IfMayReset, OfOthersWhileUp, OfOthersWhileNotUp, on_inr, on_inr_full, OfFirstLeftOut, bytes_of_commands, TakesSome};
 
 use crate::call_fault::CallFault;
 use crate::limits::{MAX_CONTROL, MAX_WAITING};
@@ -21,24 +22,24 @@ pub fn resets_wait_for_quiet()
     ensures unquiet_reset { (p : Phase) → is_resetting p ≡ false → resets false p ≡ wants_reset p }
     ensures unquiet_rst { (p : Phase) → hears_rst false p ≡ owes_answer p }
     ensures neither { (p : Phase) → p.owe ≡ false → p.want ≡ false → phase_settles true p ≡ p }
-    ensures answer { (p : Phase) → p.owe ≡ true → p.want ≡ false → list_any is_rrp p.waiting ≡ false → phase_settles true p ≡ record p { down = false; owe = false; waiting = p.waiting ++ Rrp ∷ [] } }
-    ensures reset { (p : Phase) → p.owe ≡ false → p.want ≡ true → list_any is_rst p.waiting ≡ false → phase_settles true p ≡ record p { down = false; want = false; wait = true; waiting = p.waiting ++ Rst ∷ [] } }
-    ensures both { (p : Phase) → p.owe ≡ true → p.want ≡ true → list_any is_rrp p.waiting ≡ false → list_any is_rst p.waiting ≡ false → phase_settles true p ≡ flagged false false false true (p.waiting ++ (Rrp ∷ Rst ∷ [])) }
-    ensures not_twice { (p : Phase) → p.owe ≡ true → p.want ≡ true → list_any is_rrp p.waiting ≡ true → list_any is_rst p.waiting ≡ true → phase_settles true p ≡ flagged false false false true p.waiting }
+    ensures answer { WhereRrpIsDue (λ p. settled p ≡ record (queued Rrp p) { down = false; owe = false }) }
+    ensures reset { WhereRstIsDue (λ p. settled p ≡ record (queued Rst p) { down = false; want = false; wait = true }) }
+    ensures both { WhereBothAreDue false (λ p. settled p ≡ awaiting_rrp (p.waiting ++ (Rrp ∷ Rst ∷ []))) }
+    ensures not_twice { WhereBothAreDue true (λ p. settled p ≡ awaiting_rrp p.waiting) }
 {}
 
 /// While a host is not up it makes nothing but RST and RRP, and every other command that comes
 /// is dropped; calls and replies never make these two.
 pub fn only_resets_while_not_up()
     ensures makes { (c : Command) (p : Phase) → up p ≡ false → phase_makes c p ≡ p }
-    ensures drops { (c : Command) (r : Reaction) (p : Phase) → is_other c ≡ true → up p ≡ false → phase_hears c r p ≡ p }
+    ensures drops { (r : Reaction) → OfOthersWhileNotUp (λ c p. phase_hears c r p ≡ p) }
     ensures dropped { (c : Command) (r : Reaction) (p : Phase) → is_dropped c p ≡ true → phase_hears c r p ≡ p }
     ensures rst_not_dropped { (p : Phase) → is_dropped Rst p ≡ false }
     ensures rrp_not_dropped { (p : Phase) → is_dropped Rrp p ≡ false }
     ensures nop_not_dropped_when_up { (p : Phase) → up p ≡ true → is_dropped Nop p ≡ false }
     ensures rst { (p : Phase) → phase_makes Rst p ≡ p }
     ensures rrp { (p : Phase) → phase_makes Rrp p ≡ p }
-    ensures counted { (c : Command) (p : Phase) → is_other c ≡ true → up p ≡ false → is_dropped c p ≡ true }
+    ensures counted { OfOthersWhileNotUp (λ c p. is_dropped c p ≡ true) }
 {}
 
 /// A purge strikes every command that waits but RST and RRP, and no flag.
@@ -64,8 +65,8 @@ pub fn flags_tell_the_phase()
     ensures wanted_stays { (quiet : Bool) (p : Phase) → p.want ≡ true → resets quiet p ≡ p }
     ensures awaited { (quiet : Bool) (p : Phase) → p.wait ≡ true → reset_answer p ≡ Err CallFault.Busy }
     ensures awaited_stays { (quiet : Bool) (p : Phase) → p.wait ≡ true → resets quiet p ≡ p }
-    ensures accepted { (quiet : Bool) (p : Phase) → p.want ≡ false → p.wait ≡ false → reset_answer p ≡ Ok tt }
-    ensures accepted_settles { (quiet : Bool) (p : Phase) → p.want ≡ false → p.wait ≡ false → resets quiet p ≡ phase_settles quiet (wants_reset p) }
+    ensures accepted { (quiet : Bool) → IfMayReset (λ p. reset_answer p ≡ Ok tt) }
+    ensures accepted_settles { (quiet : Bool) → IfMayReset (λ p. resets quiet p ≡ phase_settles quiet (wants_reset p)) }
     ensures rst { (quiet : Bool) (p : Phase) → hears_rst quiet p ≡ phase_settles quiet (owes_answer p) }
     ensures rrp { (p : Phase) → hears_rrp p ≡ record p { wait = false } }
     ensures stray { (p : Phase) → p.wait ≡ false → is_stray_rrp p ≡ true }
@@ -76,13 +77,13 @@ pub fn flags_tell_the_phase()
 /// A command that is made waits at the end of the others. A host goes down where it would be the
 /// 513th, and where there is no place for the peer's request.
 pub fn goes_down_at_the_513th()
-    ensures place { (c : Command) (p : Phase) → is_other c ≡ true → up p ≡ true → length p.waiting < MAX_WAITING → phase_makes c p ≡ record p { waiting = p.waiting ++ c ∷ [] } }
-    ensures none { (c : Command) (p : Phase) → is_other c ≡ true → up p ≡ true → MAX_WAITING ≤ length p.waiting → phase_makes c p ≡ goes_down p }
+    ensures place { OfOthersWhileUp (λ c p. length p.waiting < MAX_WAITING → phase_makes c p ≡ queued c p) }
+    ensures none { OfOthersWhileUp (λ c p. MAX_WAITING ≤ length p.waiting → phase_makes c p ≡ goes_down p) }
     ensures limit { MAX_WAITING ≡ 512 }
-    ensures full { (link : ℕ) (cs : List Command) (quiet : Bool) (p : Phase) → up p ≡ true → phase_hears (Inr link) (record { quiet = quiet; full = true; replies = cs }) p ≡ goes_down p }
+    ensures full { (on : ℕ) (cs : List Command) (quiet : Bool) → IfUp (λ p. on_inr_full on quiet cs p ≡ goes_down p) }
     ensures no_reply { (c d : Command) (cs : List Command) (p : Phase) → makes_all [] p ≡ p }
     ensures replies { (c d : Command) (cs : List Command) (p : Phase) → makes_all (c ∷ d ∷ cs) p ≡ makes_all cs (phase_makes d (phase_makes c p)) }
-    ensures reply { (link : ℕ) (quiet : Bool) (c : Command) (p : Phase) → up p ≡ true → phase_hears (Inr link) (record { quiet = quiet; full = false; replies = c ∷ [] }) p ≡ phase_makes c p }
+    ensures reply { (on : ℕ) (quiet : Bool) (c : Command) → IfUp (λ p. on_inr on quiet (c ∷ []) p ≡ phase_makes c p) }
 {}
 
 /// A control message takes whole commands from the front, at most 120 bytes of them: fifteen of 8
@@ -90,11 +91,11 @@ pub fn goes_down_at_the_513th()
 pub fn control_messages_are_filled()
     ensures beginning { (cs : List Command) → (rest : List Command) × (next_commands cs ++ rest ≡ cs) }
     ensures fits { (cs : List Command) → length (spellings (next_commands cs)) ≤ MAX_CONTROL }
-    ensures no_more_fits { (cs rest : List Command) (c : Command) → next_commands cs ++ c ∷ rest ≡ cs → MAX_CONTROL < length (spellings (next_commands cs ++ c ∷ [])) }
-    ensures at_least_one { (c : Command) (cs : List Command) → length (spelling c) ≤ MAX_CONTROL → (n : ℕ) × (next_commands (c ∷ cs) ≡ take (n + 1) (c ∷ cs)) }
+    ensures no_more_fits { OfFirstLeftOut (λ cs c. MAX_CONTROL < bytes_of_commands (next_commands cs ++ c ∷ [])) }
+    ensures at_least_one { (c : Command) (cs : List Command) → length (spelling c) ≤ MAX_CONTROL → TakesSome (c ∷ cs) }
     ensures every_one { (c : Command) → IsCommand c → length (spelling c) ≤ MAX_CONTROL }
     ensures fifteen { next_commands (replicate 16 (All 2 1 0)) ≡ replicate 15 (All 2 1 0) }
-    ensures ten { next_commands (replicate 11 (Command.Err 3 (replicate 10 0))) ≡ replicate 10 (Command.Err 3 (replicate 10 0)) }
+    ensures ten { next_commands (replicate 11 (err 3 (replicate 10 0))) ≡ replicate 10 (err 3 (replicate 10 0)) }
     ensures order { next_commands (Rrp ∷ Rst ∷ Rts 2 3 2 ∷ []) ≡ Rrp ∷ Rst ∷ Rts 2 3 2 ∷ [] }
     ensures none { next_commands [] ≡ [] }
     ensures full { (p : Phase) → 256 ≤ length p.waiting → is_full p ≡ true }
@@ -103,5 +104,5 @@ pub fn control_messages_are_filled()
 
 /// No act on an end makes an RST or an RRP: these two are the phase's alone.
 pub fn acts_make_no_resets()
-    ensures { (pair : Pair) (what : Happening) (before : Option End) → filter is_reset (happens pair what before).made ≡ [] }
+    ensures { WhateverHappens (λ pair what before. filter is_reset (happens pair what before).made ≡ []) }
 {}

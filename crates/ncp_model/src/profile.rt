@@ -34,9 +34,12 @@ pub fn the_numbers_of_the_profile()
 /// is late, what finds no place, and what a user is refused do not.
 pub fn what_is_against_the_protocol()
     ensures errors { (error : Command) → is_violation (all.Erred error) ≡ true }
-    ensures texts { (is_violation all.WrongSize ≡ true) × (is_violation all.Over ≡ true) × (is_violation all.NotOpen ≡ true) }
+    ensures texts { is_violation all.WrongSize ≡ true }
+    ensures texts_over { is_violation all.Over ≡ true }
+    ensures texts_not_connected { is_violation all.NotOpen ≡ true }
     ensures good { (is_violation all.Accepted ≡ false) × (is_violation all.Admitted ≡ false) }
     ensures late { (is_violation all.Late ≡ false) × (is_violation all.Full ≡ false) }
     ensures calls { (fault : CallFault) → is_violation (all.Refused fault) ≡ false }
-    ensures own_texts { (text : List Bool) (of_size : ℕ) → (is_violation (all.Took_out text) ≡ false) × (is_violation (all.Sent of_size text) ≡ false) }
+    ensures own_texts { (text : List Bool) → is_violation (all.Took_out text) ≡ false }
+    ensures own_texts_sent { (of_size : ℕ) (text : List Bool) → is_violation (all.Sent of_size text) ≡ false }
 {}

@@ -1,9 +1,9 @@
 //! The worked rows on one end, computed from the definitions: each refusal, before all that are
 //! judged after it, and each effect, at its limits.
-ghost use Rattle.std.specs.Prelude.{◌≡◌, ℕ, Bool, true, false, ◌+◌, ◌*◌, length, ◌++◌, ◌∷◌, [], List, Option, None, Some, Ok, Err};
+ghost use Rattle.std.specs.Prelude.{◌≡◌, Bool, true, false, ◌*◌, length, ◌++◌, ◌∷◌, [], List, None, Some, Ok, Err};
 ghost use Rattle.ncp_model.specs.Amounts.{back};
 ghost use Rattle.ncp_model.specs.End.{End, new_end, or_new, is_open, is_live, is_over};
-ghost use Rattle.ncp_model.specs.Act.{Act, Stays, Becomes, end_after, met, text_error};
+ghost use Rattle.ncp_model.specs.Act.{Stays, Becomes, end_after, met, text_error};
 ghost use Rattle.ncp_model.specs.Calls.{bits_to_take, ask_send, ask_receive, close, give, take_held, allocate, call_back, interrupt};
 ghost use Rattle.ncp_model.specs.Commands.{hear_rts, hear_str, hear_cls, hear_all, hear_gvb, hear_ret, hear_inr, hear_ins};
 ghost use Rattle.ncp_model.specs.Texts.{bytes_to_send, made_by_text, hear_text, cut, end_answered, end_cleared};
@@ -14,8 +14,9 @@ ghost use Rattle.ncp_model.specs.declared.outcomes.Heard.TheVariants.{Nothing, R
 ghost use Rattle.ncp_model.specs.Echo.{Error, Echoes, no_echoes, echo_answer, echo_asked, eco_reply, hear_erp, is_stray_erp, hear_err, purge_echo};
 ghost use Rattle.ncp_model.specs.Happenings.{happens, Asks_to_send, Asks_to_receive, Closes, Gives, Takes, Allocates, Calls_back, Interrupts, Rts_comes, Str_comes, Cls_comes, All_comes, Gvb_comes, Ret_comes, Inr_comes, Ins_comes, Text_comes, Text_goes_out, Is_answered, Is_cleared, Accepted, Refused, Took_out, Sent};
 ghost use Rattle.ncp_model.specs.Happenings as all;
-ghost use Rattle.ncp_model.specs.Rows.{outward, inward, ones, noughts, link_heard, size_heard, asked_send, asked_receive, opened_end, counting, storing, with_counters, with_stored, sent_one, due, gone, shut, err};
+ghost use Rattle.ncp_model.specs.Rows.{outward, inward, ones, noughts, link_heard, size_heard, asked_send, asked_receive, opened_end, counting, storing, sent_one, due, gone, shut, err};
 ghost use Rattle.ncp_model.specs.RowFacts.{both_send, both_receive, new_outward, send_request, receive_request, unmet_sender, unmet_receiver, loaded, byte_stored, linked_by, of_large_bytes, with_interrupts, most_interrupted, recalling, recalled_end, awaiting_ret, one_granted, sender_in_use, receiver_in_use, in_full_use, busy_end, left_end, over_end, still_holding, awaiting, ten_bytes, refusal, erred, yields, yields_none, making, leaves_none, errs_at, text_arrives};
+ghost use Rattle.ncp_model.specs.InUse.{loaded_sender, loaded_receiver, sender_with, receiver_with, twice_loaded_receiver, loaded_with, after_interrupts, used_byte, filled_store, large_byte_stored, three_stored, three_waiting, two_sent, byte_held, three_bytes_held, a_bit_short, shut_sender, left_granted, allocates_at, after_ins, allocated, ends_in_ones, OfEndsStoring, errors_after, echoed_by};
 
 use crate::outcomes::{Heard, Took};
 
@@ -97,7 +98,7 @@ pub fn closing()
     ensures queue_at_receiver { close inward true (Some opened_end) ≡ refusal QueueFull }
     ensures queue_at_the_last { close inward true (Some (still_holding 8)) ≡ refusal QueueFull }
     ensures queue_at_refusal { close outward true (Some link_heard) ≡ refusal QueueFull }
-    ensures keeps { close inward false (Some (loaded receiver_in_use)) ≡ Becomes (gone receiver_in_use) (Ok (Some (Cls 2 3))) }
+    ensures keeps { close inward false (Some loaded_receiver) ≡ Becomes (gone receiver_in_use) (Ok (Some (Cls 2 3))) }
 {}
 
 /// Giving text: whole bytes, up to the room of the store, at the end of what waits.
@@ -112,9 +113,9 @@ pub fn giving()
     ensures whole { give outward (ones 12) (Some opened_end) ≡ refusal NotWhole }
     ensures whole_before_room { give outward (ones 68) (Some opened_end) ≡ refusal NotWhole }
     ensures room { give outward (ones 16) (Some (storing (noughts 56))) ≡ refusal NoRoom }
-    ensures bytes_of_36 { give outward (ones 36) (Some of_large_bytes) ≡ Becomes (with_stored (ones 36) of_large_bytes) (Ok tt) }
+    ensures bytes_of_36 { give outward (ones 36) (Some of_large_bytes) ≡ Becomes large_byte_stored (Ok tt) }
     ensures bytes_of_36_in_part { give outward (ones 8) (Some of_large_bytes) ≡ refusal NotWhole }
-    ensures fits { give outward (ones 8) (Some (storing (noughts 56))) ≡ Becomes (storing (noughts 56 ++ ones 8)) (Ok tt) }
+    ensures fits { give outward (ones 8) (Some (storing (noughts 56))) ≡ Becomes filled_store (Ok tt) }
     ensures nothing { give outward [] (Some (storing (ones 64))) ≡ Becomes (storing (ones 64)) (Ok tt) }
     ensures busy { give outward (ones 8) (Some busy_end) ≡ Becomes (sent_one byte_stored) (Ok tt) }
     ensures closing_before_room_due { give outward (ones 72) (Some (due busy_end)) ≡ refusal Closing }
@@ -136,12 +137,12 @@ pub fn taking()
     ensures open_unasked { take_held outward 1 (Some link_heard) ≡ refusal NotOpen }
     ensures end { take_held outward 1 (Some opened_end) ≡ refusal WrongEnd }
     ensures end_due { take_held outward 1 (Some (due busy_end)) ≡ refusal WrongEnd }
-    ensures front { take_held inward 2 (Some (storing (ones 16 ++ noughts 8))) ≡ Becomes (storing (noughts 8)) (Ok (ones 16, None)) }
+    ensures front { take_held inward 2 (Some three_stored) ≡ Becomes (storing (noughts 8)) (Ok (ones 16, None)) }
     ensures all { take_held inward 100 (Some (storing (ones 16))) ≡ Becomes opened_end (Ok (ones 16, None)) }
     ensures whole { take_held inward 100 (Some (storing (ones 20))) ≡ Becomes (storing (ones 4)) (Ok (ones 16, None)) }
     ensures receiver_early { take_held inward 1 (Some asked_receive) ≡ refusal NotOpen }
     ensures receiver_early_left { take_held inward 1 (Some (gone asked_receive)) ≡ refusal Closing }
-    ensures keeps { take_held inward 1 (Some (with_stored (ones 16) receiver_in_use)) ≡ Becomes (loaded receiver_in_use) (Ok (ones 8, None)) }
+    ensures keeps { take_held inward 1 (Some twice_loaded_receiver) ≡ Becomes loaded_receiver (Ok (ones 8, None)) }
     ensures none { take_held inward 0 (Some (storing (ones 16))) ≡ Becomes (storing (ones 16)) (Ok ([], None)) }
     ensures one_bit_left { take_held inward 1 (Some (still_holding 9)) ≡ Becomes (still_holding 1) (Ok (ones 8, None)) }
     ensures four { take_held inward 4 (Some (still_holding 48)) ≡ Becomes (still_holding 16) (Ok (ones 32, None)) }
@@ -161,12 +162,12 @@ pub fn allocating()
     ensures bits { allocate inward 1 65 true (Some opened_end) ≡ refusal TooMuch }
     ensures bits_of_1024 { allocate inward 1 1025 false (Some (record opened_end { room = 1024 })) ≡ refusal TooMuch }
     ensures held { allocate inward 1 17 false (Some (loaded (counting 1 40))) ≡ refusal TooMuch }
-    ensures held_to_the_limit { allocate inward 1 16 false (Some (loaded (counting 1 40))) ≡ Becomes (loaded (counting 2 56)) (Ok (All 2 1 16)) }
+    ensures held_to_the_limit { allocates_at 1 16 (loaded_with 1 40) ≡ Becomes (loaded_with 2 56) (Ok (All 2 1 16)) }
     ensures messages { allocate inward 1 0 true (Some (counting 65535 0)) ≡ refusal TooMuch }
-    ensures messages_to_the_limit { allocate inward 1 0 false (Some (counting 65534 0)) ≡ Becomes (counting 65535 0) (Ok (All 2 1 0)) }
+    ensures messages_to_the_limit { allocates_at 1 0 (counting 65534 0) ≡ Becomes (counting 65535 0) (Ok (All 2 1 0)) }
     ensures queue { allocate inward 1 64 true (Some opened_end) ≡ refusal QueueFull }
     ensures made { allocate inward 2 16 false (Some opened_end) ≡ Becomes (counting 2 16) (Ok (All 2 2 16)) }
-    ensures recalled { allocate inward 2 16 false (Some (with_counters 0 0 receiver_in_use)) ≡ Becomes (with_counters 2 16 receiver_in_use) (Ok (All 2 2 16)) }
+    ensures recalled { allocates_at 2 16 (receiver_with 0 0) ≡ Becomes (receiver_with 2 16) (Ok (All 2 2 16)) }
     ensures closing_before_end { allocate outward 1 8 false (Some left_end) ≡ refusal Closing }
     ensures closing_before_amounts_due { allocate inward 1 65 false (Some (due byte_stored)) ≡ refusal Closing }
     ensures closing_before_amounts_left { allocate inward 1 65 false (Some left_end) ≡ refusal Closing }
@@ -176,7 +177,7 @@ pub fn allocating()
 
 /// Calling back, one at a time.
 pub fn calling_back()
-    ensures keeps_the_rest { call_back inward 64 1 false (Some (loaded (with_interrupts 2 (counting 3 24)))) ≡ Becomes (loaded receiver_in_use) (Ok (Gvb 2 64 1)) }
+    ensures keeps_the_rest { call_back inward 64 1 false (Some after_ins) ≡ Becomes loaded_receiver (Ok (Gvb 2 64 1)) }
     ensures entry { call_back outward 64 1 true None ≡ refusal NoEntry }
     ensures closing_left { call_back outward 64 1 true (Some (gone asked_send)) ≡ refusal Closing }
     ensures closing_due { call_back outward 64 1 true (Some (due opened_end)) ≡ refusal Closing }
@@ -185,7 +186,7 @@ pub fn calling_back()
     ensures end { call_back outward 64 1 true (Some recalled_end) ≡ refusal WrongEnd }
     ensures busy { call_back inward 64 1 true (Some recalled_end) ≡ refusal Busy }
     ensures queue { call_back inward 64 1 true (Some opened_end) ≡ refusal QueueFull }
-    ensures made { call_back inward 64 1 false (Some (counting 5 1000)) ≡ Becomes (recalling (counting 5 1000)) (Ok (Gvb 2 64 1)) }
+    ensures made { call_back inward 64 1 false (Some allocated) ≡ Becomes (recalling allocated) (Ok (Gvb 2 64 1)) }
     ensures closing_before_busy_due { call_back inward 64 1 false (Some (due recalled_end)) ≡ refusal Closing }
     ensures closing_before_busy_left { call_back inward 64 1 false (Some (gone recalled_end)) ≡ refusal Closing }
     ensures open_before_busy { call_back inward 64 1 false (Some (recalling asked_receive)) ≡ refusal NotOpen }
@@ -246,7 +247,7 @@ pub fn hearing_str()
 /// A CLS that comes is matched by one: at once, or when the text out was taken, or when what is
 /// held was taken.
 pub fn hearing_cls()
-    ensures keeps_the_rest { hear_cls outward (Some (loaded sender_in_use)) ≡ Becomes (shut (due sender_in_use)) Nothing }
+    ensures keeps_the_rest { hear_cls outward (Some loaded_sender) ≡ Becomes (shut (due sender_in_use)) Nothing }
     ensures sex { hear_cls (record { local = 5; remote = 7 }) None ≡ erred 3 (ten_bytes 3 0 0 0 7 0 0 0 5 0) }
     ensures entry { hear_cls (record { local = 6; remote = 7 }) None ≡ erred 4 (ten_bytes 3 0 0 0 7 0 0 0 6 0) }
     ensures again { hear_cls outward (Some (shut (due busy_end))) ≡ erred 3 (ten_bytes 3 0 0 0 2 0 0 0 3 0) }
@@ -255,7 +256,7 @@ pub fn hearing_cls()
     ensures leaving { hear_cls outward (Some (due busy_end)) ≡ Becomes (shut (due busy_end)) Nothing }
     ensures leaving_stays { end_after None (hear_cls outward (Some (due busy_end))) ≡ Some (shut (due busy_end)) }
     ensures again_at_receiver { hear_cls inward (Some (still_holding 8)) ≡ erred 3 (ten_bytes 3 0 0 0 3 0 0 0 2 0) }
-    ensures keeps { hear_cls inward (Some (loaded receiver_in_use)) ≡ Becomes (shut (due (loaded receiver_in_use))) Nothing }
+    ensures keeps { hear_cls inward (Some loaded_receiver) ≡ Becomes (shut (due loaded_receiver)) Nothing }
     ensures leaving_too { hear_cls inward (Some (due opened_end)) ≡ Becomes (shut (due opened_end)) Nothing }
     ensures busy { hear_cls outward (Some (sent_one byte_stored)) ≡ Becomes (shut (due busy_end)) Nothing }
     ensures busy_stays { end_after None (hear_cls outward (Some (sent_one byte_stored))) ≡ Some (shut (due busy_end)) }
@@ -275,7 +276,7 @@ pub fn hearing_cls()
 
 /// An ALL that comes raises both counters, or neither where one would pass its limit.
 pub fn hearing_all()
-    ensures keeps_the_rest { hear_all 2 1 8 (Some (loaded (with_counters 2 16 sender_in_use))) ≡ Becomes (loaded sender_in_use) Nothing }
+    ensures keeps_the_rest { hear_all 2 1 8 (Some (loaded (sender_with 2 16))) ≡ Becomes loaded_sender Nothing }
     ensures none { hear_all 2 1 0 None ≡ erred 5 (ten_bytes 4 2 0 1 0 0 0 0 0 0) }
     ensures unopened { hear_all 2 1 0 (Some link_heard) ≡ erred 5 (ten_bytes 4 2 0 1 0 0 0 0 0 0) }
     ensures late { hear_all 2 1 0 (Some (gone link_heard)) ≡ Stays Heard.Late }
@@ -302,7 +303,7 @@ pub fn hearing_gvb()
 /// A RET that comes lowers what is outstanding, or neither number where one is over it, and
 /// answers the GVB.
 pub fn hearing_ret()
-    ensures keeps_the_rest { hear_ret 2 1 8 (Some (loaded receiver_in_use)) ≡ Becomes (loaded (with_interrupts 2 (counting 2 16))) Nothing }
+    ensures keeps_the_rest { hear_ret 2 1 8 (Some loaded_receiver) ≡ Becomes (after_interrupts 2 16) Nothing }
     ensures none { hear_ret 9 0 0 None ≡ erred 5 (ten_bytes 6 9 0 0 0 0 0 0 0 0) }
     ensures unopened { hear_ret 2 0 0 (Some asked_receive) ≡ erred 5 (ten_bytes 6 2 0 0 0 0 0 0 0 0) }
     ensures late { hear_ret 2 0 0 (Some (gone asked_receive)) ≡ Stays Heard.Late }
@@ -337,7 +338,7 @@ pub fn hearing_text()
     ensures size { hear_text 7 (ones 14) (Some opened_end) ≡ Stays Took.WrongSize }
     ensures messages { hear_text 8 [] (Some (counting 0 16)) ≡ Stays Took.Over }
     ensures bits { hear_text 8 (ones 16) (Some (counting 2 15)) ≡ Stays Took.Over }
-    ensures admitted { hear_text 8 (ones 16) (Some (with_stored (noughts 8) (counting 2 16))) ≡ Becomes (with_stored (noughts 8 ++ ones 16) (counting 1 0)) Took.Admitted }
+    ensures admitted { hear_text 8 (ones 16) (Some byte_held) ≡ Becomes three_bytes_held Took.Admitted }
     ensures empty { hear_text 8 [] (Some (counting 2 16)) ≡ Becomes (counting 1 16) Took.Admitted }
     ensures last { hear_text 8 (ones 8) (Some one_granted) ≡ Becomes byte_stored Took.Admitted }
     ensures empty_without_bits { hear_text 8 [] (Some (counting 1 0)) ≡ Becomes (counting 0 0) Took.Admitted }
@@ -347,10 +348,10 @@ pub fn hearing_text()
 /// A text that goes out: three bytes wait, two are allocated. None goes out where one is out,
 /// where a counter or what waits has not a byte, or where the end is not an open sender's.
 pub fn cutting()
-    ensures keeps_the_rest { cut outward (Some (loaded (with_interrupts 2 (counting 2 16)))) ≡ Becomes (with_counters 1 8 sender_in_use) (Some (8, ones 8)) }
+    ensures keeps_the_rest { cut outward (Some (after_interrupts 2 16)) ≡ Becomes (sender_with 1 8) (Some (8, ones 8)) }
     ensures none { cut outward None ≡ Stays None }
-    ensures two { cut outward (Some (with_stored (ones 16 ++ noughts 8) (counting 2 16))) ≡ Becomes (sent_one (with_stored (noughts 8) (counting 1 0))) (Some (8, ones 16)) }
-    ensures whole { cut outward (Some (with_stored (ones 24) (counting 1 23))) ≡ Becomes (sent_one (loaded (counting 0 7))) (Some (8, ones 16)) }
+    ensures two { cut outward (Some three_waiting) ≡ Becomes two_sent (Some (8, ones 16)) }
+    ensures whole { cut outward (Some a_bit_short) ≡ Becomes (sent_one (loaded_with 0 7)) (Some (8, ones 16)) }
     ensures busy { cut outward (Some (sent_one (record (counting 2 16) { stored = ones 16 }))) ≡ Stays None }
     ensures messages { cut outward (Some (record (counting 0 16) { stored = ones 16 })) ≡ Stays None }
     ensures bits { cut outward (Some (record (counting 2 7) { stored = ones 16 })) ≡ Stays None }
@@ -362,10 +363,10 @@ pub fn cutting()
 /// A message takes at most 7,928 bits of text: 991 bytes of 8 bits, then the 9 that are left of
 /// 1,000; 31 bytes of 255 bits, which are 7,905 bits. What is taken at once is bounded likewise.
 pub fn filling_a_message()
-    ensures most { (e : End) → length e.stored ≡ 8000 → e.size ≡ 8 → e.bits ≡ 9000 → bytes_to_send e ≡ 991 }
-    ensures rest { (e : End) → length e.stored ≡ 72 → e.size ≡ 8 → e.bits ≡ 1072 → bytes_to_send e ≡ 9 }
-    ensures long { (e : End) → length e.stored ≡ 25500 → e.size ≡ 255 → e.bits ≡ 25500 → bytes_to_send e ≡ 31 }
-    ensures long_in_bits { (e : End) → length e.stored ≡ 25500 → e.size ≡ 255 → e.bits ≡ 25500 → bytes_to_send e * e.size ≡ 7905 }
+    ensures most { OfEndsStoring 8000 8 9000 (λ e. bytes_to_send e ≡ 991) }
+    ensures rest { OfEndsStoring 72 8 1072 (λ e. bytes_to_send e ≡ 9) }
+    ensures long { OfEndsStoring 25500 255 25500 (λ e. bytes_to_send e ≡ 31) }
+    ensures long_in_bits { OfEndsStoring 25500 255 25500 (λ e. bytes_to_send e * e.size ≡ 7905) }
     ensures taken { (e : End) → length e.stored ≡ 8000 → e.size ≡ 8 → bits_to_take 1000 e ≡ 7928 }
     ensures taken_in_whole_bytes { (e : End) → length e.stored ≡ 8000 → e.size ≡ 8 → bits_to_take 990 e ≡ 7920 }
     ensures held { (e : End) → length e.stored ≡ 72 → e.size ≡ 8 → bits_to_take 4294967295 e ≡ 72 }
@@ -388,19 +389,19 @@ pub fn refusing_text()
     ensures only_not_of_wrong_size { (head text : List Bool) → made_by_text head text Took.WrongSize ≡ [] }
     ensures only_not_over { (head text : List Bool) → made_by_text head text Took.Over ≡ [] }
     ensures only_not_admitted { (head text : List Bool) → made_by_text head text Took.Admitted ≡ [] }
-    ensures text { text_error (noughts 64 ++ ones 8) (ones 4 ++ noughts 4 ++ ones 8) ≡ err 5 (ten_bytes 0 0 0 0 0 0 0 0 255 240) }
+    ensures text { text_error ends_in_ones (ones 4 ++ noughts 4 ++ ones 8) ≡ err 5 (ten_bytes 0 0 0 0 0 0 0 0 255 240) }
     ensures short { text_error (noughts 71 ++ ones 1) (ones 3) ≡ err 5 (ten_bytes 0 0 0 0 0 0 0 0 1 224) }
     ensures empty { text_error (ones 72) [] ≡ err 5 (ten_bytes 255 255 255 255 255 255 255 255 255 0) }
 {}
 
 /// The answer to a text: only an RFNM frees its sender, and a leaving one then makes its CLS.
 pub fn answering()
-    ensures keeps_the_rest { end_answered outward Rfnm (Some (with_interrupts 2 (sent_one byte_stored))) ≡ Becomes (with_interrupts 2 byte_stored) None }
+    ensures keeps_the_rest { end_answered outward Rfnm (Some (sent_one used_byte)) ≡ Becomes used_byte None }
     ensures none_taken { end_answered outward Rfnm None ≡ Stays None }
     ensures none_incomplete { end_answered outward Incomplete None ≡ Stays None }
     ensures none_dead { end_answered outward Dead None ≡ Stays None }
     ensures taken { end_answered outward Rfnm (Some (sent_one byte_stored)) ≡ Becomes byte_stored None }
-    ensures only_leaving { end_answered outward Rfnm (Some (shut (sent_one (counting 2 16)))) ≡ Becomes (shut (counting 2 16)) None }
+    ensures only_leaving { end_answered outward Rfnm (Some (sent_one shut_sender)) ≡ Becomes shut_sender None }
     ensures again { end_answered outward Incomplete (Some (due busy_end)) ≡ Stays None }
     ensures kept { end_answered outward Dead (Some (due busy_end)) ≡ Stays None }
     ensures leaving { end_answered outward Rfnm (Some (due busy_end)) ≡ Becomes left_end (Some (Cls 3 2)) }
@@ -446,11 +447,11 @@ pub fn echoing()
     ensures stray_changes_nothing { let s : Echoes = record no_echoes { echoed = Some 65 } in hear_erp 66 s ≡ s }
     ensures stray { let s : Echoes = record no_echoes { echoed = Some 65 } in is_stray_erp s ≡ true }
     ensures first { (e : Error) → hear_err e no_echoes ≡ record no_echoes { errors = e ∷ [] } }
-    ensures sixteen { (a b : Error) (es : List Error) → length es ≡ 14 → (hear_err b (record no_echoes { errors = a ∷ es })).errors ≡ (a ∷ es) ++ b ∷ [] }
-    ensures last { (a b : Error) (es : List Error) → length es ≡ 15 → (hear_err b (record no_echoes { errors = a ∷ es })).errors ≡ es ++ b ∷ [] }
+    ensures sixteen { (a b : Error) (es : List Error) → length es ≡ 14 → errors_after b (a ∷ es) ≡ (a ∷ es) ++ b ∷ [] }
+    ensures last { (a b : Error) (es : List Error) → length es ≡ 15 → errors_after b (a ∷ es) ≡ es ++ b ∷ [] }
     ensures purge { (s : Echoes) → purge_echo s ≡ record s { awaited = false } }
     ensures error_alone { (e : Error) → hear_err e (awaiting (Some 65) []) ≡ awaiting (Some 65) (e ∷ []) }
-    ensures answer_alone { (e : Error) → hear_erp 65 (awaiting None (e ∷ [])) ≡ record (awaiting (Some 65) (e ∷ [])) { awaited = false } }
+    ensures answer_alone { (e : Error) → hear_erp 65 (awaiting None (e ∷ [])) ≡ echoed_by 65 (e ∷ []) }
 {}
 
 /// What is told of a call that happens: the end after it, the command that it makes, and the outcome.
@@ -493,7 +494,7 @@ pub fn telling_of_commands()
 /// What is told of a text that comes, that goes out, or that is answered, and of a clearing.
 pub fn telling_of_texts()
     ensures admitted { happens inward (text_arrives 8 (ones 8)) (Some one_granted) ≡ yields byte_stored all.Admitted }
-    ensures late { happens inward (text_arrives 8 (ones 8)) (Some (gone one_granted)) ≡ yields (gone one_granted) all.Late }
+    ensures late { happens inward (text_arrives 8 (ones 8)) (Some left_granted) ≡ yields left_granted all.Late }
     ensures size { happens inward (text_arrives 7 (ones 7)) (Some one_granted) ≡ yields one_granted all.WrongSize }
     ensures over { happens inward (text_arrives 8 (ones 16)) (Some one_granted) ≡ yields one_granted all.Over }
     ensures none { happens inward (Text_comes (ones 72) 8 []) None ≡ leaves_none (text_error (ones 72) []) all.NotOpen }

@@ -1,11 +1,8 @@
 -- Worked command lines.
-use Rattle.std.specs.Prelude.{List, ◌∷◌, codes}
+use Rattle.std.specs.Prelude.{◌==◌, ℕ, List}
+use Rattle.std.specs.List.{slice_split}
 use Rattle.clap.specs.Walk.{Text}
 
--- the words of a command line with these behind the program's name
-abbrev pub after_ncp : List Text → List Text
-after_ncp words = codes "ncp" ∷ words
-
--- and with these behind `convert`
-abbrev pub after_convert : List Text → List Text
-after_convert words = after_ncp (codes "convert" ∷ words)
+-- the words of a command line, as a shell has them where none is quoted: a space ends each but the last
+abbrev pub typed : List ℕ → List Text
+typed line = slice_split (λ byte. byte == 32) line

@@ -3,7 +3,7 @@ ghost use Rattle.std.specs.Prelude.{◌≡◌, ◌↔◌, ◌∷◌, [], None, S
 ghost use Rattle.clap.specs.Faults.{fault_of};
 ghost use Rattle.clap.specs.declared.error.kind.ErrorKind.TheVariants as kind;
 ghost use Rattle.ncp_play_command_line.specs.CommandLine.{order_in, program, word_in};
-ghost use Rattle.ncp_play_command_line.specs.Examples.{after_convert, after_ncp};
+ghost use Rattle.ncp_play_command_line.specs.Examples.{typed};
 ghost use Rattle.ncp_play_command_line.specs.declared.orders.Order.TheVariants.{Audit, Convert, Explain, Follow, Record, Show, World};
 
 use crate::orders::Order;
@@ -18,55 +18,55 @@ pub fn same_order(one: Order, other: Order) -> bool
 /// Worked command lines, computed from the definitions: a subcommand is its order, and `show` is meant
 /// where there is none. `--version` is told, and is no order.
 pub fn words_are_read_so()
-    ensures nothing { order_in (after_ncp []) ≡ Show }
-    ensures world { order_in (after_ncp (codes "world" ∷ [])) ≡ World }
-    ensures recorded { order_in (after_ncp (codes "record" ∷ [])) ≡ Record }
-    ensures version { fault_of program (after_ncp (codes "--version" ∷ [])) ≡ kind.DisplayVersion ∷ [] }
+    ensures nothing { order_in (typed (codes "ncp")) ≡ Show }
+    ensures world { order_in (typed (codes "ncp world")) ≡ World }
+    ensures recorded { order_in (typed (codes "ncp record")) ≡ Record }
+    ensures version { fault_of program (typed (codes "ncp --version")) ≡ kind.DisplayVersion ∷ [] }
 {}
 
 /// Worked command lines of `convert`: it has the number of `--at`, from 0 to 255. A number that is
 /// missing, too great, or given twice is a fault.
 pub fn numbers_are_read_so()
-    ensures seven { order_in (after_convert (codes "--at" ∷ codes "7" ∷ [])) ≡ Convert 7 }
-    ensures most { order_in (after_convert (codes "--at=255" ∷ [])) ≡ Convert 255 }
-    ensures sound { fault_of program (after_convert (codes "--at=255" ∷ [])) ≡ [] }
-    ensures missing { fault_of program (after_convert []) ≡ kind.MissingRequiredArgument ∷ [] }
-    ensures great { fault_of program (after_convert (codes "--at=256" ∷ [])) ≡ kind.ValueValidation ∷ [] }
-    ensures negative { fault_of program (after_convert (codes "--at=-1" ∷ [])) ≡ kind.ValueValidation ∷ [] }
-    ensures twice { fault_of program (after_convert (codes "--at=7" ∷ codes "--at=7" ∷ [])) ≡ kind.ArgumentConflict ∷ [] }
+    ensures seven { order_in (typed (codes "ncp convert --at 7")) ≡ Convert 7 }
+    ensures most { order_in (typed (codes "ncp convert --at=255")) ≡ Convert 255 }
+    ensures sound { fault_of program (typed (codes "ncp convert --at=255")) ≡ [] }
+    ensures missing { fault_of program (typed (codes "ncp convert")) ≡ kind.MissingRequiredArgument ∷ [] }
+    ensures great { fault_of program (typed (codes "ncp convert --at=256")) ≡ kind.ValueValidation ∷ [] }
+    ensures negative { fault_of program (typed (codes "ncp convert --at=-1")) ≡ kind.ValueValidation ∷ [] }
+    ensures twice { fault_of program (typed (codes "ncp convert --at=7 --at=7")) ≡ kind.ArgumentConflict ∷ [] }
 {}
 
 /// Worked command lines of `audit`: what is asked of it stands in any order, in front of the file or behind it.
 pub fn audits_are_read_so()
-    ensures bare { order_in (after_ncp (codes "audit" ∷ [])) ≡ Audit false false }
-    ensures part { order_in (after_ncp (codes "audit" ∷ codes "--part" ∷ [])) ≡ Audit true false }
-    ensures both { order_in (after_ncp (codes "audit" ∷ codes "--standard" ∷ codes "first.ncp" ∷ codes "--part" ∷ [])) ≡ Audit true true }
-    ensures file { word_in (after_ncp (codes "audit" ∷ codes "--standard" ∷ codes "first.ncp" ∷ codes "--part" ∷ [])) ≡ Some (codes "first.ncp") }
-    ensures valued { fault_of program (after_ncp (codes "audit" ∷ codes "--part=7" ∷ [])) ≡ kind.TooManyValues ∷ [] }
+    ensures bare { order_in (typed (codes "ncp audit")) ≡ Audit false false }
+    ensures part { order_in (typed (codes "ncp audit --part")) ≡ Audit true false }
+    ensures both { order_in (typed (codes "ncp audit --standard first.ncp --part")) ≡ Audit true true }
+    ensures file { word_in (typed (codes "ncp audit --standard first.ncp --part")) ≡ Some (codes "first.ncp") }
+    ensures valued { fault_of program (typed (codes "ncp audit --part=7")) ≡ kind.TooManyValues ∷ [] }
 {}
 
 /// Worked command lines of `follow`: the number of `--bytes` is that of a connection, from 1 to 4096.
 pub fn follows_are_read_so()
-    ensures bare { order_in (after_ncp (codes "follow" ∷ [])) ≡ Follow false None }
-    ensures part { order_in (after_ncp (codes "follow" ∷ codes "first.ncp" ∷ codes "--part" ∷ [])) ≡ Follow true None }
-    ensures bytes { order_in (after_ncp (codes "follow" ∷ codes "--bytes" ∷ codes "7" ∷ codes "first.ncp" ∷ [])) ≡ Follow false (Some 7) }
-    ensures most { order_in (after_ncp (codes "follow" ∷ codes "--bytes=4096" ∷ codes "--part" ∷ [])) ≡ Follow true (Some 4096) }
-    ensures sound { fault_of program (after_ncp (codes "follow" ∷ codes "--bytes=4096" ∷ [])) ≡ [] }
-    ensures none { fault_of program (after_ncp (codes "follow" ∷ codes "--bytes=0" ∷ [])) ≡ kind.ValueValidation ∷ [] }
-    ensures great { fault_of program (after_ncp (codes "follow" ∷ codes "--bytes=4097" ∷ [])) ≡ kind.ValueValidation ∷ [] }
-    ensures file { word_in (after_ncp (codes "follow" ∷ codes "--part" ∷ codes "first.ncp" ∷ [])) ≡ Some (codes "first.ncp") }
+    ensures bare { order_in (typed (codes "ncp follow")) ≡ Follow false None }
+    ensures part { order_in (typed (codes "ncp follow first.ncp --part")) ≡ Follow true None }
+    ensures bytes { order_in (typed (codes "ncp follow --bytes 7 first.ncp")) ≡ Follow false (Some 7) }
+    ensures most { order_in (typed (codes "ncp follow --bytes=4096 --part")) ≡ Follow true (Some 4096) }
+    ensures sound { fault_of program (typed (codes "ncp follow --bytes=4096")) ≡ [] }
+    ensures none { fault_of program (typed (codes "ncp follow --bytes=0")) ≡ kind.ValueValidation ∷ [] }
+    ensures great { fault_of program (typed (codes "ncp follow --bytes=4097")) ≡ kind.ValueValidation ∷ [] }
+    ensures file { word_in (typed (codes "ncp follow --part first.ncp")) ≡ Some (codes "first.ncp") }
 {}
 
 /// Worked words behind a subcommand: a file leaves the order as it is, `-` is a word as any other, there is one at most,
 /// and of `explain` there has to be one.
 pub fn files_are_read_so()
-    ensures order { order_in (after_ncp (codes "world" ∷ codes "first.script" ∷ [])) ≡ World }
-    ensures file { word_in (after_ncp (codes "world" ∷ codes "first.script" ∷ [])) ≡ Some (codes "first.script") }
-    ensures standard { word_in (after_ncp (codes "show" ∷ codes "-" ∷ [])) ≡ Some (codes "-") }
-    ensures none { word_in (after_ncp (codes "show" ∷ [])) ≡ None }
-    ensures converted { order_in (after_convert (codes "--at" ∷ codes "7" ∷ codes "first.ncp" ∷ [])) ≡ Convert 7 }
-    ensures behind { word_in (after_convert (codes "--at" ∷ codes "7" ∷ codes "first.ncp" ∷ [])) ≡ Some (codes "first.ncp") }
-    ensures more { fault_of program (after_ncp (codes "show" ∷ codes "a" ∷ codes "b" ∷ [])) ≡ kind.UnknownArgument ∷ [] }
-    ensures explained { order_in (after_ncp (codes "explain" ∷ codes "BadLine" ∷ [])) ≡ Explain }
-    ensures unnamed { fault_of program (after_ncp (codes "explain" ∷ [])) ≡ kind.MissingRequiredArgument ∷ [] }
+    ensures order { order_in (typed (codes "ncp world first.script")) ≡ World }
+    ensures file { word_in (typed (codes "ncp world first.script")) ≡ Some (codes "first.script") }
+    ensures standard { word_in (typed (codes "ncp show -")) ≡ Some (codes "-") }
+    ensures none { word_in (typed (codes "ncp show")) ≡ None }
+    ensures converted { order_in (typed (codes "ncp convert --at 7 first.ncp")) ≡ Convert 7 }
+    ensures behind { word_in (typed (codes "ncp convert --at 7 first.ncp")) ≡ Some (codes "first.ncp") }
+    ensures more { fault_of program (typed (codes "ncp show a b")) ≡ kind.UnknownArgument ∷ [] }
+    ensures explained { order_in (typed (codes "ncp explain BadLine")) ≡ Explain }
+    ensures unnamed { fault_of program (typed (codes "ncp explain")) ≡ kind.MissingRequiredArgument ∷ [] }
 {}

@@ -1,2 +1,3 @@
 pub mod Tied
 pub mod Headline
+pub mod OfHosts

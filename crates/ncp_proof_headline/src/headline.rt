@@ -1,23 +1,21 @@
 //! The headline: what holds of two hosts and all their connections after every schedule, where the
 //! subnet delivers a message whole and once and answers RFNM, or delivers nothing and says so. That
 //! their commands act once and in order is `hosts_act_once_in_order` of `ncp_proof_machine`.
-ghost use Rattle.std.specs.Prelude.{◌≡◌, ℕ, Bool, List, [], ◌∷◌, ◌++◌, true, false, None, Some};
+ghost use Rattle.std.specs.Prelude.{◌≡◌, ℕ, Bool, List, [], ◌∷◌, true, false, None, Some};
 ghost use Rattle.std.specs.List.{list_any};
-ghost use Rattle.std.specs.FinMap.{get};
 ghost use Rattle.ncp_terms.specs.declared.command.Command.{Command};
-ghost use Rattle.ncp_model.specs.Pairs.{sends};
-ghost use Rattle.ncp_model.specs.Act.{answer};
-ghost use Rattle.ncp_model.specs.Ends.{hear, text_in};
-ghost use Rattle.ncp_model.specs.Phase.{is_rst, is_rrp, is_other, up_phase};
-ghost use Rattle.ncp_model.specs.Happenings.{of_hearing, outcome_of_text, is_violation};
-ghost use Rattle.ncp_proof_resets.specs.Delivery.{Accepted, Held, Free};
-ghost use Rattle.ncp_proof_resets.specs.Resets.{is_up, commands_underway};
-ghost use Rattle.ncp_proof_machine.specs.Hosts.{Node, TwoNodes, nodes_swapped, past_of, is_empty, TextOut, NodeStep, node_steps, node_hears, node_hears_all, node_hears_text, PairCall, node_calls, node_calls_echo, Calls_reset, Hears, NodeEvent, node_at, run};
-ghost use Rattle.ncp_proof_headline.specs.Headline.{BothOpenInModel, sender_in_model, receiver_in_model, granted_underway, returned_underway, how_many_texts, text_underway, MessagesAgreeInModel, BitsAgreeInModel, OnOneLink, WithinAllocationInModel, PartedInModel, TakenOrHeld, BeginsInModel, StaysOut, SenderOpens, ReceiverOpens, NoPairOpens, NoCommandOpens, BothWaysInModel};
+ghost use Rattle.ncp_model.specs.Phase.{is_rst, is_other, up_phase};
+ghost use Rattle.ncp_model.specs.Happenings.{is_violation};
+ghost use Rattle.ncp_proof_resets.specs.Delivery.{Accepted};
+ghost use Rattle.ncp_proof_machine.specs.Hosts.{Node, TwoNodes, nodes_swapped, past_of, TextOut, NodeStep, node_steps, node_hears, node_hears_text, PairCall, node_calls, node_calls_echo, Calls_reset, Hears, NodeEvent, node_at, run};
+ghost use Rattle.ncp_proof_headline.specs.Headline.{commands_there, commands_back, BothOpenInModel, sender_in_model, receiver_in_model, granted_underway, returned_underway, how_many_texts, text_underway, MessagesAgreeInModel, BitsAgreeInModel, OnOneLink, WithinAllocationInModel, PartedInModel, TakenOrHeld, BeginsInModel, StaysOut, SenderOpens, ReceiverOpens, NoPairOpens, NoCommandOpens, BothWaysInModel};
 ghost use Rattle.ncp_model.specs.Rows.{outward, inward, ones, noughts, counting};
 ghost use Rattle.ncp_proof_machine.specs.HostRuns.{calls_back_under_text, sender_cleared, held_past_reset, up_after_held, opened_after_held, with_text_out, meets, meets_there};
 ghost use Rattle.ncp_proof_resets.specs.Resets.{This, That};
 ghost use Rattle.ncp_model.specs.Amounts.{granted_messages, returned_messages};
+ghost use Rattle.ncp_proof_headline.specs.OfHosts.{OfEachSender, InEachStep, WhileItAwaits, WhereAwaitingEnds, AnRrpComes, OfCommandsAtNodes, OfTextsAtNodes, of_command_at, of_text_at};
+ghost use Rattle.ncp_proof_machine.specs.After.{AfterAll, sender_after, receiver_after, got_after, held_text};
+ghost use Rattle.ncp_model.specs.InUse.{three_bytes, got_two};
 
 use ncp_model::Pair;
 
@@ -25,20 +23,20 @@ use ncp_model::Pair;
 /// underway it waits, and its waiting ends in no step but one in which an RRP comes to it.
 pub fn only_resets_act_until_the_answer()
     ensures commands { (c : Command) (n : Node) → n.host.phase.wait ≡ true → is_other c ≡ true → node_hears c n ≡ n }
-    ensures texts { (on : ℕ) (head : List Bool) (t : TextOut) (n : Node) → n.host.phase.wait ≡ true → node_hears_text on head t n ≡ n }
-    ensures calls { (pair : Pair) (call : PairCall) (n : Node) → n.host.phase.wait ≡ true → node_calls pair call n ≡ n }
-    ensures echoes { (byte : ℕ) (n : Node) → n.host.phase.wait ≡ true → node_calls_echo byte n ≡ n }
-    ensures waits { (events : List NodeEvent) → list_any is_rst (commands_underway (run events).this.host (run events).this.control) ≡ true → (run events).this.host.phase.wait ≡ true }
-    ensures waits_too { (events : List NodeEvent) → list_any is_rst (commands_underway (run events).that.host (run events).that.control) ≡ true → (run events).that.host.phase.wait ≡ true }
+    ensures texts { (on : ℕ) (head : List Bool) (t : TextOut) → WhileItAwaits (λ n. node_hears_text on head t n ≡ n) }
+    ensures calls { (pair : Pair) (call : PairCall) → WhileItAwaits (λ n. node_calls pair call n ≡ n) }
+    ensures echoes { (byte : ℕ) → WhileItAwaits (λ n. node_calls_echo byte n ≡ n) }
+    ensures waits { AfterAll (λ w. list_any is_rst (commands_there w) ≡ true → w.this.host.phase.wait ≡ true) }
+    ensures waits_too { AfterAll (λ w. list_any is_rst (commands_back w) ≡ true → w.that.host.phase.wait ≡ true) }
     ensures each { (step : NodeStep) (w : TwoNodes) → (node_steps step w).that.host ≡ w.that.host }
-    ensures until { (step : NodeStep) (w : TwoNodes) → w.this.host.phase.wait ≡ true → (node_steps step w).this.host.phase.wait ≡ false → (m : List Command) × (w.that.control.subnet ≡ Accepted m) × (list_any is_rrp m ≡ true) }
+    ensures until { WhereAwaitingEnds AnRrpComes }
 {}
 
 /// A host that is up notes in its ghost what is against the protocol: that it answers a command with an
 /// ERR, or a text as not connected, of the wrong size or beyond the allocation.
 pub fn what_is_against_the_protocol_is_noted()
-    ensures commands { (c : Command) (n : Node) → is_up n.host ≡ true → is_violation (of_hearing (answer (hear c n.ends))) ≡ true → (node_hears c n).violated ≡ true }
-    ensures texts { (on : ℕ) (head : List Bool) (t : TextOut) (n : Node) → is_up n.host ≡ true → is_violation (outcome_of_text (answer (text_in on t.of_size t.bits n.ends))) ≡ true → (node_hears_text on head t n).violated ≡ true }
+    ensures commands { OfCommandsAtNodes (λ c n now. is_violation (of_command_at c n) ≡ true → now.violated ≡ true) }
+    ensures texts { OfTextsAtNodes (λ on t n now. is_violation (of_text_at on t n) ≡ true → now.violated ≡ true) }
 {}
 
 /// Neither host ever makes an ERR for a command of the other, or answers its text as not connected, of
@@ -49,14 +47,15 @@ pub fn what_is_against_the_protocol_is_noted()
 /// granted less what was returned and used; what it got was taken or is held, until it left; and it
 /// is a beginning of what was given since the sender last opened, whatever the sender has done since.
 pub fn hosts_lose_and_make_nothing()
-    ensures safe { (events : List NodeEvent) → ((run events).this.violated ≡ false) × ((run events).that.violated ≡ false) }
-    ensures messages { (events : List NodeEvent) (pair : Pair) → sends pair ≡ true → BothWaysInModel (MessagesAgreeInModel pair) (run events) }
-    ensures bits { (events : List NodeEvent) (pair : Pair) → sends pair ≡ true → BothWaysInModel (BitsAgreeInModel pair) (run events) }
-    ensures link { (events : List NodeEvent) (pair : Pair) → sends pair ≡ true → BothWaysInModel (OnOneLink pair) (run events) }
-    ensures allocation { (events : List NodeEvent) (pair : Pair) → sends pair ≡ true → BothWaysInModel (WithinAllocationInModel pair) (run events) }
-    ensures parted { (events : List NodeEvent) (pair : Pair) → sends pair ≡ true → BothWaysInModel (PartedInModel pair) (run events) }
-    ensures held { (events : List NodeEvent) (pair : Pair) → sends pair ≡ true → BothWaysInModel (TakenOrHeld pair) (run events) }
-    ensures beginning { (events : List NodeEvent) (pair : Pair) → sends pair ≡ true → BothWaysInModel (BeginsInModel pair) (run events) }
+    ensures safe { AfterAll (λ w. w.this.violated ≡ false) }
+    ensures safe_there { AfterAll (λ w. w.that.violated ≡ false) }
+    ensures messages { OfEachSender MessagesAgreeInModel }
+    ensures bits { OfEachSender BitsAgreeInModel }
+    ensures link { OfEachSender OnOneLink }
+    ensures allocation { OfEachSender WithinAllocationInModel }
+    ensures parted { OfEachSender PartedInModel }
+    ensures held { OfEachSender TakenOrHeld }
+    ensures beginning { OfEachSender BeginsInModel }
 {}
 
 /// From the output of a text on a link to its RFNM no pair whose texts go on that link from that host
@@ -64,7 +63,8 @@ pub fn hosts_lose_and_make_nothing()
 /// control message is heard in one step; in that step too no command of it makes such an opening, even
 /// one that a later command of the same message would end.
 pub fn none_opens_while_its_link_has_a_text()
-    ensures steps { (events : List NodeEvent) (e : NodeEvent) → let w = run events in let after = node_at e.side e.step w in NoPairOpens w after × NoPairOpens (nodes_swapped w) (nodes_swapped after) }
+    ensures steps { InEachStep NoPairOpens }
+    ensures steps_back { InEachStep (λ w after. NoPairOpens (nodes_swapped w) (nodes_swapped after)) }
     ensures commands { (events : List NodeEvent) → BothWaysInModel NoCommandOpens (run events) }
 {}
 
@@ -72,17 +72,30 @@ pub fn none_opens_while_its_link_has_a_text()
 /// and a receiver lives on what it got while its sender was cleared.
 pub fn all_terms_are_underway()
     ensures open { BothOpenInModel outward (run calls_back_under_text) }
-    ensures messages { let w = run calls_back_under_text in ((receiver_in_model outward w).messages ≡ 5) × ((sender_in_model outward w).messages ≡ 0) × (granted_underway granted_messages outward w ≡ 3) × (how_many_texts (text_underway outward w) ≡ 1) × (returned_underway returned_messages outward w ≡ 1) }
-    ensures alone { let w = run sender_cleared in (get w.this.ends outward ≡ None) × (get w.that.ends inward ≡ Some (record (counting 1 0) { stored = ones 16 })) × ((past_of w.that.pasts inward).got ≡ ones 16) × ((past_of w.this.pasts outward).given ≡ ones 16 ++ noughts 8) }
+    ensures messages { (receiver_in_model outward (run calls_back_under_text)).messages ≡ 5 }
+    ensures messages_at_sender { (sender_in_model outward (run calls_back_under_text)).messages ≡ 0 }
+    ensures messages_granted { granted_underway granted_messages outward (run calls_back_under_text) ≡ 3 }
+    ensures messages_in_texts { how_many_texts (text_underway outward (run calls_back_under_text)) ≡ 1 }
+    ensures messages_returned { returned_underway returned_messages outward (run calls_back_under_text) ≡ 1 }
+    ensures alone { sender_after sender_cleared ≡ None }
+    ensures alone_there { receiver_after sender_cleared ≡ Some got_two }
+    ensures alone_got { got_after sender_cleared ≡ ones 16 }
+    ensures alone_given { (past_of (run sender_cleared).this.pasts outward).given ≡ three_bytes }
 {}
 
 /// A text is held back past a reset of the host to which it goes: that host's RST is answered only
 /// after the text, which is dropped when it comes; and what opens anew on its link gets what was given
 /// anew, and no more.
 pub fn a_text_is_held_back_past_a_reset()
-    ensures owed { let w = run held_past_reset in (w.this.host.phase ≡ record up_phase { owe = true }) × (w.that.host.phase ≡ record up_phase { wait = true }) × (w.this.texts 2 ≡ record { slot = Held (record { of_size = 8; bits = ones 16 }); subnet = Free }) }
-    ensures dropped { let w = run up_after_held in (w.this.host.phase ≡ up_phase) × (w.that.host.phase ≡ up_phase) × ((past_of w.that.pasts inward).got ≡ []) }
-    ensures anew { let w = run opened_after_held in (get w.this.ends outward ≡ Some (counting 1 0)) × (get w.that.ends inward ≡ Some (record (counting 1 0) { stored = noughts 16 })) × ((past_of w.that.pasts inward).got ≡ noughts 16) }
+    ensures owed { (run held_past_reset).this.host.phase ≡ record up_phase { owe = true } }
+    ensures owed_and_awaited { (run held_past_reset).that.host.phase ≡ record up_phase { wait = true } }
+    ensures owed_behind_the_text { (run held_past_reset).this.texts 2 ≡ held_text }
+    ensures dropped { (run up_after_held).this.host.phase ≡ up_phase }
+    ensures dropped_there { (run up_after_held).that.host.phase ≡ up_phase }
+    ensures dropped_text { got_after up_after_held ≡ [] }
+    ensures anew { sender_after opened_after_held ≡ Some (counting 1 0) }
+    ensures anew_there { receiver_after opened_after_held ≡ Some (record (counting 1 0) { stored = noughts 16 }) }
+    ensures anew_got { got_after opened_after_held ≡ noughts 16 }
 {}
 
 /// The premises of the laws on openings are each met: a text stays out in a step; a step of the

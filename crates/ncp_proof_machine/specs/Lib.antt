@@ -3,3 +3,4 @@ pub mod Seen
 pub mod Watching
 pub mod Moving
 pub mod HostRuns
+pub mod After

@@ -1,20 +1,22 @@
 //! Two hosts with their connections.
-ghost use Rattle.std.specs.Prelude.{◌≡◌, ℕ, List, [], ◌∷◌, ◌++◌, ◌||◌, true, false, None, Some};
+ghost use Rattle.std.specs.Prelude.{◌≡◌, List, [], ◌∷◌, true, false, None, Some};
 ghost use Rattle.std.specs.FinMap.{get};
 ghost use Rattle.ncp_model.specs.Ends.{no_ends, hears_link, uses_link};
-ghost use Rattle.ncp_model.specs.Leading.{passes};
 ghost use Rattle.ncp_proof_watch.specs.Sound.{SoundAt};
 ghost use Rattle.ncp_proof_resets.specs.Resets.{is_up, Agrees, Silent, ResetEvent, reset_run};
-ghost use Rattle.ncp_proof_machine.specs.Hosts.{Node, node_hears, NodeEvent, run, base, past_of};
-ghost use Rattle.ncp_proof_resets.specs.Delivery.{Ready, Travelling, Held, Free, Accepted, idle};
+ghost use Rattle.ncp_proof_machine.specs.Hosts.{node_hears, NodeEvent, run, base};
+ghost use Rattle.ncp_proof_resets.specs.Delivery.{Ready, Held, Free, idle};
 ghost use Rattle.ncp_terms.specs.declared.command.Command.{Command};
-ghost use Rattle.ncp_model.specs.Echo.{no_echoes, hear_err};
-ghost use Rattle.ncp_model.specs.Rows.{outward, inward, ones, noughts, size_heard, asked_receive, opened_end, counting, sent_one, due, gone, shut};
+ghost use Rattle.ncp_model.specs.Echo.{no_echoes};
+ghost use Rattle.ncp_model.specs.Rows.{ones, size_heard, asked_receive, opened_end, counting, sent_one, due, gone, shut, err};
 ghost use Rattle.ncp_proof_machine.specs.HostRuns.{with_text_out, got_and_taken, lost_twice, held_back, woken_again, both_reset, reset_under_text, reset_over, asks_again, closed_by_receiver, over_by_receiver, opened_again, closed_by_sender, over_by_sender, other_outward, other_inward, opens_another, reset_under_other_text, request_lost, request_again, request_held, request_woken, echo_asks, echo_comes_back, open_with_echo, fallen, both_interrupt};
 ghost use Rattle.ncp_proof_machine.specs.Seen.{CallsAgree, EchoesAgree, ResetsAgree, FallsAgree, HearsAgree, TextsAgree, FreesAgree, SettlesAgree, HearingAgrees, CutsAgree, SendsAgree, StepsAgree, OtherNodeStays};
 ghost use Rattle.ncp_proof_machine.specs.Watching.{WatchesAgree, OtherWatchesStay};
 ghost use Rattle.ncp_proof_machine.specs.Moving.{ControlMoves, TextsMove, ControlIsHeard, TextsAreHeard};
 ghost use Rattle.ncp_model.specs.Phase.{up_phase};
+ghost use Rattle.ncp_proof_machine.specs.After.{AfterAll, WhereBothAreUp, AreApart, sender_after, receiver_after, got_after, taken_after, travelling_text, held_text, OfErrorsWhileUp, keeps_error};
+ghost use Rattle.ncp_model.specs.InUse.{byte_left, two_sent, got_two};
+ghost use Rattle.ncp_model.specs.RowFacts.{linked_by, with_interrupts};
 
 use ncp_model::Pair;
 
@@ -23,90 +25,139 @@ use ncp_model::Pair;
 /// made, in order. A host that is not up has made nothing and heard nothing since it was cleared.
 pub fn hosts_act_once_in_order()
     ensures projected { (events : List NodeEvent) → (es : List ResetEvent) × (base (run events) ≡ reset_run es) }
-    ensures there { (events : List NodeEvent) → is_up (run events).this.host ≡ true → is_up (run events).that.host ≡ true → Agrees (run events).this.host (run events).this.control (run events).that.host }
-    ensures back { (events : List NodeEvent) → is_up (run events).this.host ≡ true → is_up (run events).that.host ≡ true → Agrees (run events).that.host (run events).that.control (run events).this.host }
-    ensures silent { (events : List NodeEvent) → is_up (run events).this.host ≡ false → Silent (run events).this.host }
-    ensures silent_too { (events : List NodeEvent) → is_up (run events).that.host ≡ false → Silent (run events).that.host }
+    ensures there { WhereBothAreUp (λ w. Agrees w.this.host w.this.control w.that.host) }
+    ensures back { WhereBothAreUp (λ w. Agrees w.that.host w.that.control w.this.host) }
+    ensures silent { AfterAll (λ w. is_up w.this.host ≡ false → Silent w.this.host) }
+    ensures silent_too { AfterAll (λ w. is_up w.that.host ≡ false → Silent w.that.host) }
 {}
 
 /// Ends stand only at a host that is up, each of them is sound, and no two that send, nor two that
 /// receive, are on one link, after every schedule.
 pub fn ends_stand_only_while_up()
-    ensures none { (events : List NodeEvent) → is_up (run events).this.host ≡ false → (run events).this.ends ≡ no_ends }
-    ensures none_too { (events : List NodeEvent) → is_up (run events).that.host ≡ false → (run events).that.ends ≡ no_ends }
+    ensures none { AfterAll (λ w. is_up w.this.host ≡ false → w.this.ends ≡ no_ends) }
+    ensures none_too { AfterAll (λ w. is_up w.that.host ≡ false → w.that.ends ≡ no_ends) }
     ensures sound { (events : List NodeEvent) (pair : Pair) → SoundAt pair (get (run events).this.ends pair) }
     ensures sound_too { (events : List NodeEvent) (pair : Pair) → SoundAt pair (get (run events).that.ends pair) }
-    ensures apart { (events : List NodeEvent) (on : ℕ) (p q : Pair) → passes (hears_link on) p (get (run events).this.ends p) ≡ true → passes (hears_link on) q (get (run events).this.ends q) ≡ true → p ≡ q }
-    ensures apart_too { (events : List NodeEvent) (on : ℕ) (p q : Pair) → passes (uses_link on) p (get (run events).this.ends p) ≡ true → passes (uses_link on) q (get (run events).this.ends q) ≡ true → p ≡ q }
+    ensures apart { AfterAll (λ w. AreApart hears_link w.this.ends) }
+    ensures apart_too { AfterAll (λ w. AreApart uses_link w.this.ends) }
 {}
 
 /// That these laws speak of something: both hosts come up, a connection opens, two of three bytes
 /// go out, come, and are taken.
 pub fn text_comes_over()
-    ensures out { let w = run with_text_out in (get w.this.ends outward ≡ Some (sent_one (record (counting 1 0) { stored = noughts 8 }))) × (get w.that.ends inward ≡ Some (counting 2 16)) × (w.this.texts 2 ≡ record { slot = Travelling (record { of_size = 8; bits = ones 16 }); subnet = Accepted (record { of_size = 8; bits = ones 16 }) }) }
-    ensures taken { let w = run got_and_taken in (get w.this.ends outward ≡ Some (record (counting 1 0) { stored = noughts 8 })) × (get w.that.ends inward ≡ Some (counting 1 0)) × ((past_of w.that.pasts inward).taken ≡ ones 16) × (w.this.texts 2 ≡ idle) × (w.that.violated ≡ false) }
+    ensures out { sender_after with_text_out ≡ Some two_sent }
+    ensures out_there { receiver_after with_text_out ≡ Some (counting 2 16) }
+    ensures out_on_link { (run with_text_out).this.texts 2 ≡ travelling_text }
+    ensures taken { sender_after got_and_taken ≡ Some byte_left }
+    ensures taken_there { receiver_after got_and_taken ≡ Some (counting 1 0) }
+    ensures taken_bits { taken_after got_and_taken ≡ ones 16 }
+    ensures taken_and_answered { (run got_and_taken).this.texts 2 ≡ idle }
+    ensures taken_safely { (run got_and_taken).that.violated ≡ false }
 {}
 
 /// A text that is lost twice comes once; one whose destination is dead is held, and comes once it
 /// was woken.
 pub fn text_comes_once()
-    ensures lost_twice { let w = run lost_twice in (get w.this.ends outward ≡ Some (record (counting 1 0) { stored = noughts 8 })) × (get w.that.ends inward ≡ Some (record (counting 1 0) { stored = ones 16 })) × ((past_of w.that.pasts inward).got ≡ ones 16) }
-    ensures held { let w = run held_back in (w.this.texts 2 ≡ record { slot = Held (record { of_size = 8; bits = ones 16 }); subnet = Free }) × (get w.this.ends outward ≡ Some (sent_one (record (counting 1 0) { stored = noughts 8 }))) }
-    ensures woken { let w = run woken_again in (w.this.texts 2 ≡ idle) × ((past_of w.that.pasts inward).got ≡ ones 16) }
+    ensures lost_twice { sender_after lost_twice ≡ Some byte_left }
+    ensures lost_twice_there { receiver_after lost_twice ≡ Some got_two }
+    ensures lost_twice_got { got_after lost_twice ≡ ones 16 }
+    ensures held { (run held_back).this.texts 2 ≡ held_text }
+    ensures held_at_sender { sender_after held_back ≡ Some two_sent }
+    ensures woken { (run woken_again).this.texts 2 ≡ idle }
+    ensures woken_got { got_after woken_again ≡ ones 16 }
 {}
 
 /// Resets: both hosts reset while a request waits; and a host resets while a text is out to it. The
 /// text is dropped, the RRP waits for its RFNM, then both are up without ends, and link 2 is free.
 pub fn resets_leave_no_ends()
-    ensures both { let w = run both_reset in (w.this.host.phase ≡ up_phase) × (w.that.host.phase ≡ up_phase) × (get w.this.ends outward ≡ None) × (get w.that.ends inward ≡ None) }
-    ensures waits { let w = run reset_under_text in (w.this.host.phase ≡ record up_phase { owe = true }) × (w.that.host.phase ≡ record up_phase { wait = true }) × (get w.this.ends outward ≡ None) × (get w.that.ends inward ≡ None) × ((past_of w.that.pasts inward).got ≡ []) }
-    ensures up { let w = run reset_over in (w.this.host.phase ≡ up_phase) × (w.that.host.phase ≡ up_phase) }
-    ensures again { let w = run asks_again in (get w.that.ends inward ≡ Some asked_receive) × (w.that.violated ≡ false) }
+    ensures both { (run both_reset).this.host.phase ≡ up_phase }
+    ensures both_there { (run both_reset).that.host.phase ≡ up_phase }
+    ensures both_no_end { sender_after both_reset ≡ None }
+    ensures both_no_end_there { receiver_after both_reset ≡ None }
+    ensures waits { (run reset_under_text).this.host.phase ≡ record up_phase { owe = true } }
+    ensures waits_there { (run reset_under_text).that.host.phase ≡ record up_phase { wait = true } }
+    ensures waits_no_end { sender_after reset_under_text ≡ None }
+    ensures waits_no_end_there { receiver_after reset_under_text ≡ None }
+    ensures waits_nothing_got { got_after reset_under_text ≡ [] }
+    ensures up { (run reset_over).this.host.phase ≡ up_phase }
+    ensures up_there { (run reset_over).that.host.phase ≡ up_phase }
+    ensures again { receiver_after asks_again ≡ Some asked_receive }
+    ensures again_safely { (run asks_again).that.violated ≡ false }
 {}
 
 /// Closing while a text is out: by the receiver, where the text is late; by the sender, where it is
 /// got. Either way both ends end, and the connection can open again on the same link.
 pub fn closing_waits_for_text()
-    ensures late { let w = run closed_by_receiver in (get w.this.ends outward ≡ Some (shut (due (sent_one (counting 1 0))))) × (get w.that.ends inward ≡ Some (gone (counting 2 16))) × ((past_of w.that.pasts inward).got ≡ []) }
-    ensures over { let w = run over_by_receiver in (get w.this.ends outward ≡ None) × (get w.that.ends inward ≡ None) × (w.that.violated ≡ false) }
-    ensures again { let w = run opened_again in (get w.this.ends outward ≡ Some opened_end) × (get w.that.ends inward ≡ Some opened_end) }
-    ensures got { let w = run closed_by_sender in (get w.this.ends outward ≡ Some (gone (counting 1 0))) × (get w.that.ends inward ≡ Some (shut (due (record (counting 1 0) { stored = ones 16 })))) }
-    ensures over_too { let w = run over_by_sender in (get w.this.ends outward ≡ None) × (get w.that.ends inward ≡ None) × ((past_of w.that.pasts inward).taken ≡ ones 16) }
+    ensures late { sender_after closed_by_receiver ≡ Some (shut (due (sent_one (counting 1 0)))) }
+    ensures late_there { receiver_after closed_by_receiver ≡ Some (gone (counting 2 16)) }
+    ensures late_nothing_got { got_after closed_by_receiver ≡ [] }
+    ensures over { sender_after over_by_receiver ≡ None }
+    ensures over_there { receiver_after over_by_receiver ≡ None }
+    ensures over_safely { (run over_by_receiver).that.violated ≡ false }
+    ensures again { sender_after opened_again ≡ Some opened_end }
+    ensures again_there { receiver_after opened_again ≡ Some opened_end }
+    ensures got { sender_after closed_by_sender ≡ Some (gone (counting 1 0)) }
+    ensures got_there { receiver_after closed_by_sender ≡ Some (shut (due got_two)) }
+    ensures over_too { sender_after over_by_sender ≡ None }
+    ensures over_too_there { receiver_after over_by_sender ≡ None }
+    ensures over_too_taken { taken_after over_by_sender ≡ ones 16 }
 {}
 
 /// A second connection opens on link 3, beside the first on link 2; and a reset waits for its text too.
 pub fn connections_open_beside_each_other()
-    ensures beside { let w = run opens_another in (get w.this.ends outward ≡ Some opened_end) × (get w.that.ends inward ≡ Some opened_end) × (get w.this.ends other_outward ≡ Some (record opened_end { link = 3 })) × (get w.that.ends other_inward ≡ Some (record opened_end { link = 3 })) }
-    ensures waits { let w = run reset_under_other_text in (w.this.host.phase ≡ record up_phase { owe = true }) × (w.this.texts 2 ≡ idle) × (w.this.texts 3 ≡ record { slot = Travelling (record { of_size = 8; bits = ones 16 }); subnet = Accepted (record { of_size = 8; bits = ones 16 }) }) }
+    ensures beside { sender_after opens_another ≡ Some opened_end }
+    ensures beside_there { receiver_after opens_another ≡ Some opened_end }
+    ensures beside_other { get (run opens_another).this.ends other_outward ≡ Some (linked_by 3) }
+    ensures beside_other_there { get (run opens_another).that.ends other_inward ≡ Some (linked_by 3) }
+    ensures waits { (run reset_under_other_text).this.host.phase ≡ record up_phase { owe = true } }
+    ensures waits_for_none_there { (run reset_under_other_text).this.texts 2 ≡ idle }
+    ensures waits_for_text { (run reset_under_other_text).this.texts 3 ≡ travelling_text }
 {}
 
 /// A control message that is lost comes once; one whose destination is dead is held, does not go out
 /// meanwhile, and comes once it was woken.
 pub fn control_messages_come_once()
     ensures lost { (run request_lost).this.control ≡ record { slot = Ready (Command.Str 3 2 8 ∷ []); subnet = Free } }
-    ensures again { let w = run request_again in (w.this.control ≡ idle) × (get w.that.ends inward ≡ Some size_heard) × (w.that.host.came ≡ Command.Str 3 2 8 ∷ []) }
-    ensures held { let w = run request_held in (w.this.control ≡ record { slot = Held (Command.Str 3 2 8 ∷ []); subnet = Free }) × (get w.that.ends inward ≡ None) }
-    ensures woken { let w = run request_woken in (w.this.control ≡ idle) × (get w.that.ends inward ≡ Some size_heard) × (w.that.host.came ≡ Command.Str 3 2 8 ∷ []) }
+    ensures again { (run request_again).this.control ≡ idle }
+    ensures again_heard { receiver_after request_again ≡ Some size_heard }
+    ensures again_once { (run request_again).that.host.came ≡ Command.Str 3 2 8 ∷ [] }
+    ensures held { (run request_held).this.control ≡ record { slot = Held (Command.Str 3 2 8 ∷ []); subnet = Free } }
+    ensures held_unheard { receiver_after request_held ≡ None }
+    ensures woken { (run request_woken).this.control ≡ idle }
+    ensures woken_heard { receiver_after request_woken ≡ Some size_heard }
+    ensures woken_once { (run request_woken).that.host.came ≡ Command.Str 3 2 8 ∷ [] }
 {}
 
 /// An ECO is answered by an ERP with its byte, which ends the echo; an ERR that comes to a host that is
 /// up is kept with the last ones, and nothing else is done about it.
 pub fn echoes_and_errors_are_kept()
     ensures awaited { (run echo_asks).this.echoes ≡ record no_echoes { awaited = true } }
-    ensures echoed { let w = run echo_comes_back in (w.this.echoes ≡ record no_echoes { echoed = Some 65 }) × (w.that.echoes ≡ no_echoes) × (w.that.host.came ≡ Command.Eco 65 ∷ []) × (w.this.host.came ≡ Command.Erp 65 ∷ []) }
-    ensures error { (code : ℕ) (data_bytes : List ℕ) (n : Node) → is_up n.host ≡ true → node_hears (Command.Err code data_bytes) n ≡ record n { host = record n.host { came = n.host.came ++ Command.Err code data_bytes ∷ [] }; echoes = hear_err (record { code = code; bytes = data_bytes }) n.echoes; violated = n.violated || false } }
+    ensures echoed { (run echo_comes_back).this.echoes ≡ record no_echoes { echoed = Some 65 } }
+    ensures echoed_here_alone { (run echo_comes_back).that.echoes ≡ no_echoes }
+    ensures echoed_came { (run echo_comes_back).that.host.came ≡ Command.Eco 65 ∷ [] }
+    ensures echoed_came_back { (run echo_comes_back).this.host.came ≡ Command.Erp 65 ∷ [] }
+    ensures error { OfErrorsWhileUp (λ code bytes n. node_hears (err code bytes) n ≡ keeps_error code bytes n) }
 {}
 
 /// A host that goes down with a connection open and an echo awaited keeps neither; its peer notices
 /// nothing yet.
 pub fn a_host_falls_with_ends_and_an_echo()
-    ensures open { let w = run open_with_echo in (get w.this.ends outward ≡ Some opened_end) × (w.this.echoes ≡ record no_echoes { awaited = true }) × (w.this.host.phase ≡ record up_phase { waiting = Command.Eco 65 ∷ [] }) }
-    ensures fallen { let w = run fallen in (get w.this.ends outward ≡ None) × (w.this.echoes ≡ no_echoes) × (w.this.host.phase ≡ record up_phase { down = true }) × (w.this.host.made ≡ []) × (get w.that.ends inward ≡ Some opened_end) }
+    ensures open { sender_after open_with_echo ≡ Some opened_end }
+    ensures open_awaits { (run open_with_echo).this.echoes ≡ record no_echoes { awaited = true } }
+    ensures open_waits { (run open_with_echo).this.host.phase ≡ record up_phase { waiting = Command.Eco 65 ∷ [] } }
+    ensures fallen { sender_after fallen ≡ None }
+    ensures fallen_echo { (run fallen).this.echoes ≡ no_echoes }
+    ensures fallen_phase { (run fallen).this.host.phase ≡ record up_phase { down = true } }
+    ensures fallen_made { (run fallen).this.host.made ≡ [] }
+    ensures fallen_unnoticed { receiver_after fallen ≡ Some opened_end }
 {}
 
 /// Interrupts of both users come: INS to the receiver, INR to the sender.
 pub fn interrupts_are_counted()
-    ensures { let w = run both_interrupt in (get w.this.ends outward ≡ Some (record opened_end { interrupts = 1 })) × (get w.that.ends inward ≡ Some (record opened_end { interrupts = 1 })) × (w.that.host.came ≡ Command.Str 3 2 8 ∷ Command.Ins 2 ∷ []) × (w.this.host.came ≡ Command.Rts 2 3 2 ∷ Command.Inr 2 ∷ []) }
+    ensures sender { sender_after both_interrupt ≡ Some (with_interrupts 1 opened_end) }
+    ensures receiver { receiver_after both_interrupt ≡ Some (with_interrupts 1 opened_end) }
+    ensures came_there { (run both_interrupt).that.host.came ≡ Command.Str 3 2 8 ∷ Command.Ins 2 ∷ [] }
+    ensures came { (run both_interrupt).this.host.came ≡ Command.Rts 2 3 2 ∷ Command.Inr 2 ∷ [] }
 {}
 
 /// What a host keeps of its peer goes its way alone: each step of a host is a step of that, by what the

@@ -9,3 +9,5 @@ pub mod Errless
 pub mod Promised
 pub mod Taking
 pub mod AtEachHost
+pub mod EachSide
+pub mod PromiseRows

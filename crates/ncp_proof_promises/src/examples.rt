@@ -1,28 +1,24 @@
 //! That the laws speak of something, and what their definitions refuse: small laws that a wrong definition
 //! makes false.
 ghost use Rattle.std.specs.Prelude.{◌≡◌, ℕ, Bool, true, false, List, [], ◌∷◌, Some};
-ghost use Rattle.std.specs.List.{filter, list_any};
+ghost use Rattle.std.specs.List.{filter};
 ghost use Rattle.std.specs.FinMap.{get};
 ghost use Rattle.ncp_terms.specs.declared.command.Command.{Command};
 ghost use Rattle.ncp_slot.specs.Slot.{is_empty};
 ghost use Rattle.ncp_slot.specs.Slots.{slot_at};
 ghost use Rattle.ncp_model.specs.declared.outcomes.Heard.{Heard};
-ghost use Rattle.ncp_model.specs.declared.outcomes.Took.{Took};
 ghost use Rattle.ncp_model.specs.declared.outcomes.Error.{Error};
 ghost use Rattle.ncp_model.specs.Act.{answer};
 ghost use Rattle.ncp_model.specs.Ends.{hear};
-ghost use Rattle.ncp_model.specs.Phase.{up, up_phase, is_other};
-ghost use Rattle.ncp_model.specs.Peers.{new_peer};
+ghost use Rattle.ncp_model.specs.Phase.{up, is_other};
 ghost use Rattle.ncp_model.specs.declared.call_fault.CallFault.{CallFault};
 ghost use Rattle.ncp_model.specs.declared.pair.Pair.{Pair};
 ghost use Rattle.ncp_model.specs.Pairs.{sends};
 ghost use Rattle.ncp_model.specs.Rows.{outward, inward, counting};
 ghost use Rattle.ncp_proof_resets.specs.Resets.{This, That};
 ghost use Rattle.ncp_proof_watch.specs.Histories.{no_past};
-ghost use Rattle.ncp_proof_machine.specs.Hosts.{Hears, node_at, run, peer_of, past_of};
-ghost use Rattle.ncp_proof_machine.specs.HostRuns.{meets, meets_there};
-ghost use Rattle.ncp_host.specs.declared.received.Received.{Received};
-ghost use Rattle.ncp_host.specs.PeerState.{PeerState, new_state};
+ghost use Rattle.ncp_proof_machine.specs.Hosts.{past_of};
+ghost use Rattle.ncp_host.specs.PeerState.{PeerState};
 ghost use Rattle.ncp_transcript.specs.declared.call.Call.{Call};
 ghost use Rattle.ncp_transcript.specs.declared.note.HostNote.{HostNote};
 ghost use Rattle.ncp_transcript_two.specs.World.{World, Asks_echo, Asks_reset, Called, In, Reply, Asked};
@@ -30,20 +26,26 @@ ghost use Rattle.ncp_transcript_two.specs.Watch.{Both};
 ghost use Rattle.ncp_transcript_two.specs.declared.side.Side.{Side};
 ghost use Rattle.ncp_transcript_two.specs.declared.note.Note.{Note};
 ghost use Rattle.ncp_transcript_two.specs.Between.{Hosts, hosts_after_note};
-ghost use Rattle.ncp_transcript_two.specs.Seen.{seen, told};
-ghost use Rattle.ncp_transcript_two.specs.Honest.{IsBeginningWithin, sent, came};
+ghost use Rattle.ncp_transcript_two.specs.Seen.{seen};
+ghost use Rattle.ncp_transcript_two.specs.Honest.{came};
 ghost use Rattle.ncp_transcript_two.specs.Underway.{commands_of, underway};
 ghost use Rattle.ncp_transcript_two.specs.Subnet.{TransitByLink};
 ghost use Rattle.ncp_proof_promises.specs.EachNote.{OfEachNote};
-ghost use Rattle.ncp_proof_promises.specs.Judged.{ActsOnce, is_error, NoneErrs, MakesNoErr};
+ghost use Rattle.ncp_proof_promises.specs.Judged.{ActsOnce, NoneErrs, MakesNoErr};
 ghost use Rattle.ncp_proof_promises.specs.Errless.{HasNoErr};
-ghost use Rattle.ncp_proof_promises.specs.Resetting.{AwaitsReply, StillWaits, OnlyResetsAct};
+ghost use Rattle.ncp_proof_promises.specs.Resetting.{AwaitsReply, OnlyResetsAct};
 ghost use Rattle.ncp_proof_promises.specs.Openings.{Opens, OpensOnFreeLinks};
-ghost use Rattle.ncp_proof_promises.specs.Since.{Watches, nothing_seen, watch_after_asked, watch_after_message, CommandsAgree};
+ghost use Rattle.ncp_proof_promises.specs.Since.{Watches, nothing_seen, watch_after_asked, CommandsAgree};
 ghost use Rattle.ncp_proof_promises.specs.Headline.{IsWithin};
 ghost use Rattle.ncp_proof_promises.specs.Promised.{EitherWay, CameInOrder, WaitsAlone, NoErrUnderway, IsAllowed};
 ghost use Rattle.ncp_proof_runs.specs.Examples.{up_state};
 ghost use Rattle.ncp_proof_promises.specs.Examples.{waiting_state, seen_before, IsThis, IsPairOf};
+ghost use Rattle.ncp_proof_promises.specs.PromiseRows.{before_meeting, after_meeting, before_meeting_there, after_meeting_there, eco_made, eco_came, of_messages, IsInOrder, an_err_goes, an_err_comes, GoesOnWaiting, heard_in};
+ghost use Rattle.ncp_transcript_two.specs.declared.note.Note.TheVariants.{Lost};
+ghost use Rattle.ncp_transcript_two.specs.declared.side.Side.TheVariants.{A, B};
+ghost use Rattle.ncp_terms.specs.declared.command.Command.TheVariants.{Eco, Rrp, Rst};
+ghost use Rattle.ncp_host.specs.declared.received.Received.TheVariants.{Control, Text};
+ghost use Rattle.ncp_model.specs.declared.outcomes.Took.TheVariants.{Admitted, Over};
 
 use ncp_proof_headline::headline::openings_and_texts_out_happen;
 use ncp_terms::Command;
@@ -51,10 +53,10 @@ use ncp_terms::Command;
 /// Pairs open, at the sender's host and at the receiver's; where a text is out on their link, of the host
 /// that sends on it, the definition refuses that.
 pub fn openings_happen_and_are_seen()
-    ensures sender { Opens outward (peer_of (run meets).this) (peer_of (node_at This Hears (run meets)).this) }
-    ensures receiver { Opens inward (peer_of (run meets_there).that) (peer_of (node_at That Hears (run meets_there)).that) }
-    ensures own_text { (own other : PeerState) → is_empty (slot_at own.slots 2) ≡ false → OpensOnFreeLinks own other (peer_of (run meets).this) (peer_of (node_at This Hears (run meets)).this) → ⊥ }
-    ensures text_there { (own other : PeerState) → is_empty (slot_at other.slots 2) ≡ false → OpensOnFreeLinks own other (peer_of (run meets_there).that) (peer_of (node_at That Hears (run meets_there)).that) → ⊥ }
+    ensures sender { Opens outward before_meeting after_meeting }
+    ensures receiver { Opens inward before_meeting_there after_meeting_there }
+    ensures own_text { (own other : PeerState) → is_empty (slot_at own.slots 2) ≡ false → OpensOnFreeLinks own other before_meeting after_meeting → ⊥ }
+    ensures text_there { (own other : PeerState) → is_empty (slot_at other.slots 2) ≡ false → OpensOnFreeLinks own other before_meeting_there after_meeting_there → ⊥ }
 {
     openings_and_texts_out_happen();
 }
@@ -64,29 +66,29 @@ pub fn openings_happen_and_are_seen()
 pub fn errs_and_lost_commands_are_seen()
     ensures err { (c : Command) (code : ℕ) (bytes : List ℕ) (s : PeerState) → up s.peer.phase ≡ true → answer (hear c s.peer.ends) ≡ Heard.Reply (Command.Err code bytes) → NoneErrs (c ∷ []) s → ⊥ }
     ensures going { (s : PeerState) (u : TransitByLink) (code : ℕ) (bytes : List ℕ) (cs : List Command) → underway s u ≡ Command.Err code bytes ∷ cs → HasNoErr s u → ⊥ }
-    ensures came { (s : PeerState) (u : TransitByLink) (error : Error) (errors : List Error) → s.peer.echoes.errors ≡ error ∷ errors → HasNoErr s u → ⊥ }
-    ensures lost { (m : List Bool) (v after : World) → commands_of m ≡ Command.Rrp ∷ [] → AwaitsReply v.that → AwaitsReply after.that → ActsOnce (In 0 m (Received.Control 1)) v after → ⊥ }
-    ensures text { (m : List Bool) (v after : World) → MakesNoErr (In 2 m (Received.Text Took.Over)) v after → ⊥ }
-    ensures twice { (m : List Bool) (v after : World) → commands_of m ≡ Command.Rrp ∷ [] → ActsOnce (In 0 m (Received.Control 2)) v after → ⊥ }
+    ensures came { (s : PeerState) (u : TransitByLink) (e : Error) (es : List Error) → s.peer.echoes.errors ≡ e ∷ es → HasNoErr s u → ⊥ }
+    ensures lost { (m : List Bool) (v after : World) → commands_of m ≡ Rrp ∷ [] → AwaitsReply v.that → AwaitsReply after.that → ActsOnce (In 0 m (Control 1)) v after → ⊥ }
+    ensures text { (m : List Bool) (v after : World) → MakesNoErr (In 2 m (Text Over)) v after → ⊥ }
+    ensures twice { (m : List Bool) (v after : World) → commands_of m ≡ Rrp ∷ [] → ActsOnce (In 0 m (Control 2)) v after → ⊥ }
 {}
 
 /// A host that waits for an RRP is one after its RST; a text that it admits, and a command that it makes, are
 /// refused.
 pub fn acts_before_the_answer_are_seen()
     ensures waits { AwaitsReply waiting_state }
-    ensures text { (m : List Bool) (v after : World) → AwaitsReply v.that → OnlyResetsAct (In 2 m (Received.Text Took.Admitted)) v after → ⊥ }
-    ensures made { (asked : Asked) (reply : Reply) (v after : World) → AwaitsReply v.this → after.this.peer.phase.waiting ≡ Command.Eco 65 ∷ v.this.peer.phase.waiting → OnlyResetsAct (Called asked reply) v after → ⊥ }
+    ensures text { (m : List Bool) (v after : World) → AwaitsReply v.that → OnlyResetsAct (In 2 m (Text Admitted)) v after → ⊥ }
+    ensures made { (asked : Asked) (reply : Reply) (v after : World) → AwaitsReply v.this → after.this.peer.phase.waiting ≡ Eco 65 ∷ v.this.peer.phase.waiting → OnlyResetsAct (Called asked reply) v after → ⊥ }
 {}
 
 /// What is watched: a command that is made, one that comes and what it makes, and that a reset and an RST that
 /// comes begin anew. A command that was made, did not come, and is not underway is refused, and so are two that came
 /// in another order.
 pub fn what_is_made_and_comes_is_seen()
-    ensures made { watch_after_asked (Asks_echo 65) up_state seen_before ≡ record seen_before { made = Command.Eco 64 ∷ Command.Eco 65 ∷ [] } }
-    ensures came { (m : List Bool) → commands_of m ≡ Command.Eco 65 ∷ [] → watch_after_message 0 m up_state seen_before ≡ record seen_before { made = Command.Eco 64 ∷ Command.Erp 65 ∷ []; came = Command.Inr 2 ∷ Command.Eco 65 ∷ [] } }
+    ensures made { watch_after_asked (Asks_echo 65) up_state seen_before ≡ eco_made }
+    ensures came { (m : List Bool) → commands_of m ≡ Eco 65 ∷ [] → heard_in m up_state seen_before ≡ eco_came }
     ensures resets { watch_after_asked Asks_reset up_state seen_before ≡ nothing_seen }
-    ensures cleared { (m : List Bool) → commands_of m ≡ Command.Rst ∷ [] → watch_after_message 0 m up_state seen_before ≡ nothing_seen }
-    ensures down { (m : List Bool) → commands_of m ≡ Command.Eco 65 ∷ [] → watch_after_message 0 m waiting_state nothing_seen ≡ nothing_seen }
+    ensures cleared { (m : List Bool) → commands_of m ≡ Rst ∷ [] → heard_in m up_state seen_before ≡ nothing_seen }
+    ensures down { (m : List Bool) → commands_of m ≡ Eco 65 ∷ [] → heard_in m waiting_state nothing_seen ≡ nothing_seen }
     ensures lost { (v : World) (p : Watches) (c : Command) → up v.this.peer.phase ≡ true → up v.that.peer.phase ≡ true → p.this.made ≡ c ∷ [] → p.that.came ≡ [] → filter is_other (underway v.this v.going) ≡ [] → CommandsAgree v p → ⊥ }
     ensures turned { (v : World) (p : Watches) (c d : Command) → (c ≡ d → ⊥) → up v.this.peer.phase ≡ true → up v.that.peer.phase ≡ true → p.this.made ≡ c ∷ d ∷ [] → p.that.came ≡ d ∷ c ∷ [] → filter is_other (underway v.this v.going) ≡ [] → CommandsAgree v p → ⊥ }
 {}
@@ -94,9 +96,9 @@ pub fn what_is_made_and_comes_is_seen()
 /// What is used beyond the allocation is refused, of messages and of bits; and where nothing was used or returned, so
 /// is an outstanding that is not all that was granted.
 pub fn use_beyond_the_allocation_is_seen()
-    ensures messages { IsWithin (record no_past { granted_messages = 3; returned_messages = 2; used_messages = 2 }) → ⊥ }
+    ensures messages { IsWithin (of_messages 3 2 2) → ⊥ }
     ensures bits { IsWithin (record no_past { granted_bits = 8; returned_bits = 7; got = true ∷ false ∷ [] }) → ⊥ }
-    ensures all { IsWithin (record no_past { granted_messages = 1; granted_bits = 1; used_messages = 1; got = true ∷ [] }) }
+    ensures all { IsWithin (record (of_messages 1 0 1) { granted_bits = 1; got = true ∷ [] }) }
     ensures outstanding { (v : World) (p : Both) → get v.that.peer.ends inward ≡ Some (counting 3 24) → past_of p.that inward ≡ record no_past { granted_messages = 4; granted_bits = 24 } → IsAllowed outward v p → ⊥ }
     ensures outstanding_bits { (v : World) (p : Both) → get v.that.peer.ends inward ≡ Some (counting 3 24) → past_of p.that inward ≡ record no_past { granted_messages = 3; granted_bits = 25 } → IsAllowed outward v p → ⊥ }
 {}
@@ -104,9 +106,9 @@ pub fn use_beyond_the_allocation_is_seen()
 /// What is said of each note is said of it with the host of its side as this host; a note that tells nothing changes
 /// nothing that is seen.
 pub fn notes_are_of_their_own_side()
-    ensures of_a { (w : Hosts) (number link : ℕ) → OfEachNote (IsThis number) (Note.Lost Side.A link ∷ []) w → number ≡ w.number_a }
-    ensures of_b { (w : Hosts) (number link : ℕ) → OfEachNote (IsThis number) (Note.Lost Side.B link ∷ []) w → number ≡ w.number_b }
-    ensures each { (w : Hosts) (number link : ℕ) → OfEachNote (IsThis number) (Note.Lost Side.A link ∷ Note.Lost Side.B link ∷ []) w → number ≡ w.number_b }
+    ensures of_a { (w : Hosts) (n on : ℕ) → OfEachNote (IsThis n) (Lost A on ∷ []) w → n ≡ w.number_a }
+    ensures of_b { (w : Hosts) (n on : ℕ) → OfEachNote (IsThis n) (Lost B on ∷ []) w → n ≡ w.number_b }
+    ensures each { (w : Hosts) (n on : ℕ) → OfEachNote (IsThis n) (Lost A on ∷ Lost B on ∷ []) w → n ≡ w.number_b }
     ensures nothing { (w : Hosts) (number : ℕ) (call : Call) (fault : CallFault) → OfEachNote (IsThis number) (Note.Called Side.A (HostNote.Refused call fault) ∷ []) w → seen (hosts_after_note (Note.Called Side.A (HostNote.Refused call fault)) w) ≡ seen w }
 {}
 
@@ -116,7 +118,12 @@ pub fn notes_are_of_their_own_side()
 pub fn promises_are_of_both_hosts()
     ensures this_way { (notes : List Note) (w : Hosts) (pair : Pair) (number : ℕ) → sends pair ≡ true → EitherWay (IsPairOf number) notes w → number ≡ w.number_a }
     ensures that_way { (notes : List Note) (w : Hosts) (pair : Pair) (number : ℕ) → sends pair ≡ true → EitherWay (IsPairOf number) notes w → number ≡ w.number_b }
-    ensures order { (notes : List Note) (w : Hosts) (on : ℕ) → CameInOrder notes w → IsBeginningWithin 1 (came This on (told notes)) (sent w.number_a This on (told notes)) × IsBeginningWithin 1 (came That on (told notes)) (sent w.number_b That on (told notes)) }
-    ensures waits { (notes : List Note) (w : Hosts) → WaitsAlone notes w → AwaitsReply (seen w).this → AwaitsReply (seen w).that → StillWaits (seen w).this × StillWaits (seen w).that }
-    ensures errs { (notes : List Note) (w : Hosts) → NoErrUnderway notes w → ((seen w).this.peer.echoes.errors ≡ []) × ((seen w).that.peer.echoes.errors ≡ []) × (list_any is_error (underway (seen w).this (seen w).going) ≡ false) × (list_any is_error (underway (seen w).that (seen w).coming) ≡ false) }
+    ensures order_a { (ns : List Note) (w : Hosts) (on : ℕ) → CameInOrder ns w → IsInOrder This w.number_a on ns }
+    ensures order_b { (ns : List Note) (w : Hosts) (on : ℕ) → CameInOrder ns w → IsInOrder That w.number_b on ns }
+    ensures waits_a { (ns : List Note) (w : Hosts) → WaitsAlone ns w → GoesOnWaiting (seen w).this }
+    ensures waits_b { (ns : List Note) (w : Hosts) → WaitsAlone ns w → GoesOnWaiting (seen w).that }
+    ensures err_came_a { (ns : List Note) (w : Hosts) → NoErrUnderway ns w → (seen w).this.peer.echoes.errors ≡ [] }
+    ensures err_came_b { (ns : List Note) (w : Hosts) → NoErrUnderway ns w → (seen w).that.peer.echoes.errors ≡ [] }
+    ensures err_goes_a { (ns : List Note) (w : Hosts) → NoErrUnderway ns w → an_err_goes (seen w) ≡ false }
+    ensures err_goes_b { (ns : List Note) (w : Hosts) → NoErrUnderway ns w → an_err_comes (seen w) ≡ false }
 {}

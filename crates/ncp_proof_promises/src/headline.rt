@@ -1,28 +1,23 @@
 //! The headline, of transcripts: each phrase a clause, but that no bits of a peer make a host fault, which is
 //! the contract of `Host::receive`.
-ghost use Rattle.std.specs.Prelude.{◌≡◌, ℕ, List, not, map, ◌++◌};
-ghost use Rattle.ncp_terms.specs.declared.command.Command.{Command};
+ghost use Rattle.std.specs.Prelude.{◌≡◌, ℕ, List, not};
 ghost use Rattle.ncp_model.specs.declared.limits.TheConstants.{MAX_ERRORS};
 ghost use Rattle.ncp_model.specs.declared.pair.Pair.{Pair};
 ghost use Rattle.ncp_model.specs.Phase.{up};
 ghost use Rattle.ncp_slot.specs.Slots.{slot_at};
-ghost use Rattle.ncp_host.specs.PeerState.{control_link};
 ghost use Rattle.ncp_conn.specs.Records.{record_in};
-ghost use Rattle.ncp_proof_runs.specs.Peers.{notes_of_peer};
-ghost use Rattle.ncp_proof_runs.specs.Links.{fresh_on, told_on, slot_so_far};
-ghost use Rattle.ncp_proof_runs.specs.Marks.{record_marked, marks_of};
+ghost use Rattle.ncp_proof_runs.specs.Links.{told_on, slot_so_far};
 ghost use Rattle.ncp_proof_runs.specs.Echoing.{echo_of, last_of};
 ghost use Rattle.ncp_proof_runs.specs.Counted.{counted_so_far, counts_capped};
-ghost use Rattle.ncp_proof_runs.specs.Making.{made_of, made_since, is_up_told, message_of, joined};
+ghost use Rattle.ncp_proof_runs.specs.Making.{made_of, made_since, is_up_told};
 ghost use Rattle.ncp_transcript_two.specs.declared.note.Note.{Note};
-ghost use Rattle.ncp_transcript_two.specs.declared.side.Side.{Side};
-ghost use Rattle.ncp_transcript_two.specs.Between.{Hosts, other, side_number, host_of};
-ghost use Rattle.ncp_transcript_two.specs.Sides.{notes_at};
+ghost use Rattle.ncp_transcript_two.specs.Between.{Hosts};
 ghost use Rattle.ncp_transcript_two.specs.Transcript.{began, IsTranscript};
-ghost use Rattle.ncp_transcript_two.specs.Seen.{had_for};
 ghost use Rattle.ncp_proof_promises.specs.AtEachHost.{AtEachHost};
-ghost use Rattle.ncp_proof_promises.specs.Since.{watch_at, none_watched, watched_from};
 ghost use Rattle.ncp_proof_promises.specs.Promised.{SubnetHonest, GotBegins, EachByteOnce, WithinAllocation, LedgersBalanced, CameInOrder, CommandsInOrder, EachActedOnce, NoErrMade};
+ghost use Rattle.ncp_proof_promises.specs.EachSide.{AtEachSide, AtEachWatch};
+ghost use Rattle.ncp_proof_runs.specs.WhatIsKept.{WentOutAsMade};
+ghost use Rattle.ncp_proof_runs.specs.WhereNoted.{record_noted};
 
 use crate::promises::{commands_act_once_in_order, what_comes_acts_once_and_is_right};
 use ncp_transcript_two::transcripts::{
@@ -37,13 +32,13 @@ use ncp_transcript_two::transcripts::{
 /// ERP that came for an echo, the errors are the last 16 ERRs that came, and each count is the sum of what was to be
 /// counted, or the greatest number that a count has.
 pub fn each_host_is_what_its_notes_say()
-    ensures commands { (notes : List Note) (w : Hosts) (side : Side) → IsTranscript notes w → let n = side_number (other side) w in let own = notes_of_peer n (notes_at side notes) in (css : List (List Command)) × (fresh_on control_link own ≡ map (message_of n) css) × ((made_of own).all ≡ joined css ++ (had_for n (host_of side w)).peer.phase.waiting) }
+    ensures commands { AtEachSide WentOutAsMade }
     ensures up { AtEachHost (λ own had. up had.peer.phase ≡ is_up_told (made_of own)) }
     ensures down { AtEachHost (λ own had. had.peer.phase.down ≡ not (made_of own).began) }
     ensures want { AtEachHost (λ own had. had.peer.phase.want ≡ not (made_of own).did_reset) }
     ensures owe { AtEachHost (λ own had. had.peer.phase.owe ≡ not (made_of own).gave_answer) }
     ensures waits { AtEachHost (λ own had. had.peer.phase.wait ≡ not (made_of own).got_answer) }
-    ensures records { AtEachHost (λ own had. (pair : Pair) → record_in pair had.peer.ends ≡ record_marked pair (marks_of pair own)) }
+    ensures records { AtEachHost (λ own had. (pair : Pair) → record_in pair had.peer.ends ≡ record_noted pair own) }
     ensures slots { AtEachHost (λ own had. (on : ℕ) → slot_at had.slots on ≡ slot_so_far (told_on on own)) }
     ensures echo { AtEachHost (λ own had. had.peer.echoes.awaited ≡ (echo_of own).asked) }
     ensures echoed { AtEachHost (λ own had. had.peer.echoes.echoed ≡ (echo_of own).byte) }
@@ -57,8 +52,8 @@ pub fn each_host_is_what_its_notes_say()
 /// that it made since it was last cleared are the last of those that its notes say it made, from that clearing on, and
 /// those that came since then are those that came by its notes; RST and RRP are left out of both.
 pub fn what_is_watched_is_in_the_notes_of_each_host()
-    ensures made { (notes : List Note) (w : Hosts) (side : Side) → IsTranscript notes w → (watch_at side (watched_from notes (began w) none_watched)).made ≡ made_since (made_of (notes_of_peer (side_number (other side) w) (notes_at side notes))) }
-    ensures came { (notes : List Note) (w : Hosts) (side : Side) → IsTranscript notes w → (watch_at side (watched_from notes (began w) none_watched)).came ≡ (made_of (notes_of_peer (side_number (other side) w) (notes_at side notes))).came }
+    ensures made { AtEachWatch (λ watch made. watch.made ≡ made_since made) }
+    ensures came { AtEachWatch (λ watch made. watch.came ≡ made.came) }
 {}
 
 /// Over every list of calls, deliveries, losses, answers and orders between links, what a receiver got on a

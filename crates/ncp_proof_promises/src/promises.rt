@@ -1,14 +1,12 @@
 //! Laws of every transcript of a world, each the contract of a function that does nothing.
-ghost use Rattle.std.specs.Prelude.{Bool, List, ◌∷◌, ◌++◌, None, Some};
+ghost use Rattle.std.specs.Prelude.{List, None, Some};
 ghost use Rattle.ncp_host.specs.Readiness.{IsNext};
-ghost use Rattle.ncp_transcript.specs.declared.note.HostNote.{HostNote};
-ghost use Rattle.ncp_transcript_two.specs.declared.side.Side.{Side};
 ghost use Rattle.ncp_transcript_two.specs.declared.note.Note.{Note};
-ghost use Rattle.ncp_transcript_two.specs.Between.{Hosts, host_of, hosts_after_notes};
+ghost use Rattle.ncp_transcript_two.specs.Between.{Hosts, hosts_after_notes};
 ghost use Rattle.ncp_transcript_two.specs.Transcript.{began, IsTranscript};
 ghost use Rattle.ncp_proof_promises.specs.Promised.{EachActedOnce, NoErrMade, NoErrUnderway, WaitsAlone, OnlyResetsActed, CommandsInOrder, OpenedUnderNoText};
-ghost use Rattle.ncp_proof_promises.specs.Since.{none_watched, watched_from, IsSilentWhileDown};
-ghost use Rattle.ncp_transcript_two.specs.Seen.{seen};
+ghost use Rattle.ncp_proof_promises.specs.EachSide.{AreSilentWhileDown};
+ghost use Rattle.ncp_transcript_two.specs.OfTranscripts.{WhereNoneWentOut, WhereOneWentOut, OfTwoParts};
 
 use ncp_transcript_two::transcripts::each_host_is_by_itself;
 
@@ -40,7 +38,7 @@ pub fn only_resets_act_until_the_answer()
 /// other has made since that was last cleared. A host that is not up has made and heard nothing since then.
 pub fn commands_act_once_in_order()
     ensures agree { (notes : List Note) (w : Hosts) → IsTranscript notes w → CommandsInOrder notes w }
-    ensures silent { (notes : List Note) (w : Hosts) → IsTranscript notes w → let p = watched_from notes (began w) none_watched in IsSilentWhileDown (seen w).this p.this × IsSilentWhileDown (seen w).that p.that }
+    ensures silent { (notes : List Note) (w : Hosts) → IsTranscript notes w → AreSilentWhileDown notes w }
 {}
 
 /// From the Out of a text to its RFNM no pair whose texts go from that host on that link opens at either host:
@@ -52,8 +50,8 @@ pub fn none_opens_while_its_link_has_a_text()
 /// Each host of a world is asked in vain for its next message only where no link to the other host is ready;
 /// and what goes out is the message on the first link that is.
 pub fn what_goes_out_is_first_of_each_host()
-    ensures nothing { (before after : List Note) (w : Hosts) (side : Side) → IsTranscript (before ++ Note.Out side HostNote.Nothing ∷ after) w → IsNext None (host_of side (hosts_after_notes before (began w))).peers }
-    ensures out { (before after : List Note) (w : Hosts) (side : Side) (message : List Bool) → IsTranscript (before ++ Note.Out side (HostNote.Out message) ∷ after) w → IsNext (Some message) (host_of side (hosts_after_notes before (began w))).peers }
+    ensures nothing { WhereNoneWentOut (λ h. IsNext None h.peers) }
+    ensures out { WhereOneWentOut (λ message h. IsNext (Some message) h.peers) }
 {
     each_host_is_by_itself();
 }
@@ -61,5 +59,5 @@ pub fn what_goes_out_is_first_of_each_host()
 /// Each beginning of a transcript is one too, of the hosts as they were then: so what holds of every transcript
 /// holds after each of its notes.
 pub fn beginnings_are_transcripts()
-    ensures { (before after : List Note) (w : Hosts) → IsTranscript (before ++ after) w → IsTranscript before (hosts_after_notes before (began w)) }
+    ensures { OfTwoParts (λ before after w. IsTranscript before (hosts_after_notes before (began w))) }
 {}

@@ -1,3 +1,4 @@
 pub mod Delivery
 pub mod Resets
 pub mod Schedules
+pub mod AfterResets

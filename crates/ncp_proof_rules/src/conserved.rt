@@ -1,13 +1,12 @@
 //! What is conserved: where what is given, taken, sent, granted and returned comes from, and where it
 //! goes.
-ghost use Rattle.std.specs.Prelude.{◌≡◌, ℕ, Bool, true, false, ◌+◌, ◌≤◌, ◌++◌, List, [], ◌∷◌, length, Option, None, Some};
+ghost use Rattle.std.specs.Prelude.{◌≡◌, true, false, ◌+◌, ◌≤◌, ◌++◌, [], ◌∷◌, length};
+ghost use Rattle.ncp_terms.specs.declared.command.Command.TheVariants.{Ret};
 ghost use Rattle.ncp_model.specs.Pairs.{sends, receives};
 ghost use Rattle.ncp_model.specs.Amounts.{back};
-ghost use Rattle.ncp_model.specs.End.{End};
-ghost use Rattle.ncp_model.specs.Happenings.{happens, Happening, Outcome};
 ghost use Rattle.ncp_proof_rules.specs.Conserved.{OfEachGrant, OfEachAll, OfEachGvb, OfEachRet, OfEachTextIn, OfEachTextOut, OfEachTaking, OfEachRecall};
+ghost use Rattle.ncp_proof_rules.specs.OfEnds.{OfEachLastTaking, OfEachRecalling, OfEachInterrupt};
 
-use ncp_model::Pair;
 use ncp_terms::Command;
 
 /// An allocation that is accepted adds to both numbers what its ALL says; and an ALL that comes what it
@@ -23,9 +22,9 @@ pub fn grants_add_to_both_numbers()
 
 /// A GVB takes from both numbers what its RET names; and a RET what it names, and the GVB is answered.
 pub fn returns_take_from_both_numbers()
-    ensures messages_go_back { OfEachGvb (λ on messages bits was now made. now.messages + back was.messages messages ≡ was.messages) }
+    ensures messages_go_back { OfEachGvb (λ on m b was now made. now.messages + back was.messages m ≡ was.messages) }
     ensures bits_go_back { OfEachGvb (λ on messages bits was now made. now.bits + back was.bits bits ≡ was.bits) }
-    ensures made { OfEachGvb (λ on messages bits was now made. made ≡ Command.Ret on (back was.messages messages) (back was.bits bits) ∷ []) }
+    ensures made { OfEachGvb (λ on m b was now made. made ≡ Ret on (back was.messages m) (back was.bits b) ∷ []) }
     ensures messages_come { OfEachRet (λ messages bits was now. now.messages + messages ≡ was.messages) }
     ensures bits_come { OfEachRet (λ messages bits was now. now.bits + bits ≡ was.bits) }
     ensures answered { OfEachRet (λ messages bits was now. now.recall ≡ false) }
@@ -42,14 +41,14 @@ pub fn texts_take_what_they_use()
     ensures goes_out { OfEachTextOut (λ text was now. text ++ now.stored ≡ was.stored) }
     ensures busy { OfEachTextOut (λ text was now. now.busy ≡ true) }
     ensures taken { OfEachTaking (λ text was now. text ++ now.stored ≡ was.stored) }
-    ensures last { (pair : Pair) (bytes : ℕ) (text : List Bool) (x : End) → (happens pair (Happening.Takes bytes) (Some x)).outcome ≡ Outcome.Took_out text → (happens pair (Happening.Takes bytes) (Some x)).made ≡ Command.Cls pair.local pair.remote ∷ [] → text ≡ x.stored }
+    ensures last { OfEachLastTaking (λ text was. text ≡ was.stored) }
 {}
 
 /// What a call on an open connection makes names the link of its end: an INS from a sender, an INR from
 /// a receiver.
 pub fn calls_name_the_link_of_their_end()
     ensures calls_back { OfEachRecall (λ messages bits was made. made ≡ Command.Gvb was.link messages bits ∷ []) }
-    ensures recalls { (pair : Pair) (of_messages of_bits : ℕ) (full : Bool) (x e : End) → (happens pair (Happening.Calls_back of_messages of_bits full) (Some x)).outcome ≡ Outcome.Accepted → (happens pair (Happening.Calls_back of_messages of_bits full) (Some x)).after ≡ Some e → e.recall ≡ true }
-    ensures sender { (pair : Pair) (full : Bool) (x : End) → sends pair ≡ true → (happens pair (Happening.Interrupts full) (Some x)).outcome ≡ Outcome.Accepted → (happens pair (Happening.Interrupts full) (Some x)).made ≡ Command.Ins x.link ∷ [] }
-    ensures receiver { (pair : Pair) (full : Bool) (x : End) → receives pair ≡ true → (happens pair (Happening.Interrupts full) (Some x)).outcome ≡ Outcome.Accepted → (happens pair (Happening.Interrupts full) (Some x)).made ≡ Command.Inr x.link ∷ [] }
+    ensures recalls { OfEachRecalling (λ was now. now.recall ≡ true) }
+    ensures sender { OfEachInterrupt (λ pair was made. sends pair ≡ true → made ≡ Command.Ins was.link ∷ []) }
+    ensures receiver { OfEachInterrupt (λ pair was made. receives pair ≡ true → made ≡ Command.Inr was.link ∷ []) }
 {}

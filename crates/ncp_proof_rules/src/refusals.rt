@@ -1,15 +1,12 @@
 //! The refusals, from another side: for each call and for each thing that comes a table of its cases
 //! in their order, of which the first that holds is answered.
-ghost use Rattle.std.specs.Prelude.{◌≡◌, ℕ, Bool, true, false, ◌==◌, List, Option, None, Some, Ok, Err};
-ghost use Rattle.ncp_model.specs.Pairs.{sends, receives};
-ghost use Rattle.ncp_model.specs.End.{End, or_new};
-ghost use Rattle.ncp_model.specs.Act.{Stays, Becomes, is_room};
-ghost use Rattle.ncp_model.specs.Calls.{end_to_ask, may_ask, may_ask_send, may_ask_receive, asked_to_send, asked_to_receive, ask_send, ask_receive};
+ghost use Rattle.std.specs.Prelude.{◌≡◌, ℕ, Bool, List, Ok, Err};
 ghost use Rattle.ncp_model.specs.Happenings.{Asks_to_send, Asks_to_receive, Closes, Gives, Takes, Allocates, Calls_back, Interrupts, Rts_comes, Str_comes, Cls_comes, All_comes, Gvb_comes, Ret_comes, Inr_comes, Ins_comes, Text_comes, Accepted, Admitted};
 ghost use Rattle.ncp_proof_rules.specs.Refusals.{IsRefusedFirst, StandInOrder, MeetsFirst, WheneverRefused, made_by_refusal};
+ghost use Rattle.ncp_proof_rules.specs.Requests.{OfSenders, OfReceivers, OfGoodSenders, OfGoodReceivers, OfTheTable};
+ghost use Rattle.ncp_model.specs.RowFacts.{refusal};
 
-use ncp_model::{CallFault, Pair};
-use ncp_terms::Command;
+use ncp_model::CallFault;
 
 /// Each call is refused for the first reason of its table that holds, and accepted where none does.
 pub fn calls_are_refused_for_the_first_reason()
@@ -58,11 +55,11 @@ pub fn refusals_change_nothing()
 /// An own request is judged before memory is asked for: where it may not be made it is refused for that,
 /// and where it may the end has asked, and its command is made.
 pub fn own_requests_are_judged_first()
-    ensures send_refused { (pair : Pair) (of_size with_room own : ℕ) (full : Bool) (before : Option End) (fault : CallFault) → may_ask_send pair of_size with_room own full before ≡ Err fault → ask_send pair of_size with_room own full before ≡ Stays (Err fault) }
-    ensures send { (pair : Pair) (of_size with_room own : ℕ) (full : Bool) (before : Option End) → may_ask_send pair of_size with_room own full before ≡ Ok tt → ask_send pair of_size with_room own full before ≡ Becomes (asked_to_send of_size with_room (or_new before)) (Ok (Command.Str pair.local pair.remote of_size)) }
-    ensures receive_refused { (pair : Pair) (with_room on own : ℕ) (full : Bool) (before : Option End) (fault : CallFault) → may_ask_receive pair with_room own full before ≡ Err fault → ask_receive pair with_room on own full before ≡ Stays (Err fault) }
-    ensures receive { (pair : Pair) (with_room on own : ℕ) (full : Bool) (before : Option End) → may_ask_receive pair with_room own full before ≡ Ok tt → ask_receive pair with_room on own full before ≡ Becomes (asked_to_receive on with_room (or_new before)) (Ok (Command.Rts pair.local pair.remote on)) }
-    ensures table { (own : ℕ) (full : Bool) (before : Option End) (pair : Pair) (of_size with_room : ℕ) → sends pair ≡ true → of_size == 0 ≡ false → is_room with_room ≡ true → may_ask_send pair of_size with_room own full before ≡ may_ask own full before }
-    ensures table_too { (own : ℕ) (full : Bool) (before : Option End) (pair : Pair) (with_room : ℕ) → receives pair ≡ true → is_room with_room ≡ true → may_ask_receive pair with_room own full before ≡ may_ask own full before }
-    ensures end { (own : ℕ) (full : Bool) (before : Option End) (fault : CallFault) → end_to_ask (or_new before) ≡ Err fault → may_ask own full before ≡ Err fault }
+    ensures send_refused { OfSenders (λ judged act _. (why : CallFault) → judged ≡ Err why → act ≡ refusal why) }
+    ensures send { OfSenders (λ judged act accepted. judged ≡ Ok tt → act ≡ accepted) }
+    ensures receive_refused { OfReceivers (λ judged act _. (why : CallFault) → judged ≡ Err why → act ≡ refusal why) }
+    ensures receive { OfReceivers (λ judged act accepted. judged ≡ Ok tt → act ≡ accepted) }
+    ensures table { OfGoodSenders (λ judged by_table. judged ≡ by_table) }
+    ensures table_too { OfGoodReceivers (λ judged by_table. judged ≡ by_table) }
+    ensures end { OfTheTable (λ by_end by_table. (why : CallFault) → by_end ≡ Err why → by_table ≡ Err why) }
 {}

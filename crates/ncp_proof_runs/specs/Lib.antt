@@ -8,3 +8,6 @@ pub mod Echoing
 pub mod Counted
 pub mod Examples
 pub mod Reconstructed
+pub mod WhereNoted
+pub mod WhatIsKept
+pub mod RunRows

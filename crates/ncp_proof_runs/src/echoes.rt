@@ -1,24 +1,23 @@
 //! The echo that is awaited of a peer, the byte of the last one, the ERRs that came, and the counts: they are what
 //! the notes of the peer say.
-ghost use Rattle.std.specs.Prelude.{◌≡◌, ℕ, ◌+◌, true, false, List, [], ◌∷◌, ◌++◌, Option, Some};
-ghost use Rattle.ncp_terms.specs.declared.command.Command.TheVariants.{Nop, Eco, Erp, Err, Rst, Rrp};
-ghost use Rattle.ncp_transcript.specs.declared.note.HostNote.TheVariants.{Done, Refused, Echoed, Counts};
+ghost use Rattle.std.specs.Prelude.{◌≡◌, ℕ, ◌+◌, true, false, [], ◌∷◌, Option, Some};
+ghost use Rattle.ncp_terms.specs.declared.command.Command.TheVariants.{Nop, Eco, Erp, Rst, Rrp};
+ghost use Rattle.ncp_transcript.specs.declared.note.HostNote.TheVariants.{Done, Refused, Echoed};
 ghost use Rattle.ncp_transcript.specs.declared.call.Call.TheVariants.{Echo, Reset};
 ghost use Rattle.ncp_model.specs.declared.call_fault.CallFault.TheVariants.{Busy};
-ghost use Rattle.ncp_model.specs.declared.outcomes.Error.{Error};
 ghost use Rattle.ncp_model.specs.declared.limits.TheConstants.{MAX_ERRORS, MAX_COUNT};
 ghost use Rattle.ncp_model.specs.End.{new_end};
 ghost use Rattle.ncp_model.specs.Phase.{new_phase, up_phase};
 ghost use Rattle.ncp_model.specs.Rows.{outward};
-ghost use Rattle.ncp_host.specs.declared.counts.Counts.{Counts as Counted};
 ghost use Rattle.ncp_host.specs.Counting.{no_counts};
 ghost use Rattle.ncp_host.specs.PeerState.{new_state};
 ghost use Rattle.ncp_transcript.specs.declared.note.HostNote.{HostNote};
 ghost use Rattle.ncp_proof_runs.specs.Reconstructed.{FromNotes, BeforeNote};
-ghost use Rattle.ncp_proof_runs.specs.Peers.{FromBeginning, notes_of_peer};
 ghost use Rattle.ncp_proof_runs.specs.Echoing.{no_echo, while_up, echo_heard_all, echo_from, echo_of, last_of};
-ghost use Rattle.ncp_proof_runs.specs.Counted.{is_late_end, counted_as, counted_heard_all, counted_fault, counted_so_far, counts_capped};
-ghost use Rattle.ncp_proof_runs.specs.Examples.{up_state, echo_before, one_error, other_error, many_errors};
+ghost use Rattle.ncp_proof_runs.specs.Counted.{is_late_end, counted_as, counted_fault, counted_so_far, counts_capped};
+ghost use Rattle.ncp_proof_runs.specs.Examples.{up_state, echo_before, one_error, many_errors};
+ghost use Rattle.ncp_proof_runs.specs.WhereNoted.{WhenErrorsRead, WhenCounted};
+ghost use Rattle.ncp_proof_runs.specs.RunRows.{echo_ended, an_err, two_errors, counts_from, counts_while_down, fault_of_1, some_late};
 
 use ncp_host::{Received, Took};
 use ncp_leader::MessageFault;
@@ -36,14 +35,14 @@ pub fn echoes_and_errors_are_what_their_notes_say()
     ensures accepted { (n byte : ℕ) → BeforeNote n (Done (Echo n byte)) (λ told. (echo_of told).asked ≡ false) }
     ensures busy { (n byte : ℕ) → BeforeNote n (Refused (Echo n byte) Busy) (λ told. (echo_of told).asked ≡ true) }
     ensures byte_noted { (n : ℕ) (byte : Option ℕ) → BeforeNote n (Echoed n byte) (λ told. byte ≡ (echo_of told).byte) }
-    ensures errors_noted { (me : ℕ) (ns : List ℕ) (before after : List HostNote) (n : ℕ) (errors : List Error) → FromBeginning me ns (before ++ HostNote.Errors n errors ∷ after) → errors ≡ last_of MAX_ERRORS (echo_of (notes_of_peer n before)).errors }
+    ensures errors_noted { WhenErrorsRead (λ errors told. errors ≡ last_of MAX_ERRORS (echo_of told).errors) }
 {}
 
 /// What a host has counted of a peer after any run is what the notes of the peer say: of each kind the sum of what
 /// was to be counted, or the greatest number that a count has. A note that reads the counts says the same.
 pub fn counts_are_what_their_notes_say()
     ensures counts { FromNotes (λ told s. s.counts ≡ counts_capped (counted_so_far told)) }
-    ensures noted { (n : ℕ) (counts : Counted) → BeforeNote n (Counts n counts) (λ told. counts ≡ counts_capped (counted_so_far told)) }
+    ensures noted { WhenCounted (λ counts told. counts ≡ counts_capped (counted_so_far told)) }
 {}
 
 /// That this speaks of something: an echo is asked for and answered; an ERP that answers none changes nothing, and
@@ -51,13 +50,13 @@ pub fn counts_are_what_their_notes_say()
 /// leave the byte and the errors. Of 17 errors the first is forgotten.
 pub fn an_echo_is_ended_by_its_answer_or_a_clearing()
     ensures asked { echo_from (HostNote.Done (Call.Echo 2 65) ∷ []) up_state no_echo ≡ record no_echo { asked = true } }
-    ensures answered { echo_heard_all (Erp 65 ∷ []) up_state echo_before ≡ record echo_before { asked = false; byte = Some 65 } }
-    ensures stray { echo_heard_all (Erp 65 ∷ []) up_state (record echo_before { asked = false }) ≡ record echo_before { asked = false } }
-    ensures erred { echo_heard_all (Err 4 (9 ∷ []) ∷ []) up_state echo_before ≡ record echo_before { errors = one_error ∷ other_error ∷ [] } }
-    ensures dropped { echo_heard_all (Erp 65 ∷ Err 4 (9 ∷ []) ∷ []) new_state echo_before ≡ echo_before }
-    ensures reset { echo_from (Done (Reset 2) ∷ []) up_state echo_before ≡ record echo_before { asked = false } }
-    ensures rst { echo_heard_all (Rst ∷ []) up_state echo_before ≡ record echo_before { asked = false } }
-    ensures down { while_up up_phase new_phase echo_before ≡ record echo_before { asked = false } }
+    ensures answered { echo_heard_all (Erp 65 ∷ []) up_state echo_before ≡ record echo_ended { byte = Some 65 } }
+    ensures stray { echo_heard_all (Erp 65 ∷ []) up_state echo_ended ≡ echo_ended }
+    ensures erred { echo_heard_all (an_err ∷ []) up_state echo_before ≡ record echo_before { errors = two_errors } }
+    ensures dropped { echo_heard_all (Erp 65 ∷ an_err ∷ []) new_state echo_before ≡ echo_before }
+    ensures reset { echo_from (Done (Reset 2) ∷ []) up_state echo_before ≡ echo_ended }
+    ensures rst { echo_heard_all (Rst ∷ []) up_state echo_before ≡ echo_ended }
+    ensures down { while_up up_phase new_phase echo_before ≡ echo_ended }
     ensures up { while_up up_phase up_phase echo_before ≡ echo_before }
     ensures last { last_of MAX_ERRORS (one_error ∷ many_errors) ≡ many_errors }
     ensures all { last_of MAX_ERRORS many_errors ≡ many_errors }
@@ -78,14 +77,14 @@ pub fn each_kind_is_counted_for_itself()
     ensures good_text { counted_as (Received.Text Took.Admitted) no_counts ≡ no_counts }
     ensures good_unopened { counted_as (Received.Text Took.NotOpen) no_counts ≡ no_counts }
     ensures good_answer { counted_as Received.Answered no_counts ≡ no_counts }
-    ensures replies { counted_heard_all (Rrp ∷ Erp 65 ∷ Eco 65 ∷ Nop ∷ []) up_state no_echo no_counts ≡ record no_counts { stray = 2 } }
-    ensures echo { counted_heard_all (Erp 65 ∷ Erp 65 ∷ []) up_state echo_before no_counts ≡ record no_counts { stray = 1 } }
-    ensures dropped { counted_heard_all (Eco 65 ∷ Erp 65 ∷ Rrp ∷ []) new_state no_echo no_counts ≡ record no_counts { not_up = 2; stray = 1 } }
-    ensures reset { counted_heard_all (Rst ∷ []) new_state no_echo no_counts ≡ no_counts }
-    ensures fault_dropped { counted_fault (Some (record { code = 1; bytes = [] })) new_state.peer no_counts ≡ record no_counts { not_up = 1 } }
-    ensures fault_when_up { counted_fault (Some (record { code = 1; bytes = [] })) up_state.peer no_counts ≡ no_counts }
+    ensures replies { counts_from (Rrp ∷ Erp 65 ∷ Eco 65 ∷ Nop ∷ []) up_state no_echo ≡ record no_counts { stray = 2 } }
+    ensures echo { counts_from (Erp 65 ∷ Erp 65 ∷ []) up_state echo_before ≡ record no_counts { stray = 1 } }
+    ensures dropped { counts_while_down (Eco 65 ∷ Erp 65 ∷ Rrp ∷ []) ≡ record no_counts { not_up = 2; stray = 1 } }
+    ensures reset { counts_while_down (Rst ∷ []) ≡ no_counts }
+    ensures fault_dropped { counted_fault (Some fault_of_1) new_state.peer no_counts ≡ record no_counts { not_up = 1 } }
+    ensures fault_when_up { counted_fault (Some fault_of_1) up_state.peer no_counts ≡ no_counts }
     ensures late_when_due { is_late_end (Some (outward, record new_end { leaving = true })) ≡ true }
     ensures late_when_left { is_late_end (Some (outward, record new_end { left = true })) ≡ true }
     ensures not_late_otherwise { is_late_end (Some (outward, new_end)) ≡ false }
-    ensures most { counts_capped (record no_counts { stray = MAX_COUNT + 1; late = 7 }) ≡ record no_counts { stray = MAX_COUNT; late = 7 } }
+    ensures most { counts_capped (record some_late { stray = MAX_COUNT + 1 }) ≡ record some_late { stray = MAX_COUNT } }
 {}

@@ -1,22 +1,17 @@
 //! The links to a peer: what the notes on a link say is what is kept for it, and what goes out on it.
-ghost use Rattle.std.specs.Prelude.{◌≡◌, ℕ, Bool, true, false, List, [], ◌∷◌, ◌++◌, Some, None, Ok};
-ghost use Rattle.std.specs.List.{list_all};
-ghost use Rattle.ncp_leader.specs.Leader.{leader_in};
+ghost use Rattle.std.specs.Prelude.{◌≡◌, ℕ, Bool, true, false, List, [], ◌∷◌, ◌++◌, Some, None};
 ghost use Rattle.ncp_slot.specs.declared.slot.Slot.TheVariants.{Empty, Ready, Travelling, Held};
-ghost use Rattle.ncp_slot.specs.Slots.{slot_at, data_links, is_quiet};
-ghost use Rattle.ncp_host.specs.PeerState.{new_state};
-ghost use Rattle.ncp_host.specs.Output.{leader_to, links};
-ghost use Rattle.ncp_host.specs.Host.{is_one_of, new_host};
+ghost use Rattle.ncp_slot.specs.Slots.{slot_at, is_quiet};
+ghost use Rattle.ncp_host.specs.Host.{is_one_of};
 ghost use Rattle.ncp_host.specs.Readiness.{IsNext};
 ghost use Rattle.ncp_host.specs.declared.received.Received.{Received};
-ghost use Rattle.ncp_terms.specs.declared.answer.Answer.{Answer};
 ghost use Rattle.ncp_terms.specs.declared.answer.Answer.TheVariants.{Dead};
 ghost use Rattle.ncp_transcript.specs.declared.note.HostNote.{HostNote};
-ghost use Rattle.ncp_transcript.specs.After.{after_notes};
 ghost use Rattle.ncp_proof_runs.specs.Reconstructed.{FromNotes, WhenOut};
-ghost use Rattle.ncp_proof_runs.specs.Peers.{FromBeginning, notes_of_peer, notes_for};
-ghost use Rattle.ncp_proof_runs.specs.Links.{goes_fresh, told_on, came_on, is_quiet_told, slot_so_far, received_told, ready_told};
+ghost use Rattle.ncp_proof_runs.specs.Links.{goes_fresh, told_on, came_on, slot_so_far, received_told};
 ghost use Rattle.ncp_proof_runs.specs.Examples.{message_on_0, message_on_2, notes_lost, notes_held, notes_stray, notes_woken, notes_taken};
+ghost use Rattle.ncp_proof_runs.specs.WhereNoted.{are_quiet_told, ready_noted, IsTheLastUnlessFresh, NoneReady, IsAddressed, WhereNoted, HostBefore, WhenAnswered};
+ghost use Rattle.ncp_transcript.specs.declared.note.HostNote.TheVariants.{Out, Nothing};
 
 use ncp_host::Received;
 use ncp_transcript::HostNote;
@@ -28,36 +23,36 @@ pub fn links_are_what_their_notes_say()
 
 /// The data links to a peer are quiet after any run exactly where the notes of each of them say so.
 pub fn links_are_quiet_as_their_notes_say()
-    ensures { FromNotes (λ told s. is_quiet s.slots ≡ list_all (λ on. is_quiet_told (told_on on told)) data_links) }
+    ensures { FromNotes (λ told s. is_quiet s.slots ≡ are_quiet_told told) }
 {}
 
 /// A message that goes out names a peer and a link of it, and no message on that link is unanswered. It is
 /// the one that is ready there; and one that is not fresh is the last fresh one once more, after Destination
 /// Dead only if a wake was accepted since.
 pub fn messages_go_out_one_by_one()
-    ensures addressed { (me : ℕ) (ns : List ℕ) (before after : List HostNote) (message : List Bool) → FromBeginning me ns (before ++ HostNote.Out message ∷ after) → (n : ℕ) × (on : ℕ) × (is_one_of n ns ≡ true) × (is_one_of on links ≡ true) × (leader_in message ≡ Ok (leader_to n on)) }
-    ensures ready { WhenOut (λ n on out own. ready_told n on (told_on on own) (notes_for own new_state).peer ≡ Some out) }
+    ensures addressed { (message : List Bool) → WhereNoted (Out message) (λ ns before. IsAddressed message ns) }
+    ensures ready { WhenOut (λ n on out own. ready_noted n on own ≡ Some out) }
     ensures alone { WhenOut (λ n on out own. (told_on on own).unanswered ≡ false) }
-    ensures again { WhenOut (λ n on out own. goes_fresh (told_on on own) ≡ false → out ≡ (told_on on own).fresh) }
+    ensures again { WhenOut (λ n on out own. IsTheLastUnlessFresh on out own) }
     ensures woken { WhenOut (λ n on out own. (told_on on own).answer ≡ Some Dead → (told_on on own).woken ≡ true) }
 {}
 
 /// What goes out is the message on the first link that is ready, to the first of the peers that has one; and
 /// a host is asked in vain only where no link to any peer is ready.
 pub fn what_goes_out_is_first()
-    ensures out { (me : ℕ) (ns : List ℕ) (before after : List HostNote) (message : List Bool) → FromBeginning me ns (before ++ HostNote.Out message ∷ after) → IsNext (Some message) (after_notes before (new_host me ns)).peers }
-    ensures nothing { (me : ℕ) (ns : List ℕ) (before after : List HostNote) → FromBeginning me ns (before ++ HostNote.Nothing ∷ after) → IsNext None (after_notes before (new_host me ns)).peers }
+    ensures out { (message : List Bool) → HostBefore (Out message) (λ h. IsNext (Some message) h.peers) }
+    ensures nothing { HostBefore Nothing (λ h. IsNext None h.peers) }
 {}
 
 /// An answer comes from a peer; and it is stray exactly where no message on its link is unanswered.
 pub fn answers_to_nothing_are_stray()
-    ensures peer { (me : ℕ) (ns : List ℕ) (before after : List HostNote) (n on : ℕ) (how : Answer) (told : Received) → FromBeginning me ns (before ++ HostNote.Answered n on how told ∷ after) → is_one_of n ns ≡ true }
-    ensures told { (me : ℕ) (ns : List ℕ) (before after : List HostNote) (n on : ℕ) (how : Answer) (told : Received) → FromBeginning me ns (before ++ HostNote.Answered n on how told ∷ after) → told ≡ received_told (told_on on (notes_of_peer n before)) }
+    ensures peer { WhenAnswered (λ ns n on told own. is_one_of n ns ≡ true) }
+    ensures told { WhenAnswered (λ ns n on told own. told ≡ received_told (told_on on own)) }
 {}
 
 /// A host is asked in vain for a message only where none is ready, on any link to any of its peers.
 pub fn nothing_goes_out_where_none_is_ready()
-    ensures { (me : ℕ) (ns : List ℕ) (before after : List HostNote) (n on : ℕ) → FromBeginning me ns (before ++ HostNote.Nothing ∷ after) → is_one_of n ns ≡ true → is_one_of on links ≡ true → ready_told n on (told_on on (notes_of_peer n before)) (notes_for (notes_of_peer n before) new_state).peer ≡ None }
+    ensures { WhereNoted Nothing NoneReady }
 {}
 
 /// That these laws speak of something: a message that is lost, then held, since its destination is dead,

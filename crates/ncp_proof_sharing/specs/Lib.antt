@@ -1,3 +1,4 @@
 pub mod Sharing
 pub mod Finding
 pub mod Runs
+pub mod OfSharing

@@ -2,3 +2,4 @@ pub mod Histories
 pub mod Sound
 pub mod Books
 pub mod Limits
+pub mod OneConnection

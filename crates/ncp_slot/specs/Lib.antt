@@ -7,3 +7,4 @@ pub mod Steps
 pub mod Links
 pub mod Lends
 pub mod PlaceLends
+pub mod SameSlots

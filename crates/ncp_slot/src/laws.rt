@@ -13,6 +13,7 @@ ghost use Rattle.ncp_slot.specs.Laws.{AreNotesOf, OneAnswerBetween, SameAfterFai
 ghost use Rattle.ncp_slot.specs.declared.slots.TheConstants.{SLOTS};
 ghost use Rattle.ncp_terms.specs.declared.links.TheConstants.{UNUSED_LINK, FIRST_LINK, LAST_LINK, DATA_LINKS};
 ghost use Rattle.ncp_slot.specs.Steps.{slot_after, note_at};
+ghost use Rattle.ncp_slot.specs.SameSlots.{SameAtLinks};
 
 use crate::slot::{Busy, Slot, Stray};
 use crate::slots::Slots;
@@ -101,7 +102,7 @@ pub fn run_link(
 /// The slots of different links are apart.
 pub fn slots_are_apart()
     ensures same { (slots : LinkSlots) (link : ℕ) (slot : LinkSlot) → slot_at (with_slot slots link slot) link ≡ slot }
-    ensures others { (slots : LinkSlots) (link : ℕ) (slot : LinkSlot) → OtherSlotsStay slots (with_slot slots link slot) link }
+    ensures others { (all : LinkSlots) (on : ℕ) (slot : LinkSlot) → OtherSlotsStay all (with_slot all on slot) on }
     ensures none { (link : ℕ) → slot_at no_slots link ≡ Slot.Empty }
     ensures twice { (slots : LinkSlots) (link : ℕ) (first last : LinkSlot) → with_slot (with_slot slots link first) link last ≡ with_slot slots link last }
 {}
@@ -127,7 +128,7 @@ pub fn a_message_is_kept<M>()
     ensures put { (message : M) → kept_message (put_in message Slot.Empty) ≡ Some message }
     ensures busy { (message : M) (slot : Slot M) → is_empty slot ≡ false → put_in message slot ≡ slot }
     ensures handed { (slot : Slot M) → kept_message (handed_out slot) ≡ kept_message slot }
-    ensures failed { (slot : Slot M) (answer : Answer) → answer ≢ Answer.Rfnm → kept_message (answered answer slot) ≡ kept_message slot }
+    ensures failed { (s : Slot M) (how : Answer) → how ≢ Answer.Rfnm → kept_message (answered how s) ≡ kept_message s }
     ensures taken { (slot : Slot M) → is_travelling slot ≡ true → answered Answer.Rfnm slot ≡ Slot.Empty }
     ensures stray { (slot : Slot M) (answer : Answer) → is_travelling slot ≡ false → answered answer slot ≡ slot }
     ensures woken { (slot : Slot M) → kept_message (woken slot) ≡ kept_message slot }
@@ -137,7 +138,7 @@ pub fn a_message_is_kept<M>()
 /// Dead it is held, and does not go out until the user asks for it.
 pub fn what_is_held_stays<M>()
     ensures ready { (slot : Slot M) → is_ready slot ≡ is_some (ready_message slot) }
-    ensures goes_out { (slot : Slot M) (message : M) → ready_message slot ≡ Some message → handed_out slot ≡ Slot.Travelling message }
+    ensures goes_out { (slot : Slot M) (m : M) → ready_message slot ≡ Some m → handed_out slot ≡ Slot.Travelling m }
     ensures again { (message : M) → answered Answer.Incomplete (Slot.Travelling message) ≡ Slot.Ready message }
     ensures held { (message : M) → answered Answer.Dead (Slot.Travelling message) ≡ Slot.Held message }
     ensures stays { (slot : Slot M) → is_held slot ≡ true → handed_out slot ≡ slot }
@@ -164,5 +165,5 @@ pub fn quiet_links_are_empty()
 
 /// Slots of just the links that have one are the same where each of these has the same slot.
 pub fn slots_are_those_of_their_links()
-    ensures { (one other : LinkSlots) → HasItsLinks one → HasItsLinks other → ((link : ℕ) → HasSlot link → slot_at one link ≡ slot_at other link) → one ≡ other }
+    ensures { (one other : LinkSlots) → HasItsLinks one → HasItsLinks other → SameAtLinks one other → one ≡ other }
 {}

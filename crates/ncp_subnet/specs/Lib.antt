@@ -3,3 +3,4 @@ pub mod Messages
 pub mod Ways
 pub mod Subnet
 pub mod Codes
+pub mod OfPlaces

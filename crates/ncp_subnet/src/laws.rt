@@ -4,8 +4,8 @@ ghost use Rattle.ncp_numbers.specs.Bytes.{bits_of_bytes};
 ghost use Rattle.ncp_subnet.specs.Messages.{from_host, answer_bits};
 ghost use Rattle.ncp_subnet.specs.declared.transit.Transit.{Transit};
 ghost use Rattle.ncp_subnet.specs.Transit.{accepted, delivered, lost, dead, transit_answered, answer_kind, accepted_message};
-ghost use Rattle.ncp_subnet.specs.Ways.{OnLink};
-ghost use Rattle.ncp_subnet.specs.Subnet.{Subnet, transit_at, with_transit, OthersStayInTransit};
+ghost use Rattle.ncp_subnet.specs.Subnet.{transit_at, OthersStayInTransit};
+ghost use Rattle.ncp_subnet.specs.OfPlaces.{AfterPutting, rst_with_host};
 
 use ncp_leader::{DESTINATION_DEAD, INCOMPLETE, RFNM};
 
@@ -13,14 +13,14 @@ use ncp_leader::{DESTINATION_DEAD, INCOMPLETE, RFNM};
 /// RST on link 3 from host 1 to host 2, and what is said of it if it is lost.
 #[tactic(auto, unfolding(ncp_numbers::specs::Bytes::byte_bits, ncp_numbers::specs::Numbers::bits_of))]
 pub fn messages_are_addressed_so()
-    ensures comes { from_host 1 (bits_of_bytes (0 ∷ 2 ∷ 3 ∷ 0 ∷ 0 ∷ 8 ∷ 0 ∷ 1 ∷ 0 ∷ 12 ∷ [])) ≡ bits_of_bytes (0 ∷ 1 ∷ 3 ∷ 0 ∷ 0 ∷ 8 ∷ 0 ∷ 1 ∷ 0 ∷ 12 ∷ []) }
+    ensures comes { from_host 1 (rst_with_host 2) ≡ rst_with_host 1 }
     ensures answer { answer_bits INCOMPLETE 2 3 ≡ bits_of_bytes (9 ∷ 2 ∷ 3 ∷ 0 ∷ []) }
 {}
 
 /// What is in transit at different places is apart.
 pub fn places_are_apart()
-    ensures same { (subnet : Subnet) (from to link : ℕ) (transit : OnLink) → transit_at (with_transit subnet from to link transit) from to link ≡ transit }
-    ensures others { (subnet : Subnet) (from to link : ℕ) (transit : OnLink) → OthersStayInTransit subnet (with_transit subnet from to link transit) from to link }
+    ensures same { AfterPutting (λ before after from to link transit. transit_at after from to link ≡ transit) }
+    ensures others { AfterPutting (λ before after from to link transit. OthersStayInTransit before after from to link) }
 {}
 
 /// A message is delivered at most once, and answered once: by Ready For Next Message where it came,
@@ -36,7 +36,9 @@ pub fn each_message_is_answered_once<M>()
     ensures dead { (message : M) → answer_kind (dead (Transit.Accepted message)) ≡ Some DESTINATION_DEAD }
     ensures never { (message : M) → accepted_message (lost (Transit.Accepted message)) ≡ None }
     ensures never_dead { (message : M) → accepted_message (dead (Transit.Accepted message)) ≡ None }
-    ensures over { (transit : Transit M) → accepted_message transit ≡ None → (delivered transit ≡ transit) × (lost transit ≡ transit) × (dead transit ≡ transit) }
-    ensures answered { (transit : Transit M) (kind : ℕ) → answer_kind transit ≡ Some kind → transit_answered transit ≡ Transit.Free }
+    ensures over { (transit : Transit M) → accepted_message transit ≡ None → delivered transit ≡ transit }
+    ensures over_lost { (transit : Transit M) → accepted_message transit ≡ None → lost transit ≡ transit }
+    ensures over_dead { (transit : Transit M) → accepted_message transit ≡ None → dead transit ≡ transit }
+    ensures answered { (t : Transit M) (kind : ℕ) → answer_kind t ≡ Some kind → transit_answered t ≡ Transit.Free }
     ensures kept { (transit : Transit M) → answer_kind transit ≡ None → transit_answered transit ≡ transit }
 {}

@@ -68,7 +68,7 @@ impl Subnet {
     /// goes. Takes room for 256 messages each way, about 0.5 MiB.
     pub fn new(alloc: Global, a: u8, b: u8) -> Result<Subnet, AllocError>
         ensures subnet { IfOk result (λ subnet. subnet ≡ new_subnet (a ∷ b ∷ [])) }
-        ensures hosts { IfOk result (λ subnet. (from to : ℕ) → has_way subnet from to ≡ are_two_of (a ∷ b ∷ []) from to) }
+        ensures hosts { IfOk result (λ made. (from to : ℕ) → has_way made from to ≡ are_two_of (a ∷ b ∷ []) from to) }
         ensures free { IfOk result (λ subnet. (from to link : ℕ) → transit_at subnet from to link ≡ Transit.Free) }
     {
         Subnet::among(alloc, &[a, b])

@@ -7,3 +7,5 @@ pub mod Pairs
 pub mod Examples
 pub mod NotesOfTwo
 pub mod OfCrowds
+pub mod WhereInCrowds
+pub mod ManyRows

@@ -10,11 +10,12 @@ ghost use Rattle.ncp_transcript_many.specs.Crowd.{Crowd, is_there, are_hosts, ne
 ghost use Rattle.ncp_transcript_many.specs.ManyHappening.{by_numbers};
 ghost use Rattle.ncp_transcript_many.specs.ManyTranscript.{AreManyNotes, IsManyTranscript};
 ghost use Rattle.ncp_transcript_many.specs.Pairs.{notes_between, hosts_between, ForEachPair};
+ghost use Rattle.ncp_transcript_many.specs.WhereInCrowds.{FromNewCrowds};
 
 /// Whatever is done at and between the others, the notes of events that name both hosts of a pair are a
 /// transcript of two hosts, and leave what the two have for each other and what is in transit between them.
 pub fn every_list_of_events_is_a_run_of_each_pair()
-    ensures run { (events : List Event) (notes : List Noted) (ns : List ℕ) → are_hosts ns ≡ true → ((n : ℕ) → is_one_of n ns ≡ true → n < 256) → AreManyNotes events notes (new_crowd ns) → ForEachPair IsTranscript notes (after_many_notes notes (new_crowd ns)) }
+    ensures run { FromNewCrowds (ForEachPair IsTranscript) }
     ensures seen { (events : List Event) (notes : List Noted) (ns : List ℕ) (a b : ℕ) → are_hosts ns ≡ true → ((n : ℕ) → is_one_of n ns ≡ true → n < 256) → AreManyNotes events notes (new_crowd ns) → is_one_of a ns ≡ true → is_one_of b ns ≡ true → a ≢ b → seen (between a b (after_many_notes notes (new_crowd ns))) ≡ seen (hosts_between a b notes) }
 {}
 

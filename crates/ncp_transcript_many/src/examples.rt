@@ -1,5 +1,5 @@
 //! What the definitions mean in worked examples: small laws that a wrong definition makes false.
-ghost use Rattle.std.specs.Prelude.{◌≡◌, ℕ, true, false, List, [], ◌∷◌, length, Some, None};
+ghost use Rattle.std.specs.Prelude.{◌≡◌, ℕ, true, false, [], ◌∷◌, length, Some, None};
 ghost use Rattle.ncp_host.specs.declared.received.Received.TheVariants as received;
 ghost use Rattle.ncp_host.specs.Host.{new_host};
 ghost use Rattle.ncp_transcript.specs.declared.call.Call.TheVariants as calls;
@@ -16,7 +16,8 @@ ghost use Rattle.ncp_transcript_many.specs.Crowd.{are_hosts, others, host_at, be
 ghost use Rattle.ncp_transcript_many.specs.ManyHappening.{ends_of, as_of_two, event_by_numbers, by_numbers, ManyNoted};
 ghost use Rattle.ncp_transcript_many.specs.Pairs.{note_between, notes_between, notes_at_host};
 ghost use Rattle.ncp_transcript_many.specs.ManyTranscript.{AreManyNotes};
-ghost use Rattle.ncp_transcript_many.specs.Examples.{three_hosts, three_new, rst_with, row_events, row_notes, first_events, first_notes};
+ghost use Rattle.ncp_transcript_many.specs.Examples.{three_hosts, three_new, row_events, row_notes, first_events, first_notes};
+ghost use Rattle.ncp_transcript_many.specs.ManyRows.{rst_from_1, down_with_1, up_with_1, reset_by, rst_goes, rst_comes};
 
 /// A thing is found by its number, and changed there alone.
 pub fn things_have_numbers()
@@ -55,7 +56,7 @@ pub fn sides_are_names_of_numbers()
 
 /// An event of many is one of its two hosts, of which the sender is side A.
 pub fn an_event_of_many_is_one_of_two()
-    ensures turned_back { (event : ManyEvent) → event_by_numbers (ends_of event).0 (ends_of event).1 (as_of_two event) ≡ event }
+    ensures turned_back { (e : ManyEvent) → event_by_numbers (ends_of e).0 (ends_of e).1 (as_of_two e) ≡ e }
     ensures answer { event_by_numbers 1 3 (two_events.Answer A 2) ≡ events.Answer 1 3 2 }
     ensures other { event_by_numbers 1 3 (two_events.Lose B 2) ≡ events.Lose 3 1 2 }
     ensures sender { ends_of (events.Dead 1 3 2) ≡ (1, 3) }
@@ -69,11 +70,11 @@ pub fn three_hosts_can_begin()
 /// The notes of three hosts: one for each event, those of each two of them, and those of one.
 pub fn notes_of_three_hosts()
     ensures many { length row_notes ≡ length row_events }
-    ensures second { notes_between 1 2 row_notes ≡ notes.Called A (of_host.Done (calls.Reset 2)) ∷ notes.Out A (of_host.Out (rst_with 2)) ∷ notes.Called B (of_host.Phase 1 (record { down = true; want = false; owe = false; wait = false })) ∷ [] }
-    ensures third { notes_between 1 3 row_notes ≡ notes.Called A (of_host.Done (calls.Reset 3)) ∷ notes.Out A (of_host.Out (rst_with 3)) ∷ notes.Came A 0 (of_host.In (rst_with 1) (received.Control 1)) ∷ notes.Called B (of_host.Phase 1 (record { down = false; want = false; owe = false; wait = false })) ∷ [] }
-    ensures turned { notes_between 2 1 row_notes ≡ notes.Called B (of_host.Done (calls.Reset 2)) ∷ notes.Out B (of_host.Out (rst_with 2)) ∷ notes.Called A (of_host.Phase 1 (record { down = true; want = false; owe = false; wait = false })) ∷ [] }
+    ensures second { notes_between 1 2 row_notes ≡ reset_by A 2 ∷ rst_goes A 2 ∷ notes.Called B down_with_1 ∷ [] }
+    ensures third { notes_between 1 3 row_notes ≡ reset_by A 3 ∷ rst_goes A 3 ∷ rst_comes ∷ notes.Called B up_with_1 ∷ [] }
+    ensures turned { notes_between 2 1 row_notes ≡ reset_by B 2 ∷ rst_goes B 2 ∷ notes.Called A down_with_1 ∷ [] }
     ensures others { notes_between 2 3 row_notes ≡ [] }
-    ensures of_one { notes_at_host 3 row_notes ≡ of_host.In (rst_with 1) (received.Control 1) ∷ of_host.Phase 1 (record { down = false; want = false; owe = false; wait = false }) ∷ [] }
+    ensures of_one { notes_at_host 3 row_notes ≡ rst_from_1 ∷ up_with_1 ∷ [] }
 {}
 
 /// What the subnet did is between the sender and the destination, and in vain it is so too.

@@ -18,3 +18,5 @@ pub mod Ledgers
 pub mod Naming
 pub mod Throughout
 pub mod ExampleNotes
+pub mod OfTranscripts
+pub mod TwoRows

@@ -5,7 +5,7 @@ ghost use Rattle.ncp_leader.specs.declared.fault.MessageFault.{MessageFault as F
 ghost use Rattle.ncp_terms.specs.declared.answer.Answer.{Answer};
 ghost use Rattle.ncp_slot.specs.declared.slot.Slot.TheVariants as slots;
 ghost use Rattle.ncp_model.specs.declared.outcomes.Took.TheVariants as took;
-ghost use Rattle.ncp_proof_resets.specs.Resets.{This, That};
+ghost use Rattle.ncp_proof_resets.specs.Resets.{That};
 ghost use Rattle.ncp_host.specs.declared.received.Received.{Received};
 ghost use Rattle.ncp_host.specs.declared.received.Received.TheVariants as received;
 ghost use Rattle.ncp_subnet.specs.Messages.{host_in, link_in};
@@ -16,6 +16,7 @@ ghost use Rattle.ncp_transcript_two.specs.World.{In, Answered};
 ghost use Rattle.ncp_transcript_two.specs.Naming.{IsMessageFrom, IsAnswerAbout};
 ghost use Rattle.ncp_transcript_two.specs.Refused.{is_refused, any_refused};
 ghost use Rattle.ncp_transcript_two.specs.Underway.{not_come};
+ghost use Rattle.ncp_transcript_two.specs.TwoRows.{read_here, late_here, short_there, answered_there};
 
 /// Each kind of what is received is refused or is not. Bits that are no message, whatever their fault, of a type that
 /// says nothing, from no peer, or on a link that carries nothing, a control message of the wrong byte size, and an
@@ -32,9 +33,9 @@ pub fn each_refusal_is_seen()
     ensures control { (count : ℕ) → is_refused (received.Control count) ≡ false }
     ensures admitted { is_refused (received.Text took.Admitted) ≡ false }
     ensures answered { is_refused received.Answered ≡ false }
-    ensures message { (m n : List Bool) → any_refused (noted_at This (In 0 m (received.Control 1)) ∷ noted_at That (In 2 n received.Short) ∷ []) ≡ true }
+    ensures message { (m n : List Bool) → any_refused (read_here m ∷ short_there n ∷ []) ≡ true }
     ensures answer { (how : Answer) → any_refused (noted_at That (Answered 2 how received.Stray) ∷ []) ≡ true }
-    ensures none { (how : Answer) (m : List Bool) → any_refused (noted_at That (Answered 2 how received.Answered) ∷ noted_at This (In 2 m (received.Text took.Late)) ∷ []) ≡ false }
+    ensures none { (how : Answer) (m : List Bool) → any_refused (answered_there how ∷ late_here m ∷ []) ≡ false }
 {}
 
 /// What came from the subnet is named by its host and its link: a message from another host or on another link, an

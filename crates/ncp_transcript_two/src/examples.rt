@@ -1,6 +1,6 @@
 //! What the definitions of an honest subnet, of what is underway, of the ledger, and of what is refused or cannot
 //! be admit, and what they refuse: small laws that a wrong definition makes false.
-ghost use Rattle.std.specs.Prelude.{◌≡◌, ℕ, Bool, true, false, List, [], ◌∷◌, None, Some};
+ghost use Rattle.std.specs.Prelude.{◌≡◌, Bool, true, false, List, [], ◌∷◌, None, Some};
 ghost use Rattle.ncp_slot.specs.declared.slot.Slot.TheVariants as slots;
 ghost use Rattle.ncp_terms.specs.declared.answer.Answer.TheVariants.{Rfnm, Dead};
 ghost use Rattle.ncp_model.specs.declared.outcomes.Took.TheVariants as took;
@@ -10,13 +10,14 @@ ghost use Rattle.ncp_host.specs.declared.received.Received.TheVariants as receiv
 ghost use Rattle.ncp_transcript_two.specs.Subnet.{from_host};
 ghost use Rattle.ncp_transcript_two.specs.Subnet as subnets;
 ghost use Rattle.ncp_transcript_two.specs.ExampleNotes.{amounts, noted_at};
-ghost use Rattle.ncp_transcript_two.specs.World.{In, Answered};
+ghost use Rattle.ncp_transcript_two.specs.World.{Answered};
 ghost use Rattle.ncp_transcript_two.specs.Honest.{Sent, Comes, Taken, Refused, Other, Clear, HonestFrom, sent_from, RepeatsFrom, IsBeginningWithin, deeds_told};
 ghost use Rattle.ncp_transcript_two.specs.Underway.{not_come};
 ghost use Rattle.ncp_transcript_two.specs.Ledgers.{amount, IsBalanced};
 ghost use Rattle.ncp_transcript_two.specs.Refused.{is_refused};
 ghost use Rattle.ncp_transcript_two.specs.Vain.{CannotBe};
 ghost use Rattle.ncp_transcript_two.specs.declared.note.Move.TheVariants as moves;
+ghost use Rattle.ncp_transcript_two.specs.TwoRows.{lost_and_taken, one_taken, comes_on_2};
 
 /// A subnet that delivers twice or something else, says RFNM of what did not come, or Incomplete Transmission of
 /// what came, and a second Out before an answer, are refused. One that loses a message, takes it again, delivers
@@ -28,14 +29,14 @@ pub fn dishonest_subnets_are_seen()
     ensures came { (m n : List Bool) → HonestFrom 1 Clear (Sent m ∷ Comes n ∷ Refused ∷ []) → ⊥ }
     ensures unanswered { (m : List Bool) → HonestFrom 1 Clear (Sent m ∷ Sent m ∷ []) → ⊥ }
     ensures unasked { (m : List Bool) → HonestFrom 1 Clear (Comes m ∷ []) → ⊥ }
-    ensures good { (m : List Bool) → HonestFrom 1 Clear (Sent m ∷ Refused ∷ Sent m ∷ Comes (from_host 1 m) ∷ Taken ∷ []) }
+    ensures good { (m : List Bool) → HonestFrom 1 Clear (lost_and_taken m) }
 {}
 
 /// A message that goes out again after an Incomplete Transmission or a Destination Dead is the last one, and is not
 /// sent anew; after an RFNM the next is. Of two that were sent, one at most may not have come.
 pub fn what_goes_out_again_is_not_sent_anew()
     ensures again { (m : List Bool) → sent_from 1 true (Sent m ∷ Refused ∷ Sent m ∷ []) ≡ from_host 1 m ∷ [] }
-    ensures anew { (m n : List Bool) → sent_from 1 true (Sent m ∷ Taken ∷ Sent n ∷ []) ≡ from_host 1 m ∷ from_host 1 n ∷ [] }
+    ensures anew { (m n : List Bool) → sent_from 1 true (one_taken m n) ≡ from_host 1 m ∷ from_host 1 n ∷ [] }
     ensures another { (m n : List Bool) → (n ≡ m → ⊥) → RepeatsFrom [] true (Sent m ∷ Refused ∷ Sent n ∷ []) → ⊥ }
     ensures two_behind { (m n : List Bool) → IsBeginningWithin 1 [] (m ∷ n ∷ []) → ⊥ }
     ensures one_behind { (m n : List Bool) → IsBeginningWithin 1 (m ∷ []) (m ∷ n ∷ []) }
@@ -43,9 +44,9 @@ pub fn what_goes_out_again_is_not_sent_anew()
 
 /// What a note tells is of the messages of its own side on its own link alone.
 pub fn notes_are_of_one_side_and_one_link()
-    ensures came { (m : List Bool) (r : Received) → deeds_told This 2 (noted_at This (In 2 m r) ∷ []) ≡ Comes m ∷ [] }
-    ensures elsewhere { (m : List Bool) (r : Received) → deeds_told This 3 (noted_at This (In 2 m r) ∷ []) ≡ Other ∷ [] }
-    ensures of_that { (m : List Bool) (r : Received) → deeds_told That 2 (noted_at This (In 2 m r) ∷ []) ≡ Other ∷ [] }
+    ensures came { (m : List Bool) (r : Received) → deeds_told This 2 (comes_on_2 m r) ≡ Comes m ∷ [] }
+    ensures elsewhere { (m : List Bool) (r : Received) → deeds_told This 3 (comes_on_2 m r) ≡ Other ∷ [] }
+    ensures of_that { (m : List Bool) (r : Received) → deeds_told That 2 (comes_on_2 m r) ≡ Other ∷ [] }
     ensures taken { (r : Received) → deeds_told That 2 (noted_at That (Answered 2 Rfnm r) ∷ []) ≡ Taken ∷ [] }
     ensures refused { (r : Received) → deeds_told That 2 (noted_at That (Answered 2 Dead r) ∷ []) ≡ Refused ∷ [] }
 {}
@@ -75,7 +76,8 @@ pub fn what_can_be_and_what_is_refused_are_seen()
     ensures lose { (m : List Bool) → CannotBe moves.Lose (subnets.Accepted m) → ⊥ }
     ensures dead { (m : List Bool) → CannotBe moves.Dead (subnets.Accepted m) → ⊥ }
     ensures answer { CannotBe moves.Answer subnets.Delivered → ⊥ }
-    ensures nothing { (m : List Bool) → CannotBe moves.Deliver subnets.Delivered × CannotBe moves.Answer (subnets.Accepted m) }
+    ensures nothing { CannotBe moves.Deliver subnets.Delivered }
+    ensures no_answer { (m : List Bool) → CannotBe moves.Answer (subnets.Accepted m) }
     ensures over { is_refused (received.Text took.Over) ≡ true }
     ensures size { is_refused (received.Text took.WrongSize) ≡ true }
     ensures not_open { is_refused (received.Text took.NotOpen) ≡ true }

@@ -2,8 +2,8 @@
 ghost use Rattle.std.specs.Prelude.{◌≡◌, ◌<◌, ◌^◌, ℕ, Bool, List, true, false, Ok};
 ghost use Rattle.ncp_transcript_two.specs.Throughout.{AfterEachRun, InNotesOfEachRun, ComesAsSent, GoesAgainAsSent};
 ghost use Rattle.ncp_transcript_two.specs.Streams.{GotIsBeginning, GotIsTakenOrHeld, NeverBeyondAllocation};
-ghost use Rattle.ncp_transcript_two.specs.Underway.{MessagesAgree, BitsAgree, Parted, NoResetUnderway};
-ghost use Rattle.ncp_transcript_two.specs.World.{World, swap, WorldEvent, world_run_from};
+ghost use Rattle.ncp_transcript_two.specs.Underway.{MessagesAgree, BitsAgree, Parted};
+ghost use Rattle.ncp_transcript_two.specs.World.{World};
 ghost use Rattle.ncp_transcript_two.specs.Honest.{IsHonest, came};
 ghost use Rattle.ncp_leader.specs.declared.leader.Leader.{Leader};
 ghost use Rattle.ncp_leader.specs.Leader.{leader_in};
@@ -18,12 +18,14 @@ ghost use Rattle.ncp_transcript_two.specs.World as worlds;
 ghost use Rattle.ncp_transcript_two.specs.World.{Is_delivered, Is_lost, Finds_dead, Is_answered, moves};
 ghost use Rattle.ncp_subnet.specs.Transit as transit;
 ghost use Rattle.ncp_transcript_two.specs.Refused.{any_refused};
-ghost use Rattle.ncp_transcript_two.specs.Tie.{IsNewWorld, AreEvents, IsOfModel};
+ghost use Rattle.ncp_transcript_two.specs.Tie.{IsOfModel};
+ghost use Rattle.ncp_transcript_two.specs.OfTranscripts.{NoResetEitherWay, IsNewBetween, AfterRunsOfTwo, OfOnePeer};
+ghost use Rattle.ncp_subnet.specs.Transit.{transit_answered};
 
 /// Each run from a new world is one of the model: the hosts are the same but for the histories, and in
 /// each slot and in the subnet stands the written form of what the model has there.
 pub fn runs_are_of_the_model()
-    ensures { (v : World) (events : List WorldEvent) → IsNewWorld v → AreEvents events → IsOfModel (world_run_from events v) }
+    ensures { AfterRunsOfTwo IsOfModel }
 {}
 
 /// For each pair, either way: what a live receiver got is a beginning of what was given since the sender
@@ -45,7 +47,7 @@ pub fn the_ledger_is_kept()
 
 /// Between two hosts that are up no RST or RRP is underway, either way.
 pub fn no_reset_is_underway_between_two_that_are_up()
-    ensures { (v : World) (events : List WorldEvent) → IsNewWorld v → AreEvents events → NoResetUnderway (world_run_from events v) × NoResetUnderway (swap (world_run_from events v)) }
+    ensures { AfterRunsOfTwo NoResetEitherWay }
 {}
 
 /// Of what comes, no text is answered as not connected, of the wrong size or beyond the allocation, no
@@ -65,12 +67,12 @@ pub fn subnets_are_honest()
 /// A host with one peer does what its state does: where bits come from that peer, and in what goes out.
 pub fn one_peer_is_its_state()
     ensures after { (me number : ℕ) (ignored : Ignored) (s : PeerState) (bits : List Bool) (l : Leader) → leader_in bits ≡ Ok l → is_kind l.kind ≡ true → l.host ≡ number → arrivals.after_received bits (one_peer me number ignored s) ≡ one_peer me number ignored (worlds.state_after_received bits s) }
-    ensures out { (me number : ℕ) (ignored : Ignored) (s : PeerState) → next_output (one_peer me number ignored s) ≡ message_on (next_of number s) }
+    ensures out { OfOnePeer (λ number h s. next_output h ≡ message_on (next_of number s)) }
 {}
 
 /// There are new worlds, so the laws of all runs speak of something.
 pub fn worlds_can_begin()
-    ensures { (here there : ℕ) → here < 2 ^ 8 → there < 2 ^ 8 → (v : World) × (v.here ≡ here) × (v.there ≡ there) × IsNewWorld v }
+    ensures { (here there : ℕ) → here < 2 ^ 8 → there < 2 ^ 8 → (v : World) × IsNewBetween here there v }
 {}
 
 /// What the moves of a world do to what is in transit on a link is what the subnet's calls do.
@@ -78,5 +80,5 @@ pub fn subnets_move_alike()
     ensures delivered { (on : ℕ) (v : World) → (moves (Is_delivered on) v).0.going on ≡ transit.delivered (v.going on) }
     ensures lost { (on : ℕ) (v : World) → (moves (Is_lost on) v).0.going on ≡ transit.lost (v.going on) }
     ensures dead { (on : ℕ) (v : World) → (moves (Finds_dead on) v).0.going on ≡ transit.dead (v.going on) }
-    ensures answered { (on : ℕ) (v : World) → (moves (Is_answered on) v).0.going on ≡ transit.transit_answered (v.going on) }
+    ensures answered { (on : ℕ) (v : World) → (moves (Is_answered on) v).0.going on ≡ transit_answered (v.going on) }
 {}

@@ -1,52 +1,48 @@
 //! Laws of transcripts of a world, each the contract of a function that does nothing.
-ghost use Rattle.std.specs.Prelude.{◌≡◌, ℕ, false, List, ◌∷◌, ◌++◌, length, None};
+ghost use Rattle.std.specs.Prelude.{◌≡◌, ℕ, false, length, None};
 ghost use Rattle.ncp_transcript_two.specs.Throughout.{OfEachTranscript, ToldInEachTranscript, ComesAsSent, GoesAgainAsSent, IsNeverNoted};
-ghost use Rattle.ncp_transcript_two.specs.World.{swap};
 ghost use Rattle.ncp_transcript_two.specs.Honest.{IsHonest, came};
 ghost use Rattle.ncp_transcript_two.specs.Refused.{any_refused};
 ghost use Rattle.ncp_transcript_two.specs.Streams.{GotIsBeginning, GotIsTakenOrHeld, NeverBeyondAllocation};
-ghost use Rattle.ncp_transcript_two.specs.Underway.{MessagesAgree, BitsAgree, Parted, NoResetUnderway};
-ghost use Rattle.ncp_transcript_two.specs.declared.event.Event.{Event};
-ghost use Rattle.ncp_transcript_two.specs.declared.note.Note.{Note};
+ghost use Rattle.ncp_transcript_two.specs.Underway.{MessagesAgree, BitsAgree, Parted};
 ghost use Rattle.ncp_host.specs.Turns.{next_output};
-ghost use Rattle.ncp_transcript.specs.declared.note.HostNote.{HostNote};
 ghost use Rattle.ncp_transcript.specs.declared.note.HostNote.TheVariants as of_host;
-ghost use Rattle.ncp_transcript_two.specs.declared.note.Move.{Move};
 ghost use Rattle.ncp_transcript_two.specs.declared.note.Note.TheVariants as of_world;
-ghost use Rattle.ncp_transcript_two.specs.Between.{Hosts, other, side_number, host_of, transit_of, hosts_after_notes};
-ghost use Rattle.ncp_transcript_two.specs.Transcript.{IsRun, AreNotes, began, IsTranscript};
+ghost use Rattle.ncp_transcript_two.specs.Between.{other, side_number, host_of, transit_of};
+ghost use Rattle.ncp_transcript_two.specs.Transcript.{IsRun};
 ghost use Rattle.ncp_transcript_two.specs.Vain.{CannotBe};
 ghost use Rattle.ncp_transcript_two.specs.Naming.{IsMessageFrom, IsAnswerAbout};
-ghost use Rattle.ncp_transcript_two.specs.Seen.{seen, told};
+ghost use Rattle.ncp_transcript_two.specs.Seen.{seen};
 ghost use Rattle.ncp_transcript_two.specs.OfRules.{IsOfRules, IsOfModelsHosts};
 ghost use Rattle.ncp_transcript_two.specs.declared.side.Side as sides;
 ghost use Rattle.ncp_transcript_two.specs.Sides.{notes_at};
 ghost use Rattle.ncp_transcript.specs.Runs as runs;
+ghost use Rattle.ncp_transcript_two.specs.OfTranscripts.{NoResetEitherWay, OfEventNotes, OfTranscripts, OfSides, WhereNothingHappened, WhereNoneWentOut, WhereItCame, WhereItWasAnswered};
 
 /// The notes of events, however many and whatever they are, are one for each, and a run: each says what
 /// the rules say at the state before it.
 pub fn every_list_of_events_is_a_run()
-    ensures many { (events : List Event) (notes : List Note) (w : Hosts) → AreNotes events notes w → length notes ≡ length events }
-    ensures run { (events : List Event) (notes : List Note) (w : Hosts) → AreNotes events notes w → IsRun notes w }
+    ensures many { OfEventNotes (λ events notes w. length notes ≡ length events) }
+    ensures run { OfEventNotes (λ events notes w. IsRun notes w) }
 {}
 
 /// A transcript is a run of the rules: there are events of theirs that lead to what is seen of the hosts
 /// and the subnet, with what the notes tell, and with the histories of the notes.
 pub fn transcripts_are_of_the_rules()
-    ensures { (notes : List Note) (w : Hosts) → IsTranscript notes w → IsOfRules notes w }
+    ensures { OfTranscripts IsOfRules }
 {}
 
 /// A transcript is a run of the model's two hosts: there are events of theirs that lead to hosts with the
 /// histories of the notes, for which what is seen of the hosts and the subnet stands. So what is proved of
 /// these two hosts holds of them.
 pub fn transcripts_are_of_the_model()
-    ensures { (notes : List Note) (w : Hosts) → IsTranscript notes w → IsOfModelsHosts notes w }
+    ensures { OfTranscripts IsOfModelsHosts }
 {}
 
 /// Each host of a world is one by itself: its own notes are a run of one host with one peer, and it is what
 /// they leave. So what is proved of every run of one host holds of it.
 pub fn each_host_is_by_itself()
-    ensures { (notes : List Note) (w : Hosts) (side : sides.Side) → IsTranscript notes w → runs.IsHostTranscript (notes_at side notes) (host_of side w) }
+    ensures { OfSides (λ side notes w. runs.IsHostTranscript (notes_at side notes) (host_of side w)) }
 {}
 
 /// What transcripts keep of streams, allocation and what is underway. For each pair, either way: what a live
@@ -62,8 +58,8 @@ pub fn transcripts_keep_the_headline()
     ensures messages { OfEachTranscript (λ pair v p. MessagesAgree pair v) }
     ensures bits { OfEachTranscript (λ pair v p. BitsAgree pair v) }
     ensures parted { OfEachTranscript Parted }
-    ensures resets { (notes : List Note) (w : Hosts) → IsTranscript notes w → NoResetUnderway (seen w) × NoResetUnderway (swap (seen w)) }
-    ensures refused { (notes : List Note) (w : Hosts) → IsTranscript notes w → any_refused (told notes) ≡ false }
+    ensures resets { OfTranscripts (λ notes w. NoResetEitherWay (seen w)) }
+    ensures refused { ToldInEachTranscript (λ w notes. any_refused notes ≡ false) }
 {}
 
 /// The subnet of a transcript is honest. On each link, what came is a beginning of what was sent, shorter by
@@ -78,8 +74,8 @@ pub fn transcripts_are_honest()
 /// happen; of a host that was asked for its next message, where it has none to go out; of a call, or of what
 /// came to a host, never.
 pub fn nothing_is_noted_only_where_nothing_can_be()
-    ensures moves { (before after : List Note) (w : Hosts) (side : sides.Side) (link : ℕ) (wanted : Move) → IsTranscript (before ++ of_world.Nothing side link wanted ∷ after) w → CannotBe wanted (transit_of side link (hosts_after_notes before (began w))) }
-    ensures out { (before after : List Note) (w : Hosts) (side : sides.Side) → IsTranscript (before ++ of_world.Out side of_host.Nothing ∷ after) w → next_output (host_of side (hosts_after_notes before (began w))) ≡ None }
+    ensures moves { WhereNothingHappened (λ side link wanted w. CannotBe wanted (transit_of side link w)) }
+    ensures out { WhereNoneWentOut (λ h. next_output h ≡ None) }
     ensures called { (side : sides.Side) → IsNeverNoted (of_world.Called side of_host.Nothing) }
     ensures came { (side : sides.Side) (link : ℕ) → IsNeverNoted (of_world.Came side link of_host.Nothing) }
     ensures answered { (side : sides.Side) (link : ℕ) → IsNeverNoted (of_world.Answered side link of_host.Nothing) }
@@ -88,6 +84,6 @@ pub fn nothing_is_noted_only_where_nothing_can_be()
 /// What came from the subnet is noted with the host and the link of the note: a message as one from the host
 /// of the side, on this link; an answer as one about a message to the other host, on this link.
 pub fn what_came_has_the_host_and_the_link_of_its_note()
-    ensures came { (before after : List Note) (w : Hosts) (side : sides.Side) (link : ℕ) (note : HostNote) → IsTranscript (before ++ of_world.Came side link note ∷ after) w → IsMessageFrom (side_number side w) link note }
-    ensures answered { (before after : List Note) (w : Hosts) (side : sides.Side) (link : ℕ) (note : HostNote) → IsTranscript (before ++ of_world.Answered side link note ∷ after) w → IsAnswerAbout (side_number (other side) w) link note }
+    ensures came { WhereItCame (λ side link note w. IsMessageFrom (side_number side w) link note) }
+    ensures answered { WhereItWasAnswered (λ side link note w. IsAnswerAbout (side_number (other side) w) link note) }
 {}

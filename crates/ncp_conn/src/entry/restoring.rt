@@ -2,6 +2,7 @@
 ghost use Rattle.std.specs.Prelude.{◌≡◌, ◌≤◌, true, false, length, nat_le, List, Bool, IfSome, IfNone};
 ghost use Rattle.ncp_conn.specs.Stores.{stored_in, room_in};
 ghost use Rattle.ncp_conn.specs.Restoring.{end_told, can_be};
+ghost use Rattle.ncp_conn.specs.Stored.{told_end};
 
 use crate::entry::Entry;
 use crate::record::Record;
@@ -52,9 +53,9 @@ fn can_be(pair: Pair, told: &Record, stored: usize, room: usize) -> bool
 impl<S: BitStore> Entry<S> {
     /// The entry of which a record tells, with its store. None where no entry is so.
     pub(crate) fn restored(pair: Pair, told: &Record, store: Option<S>) -> Option<Self>
-        ensures entry { IfSome result (λ entry. entry ≡ (pair, end_told told.now (stored_in S.held store) (room_in S.capacity store))) }
+        ensures entry { IfSome result (λ entry. entry ≡ (pair, told_end S.held S.capacity told.now store)) }
         ensures good { IfSome result (λ entry. can_be entry.0 entry.1 ≡ true) }
-        ensures none { IfNone result (can_be pair (end_told told.now (stored_in S.held store) (room_in S.capacity store)) ≡ false) }
+        ensures none { IfNone result (can_be pair (told_end S.held S.capacity told.now store) ≡ false) }
     {
         let Some(room) = room_in(&store) else {
             return None;

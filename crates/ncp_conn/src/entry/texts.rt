@@ -6,6 +6,7 @@ ghost use Rattle.ncp_model.specs.Calls.{bits_to_take, give_end, take_end};
 ghost use Rattle.ncp_model.specs.Texts.{Rfnm, hear_text, bytes_to_send, may_send, cut, end_answered};
 ghost use Rattle.ncp_conn.specs.Changes.{after, with_end, putting, with_text, marks};
 ghost use Rattle.ncp_conn.specs.Cutting.{sizes, text_of};
+ghost use Rattle.ncp_conn.specs.Stored.{FitsBehind};
 
 use crate::entry::{Entry, whole_bytes};
 use ncp_bits::{BitStore, Bits, MAX_BITS, Part};
@@ -15,7 +16,7 @@ use ncp_terms::Command;
 impl<S: BitStore> Entry<S> {
     // Stores a text behind what is stored, or nothing where there is no room.
     fn put_stored(&mut self, text: Part<'_>) -> Result<(), CallFault>
-        requires outstanding { sends self.old.0 ≡ false → self.old.1.bits + length self.old.1.stored + length text ≤ self.old.1.room }
+        requires outstanding { FitsBehind (length text) self.old }
         ensures answer { result ≡ putting text.entry self.old.1 }
         ensures entry { self.new ≡ with_end self.old (with_text text.entry self.old.1) }
     {

@@ -4,9 +4,10 @@ ghost use Rattle.std.specs.FinMap.{get};
 ghost use Rattle.ncp_model.specs.Pairs.{sends, receives};
 ghost use Rattle.ncp_model.specs.End.{or_new};
 ghost use Rattle.ncp_model.specs.Act.{is_room};
-ghost use Rattle.ncp_model.specs.Calls.{asked_to_send, asked_to_receive, end_to_ask};
-ghost use Rattle.ncp_model.specs.Ends.{any, uses_link, free_link, ask_send_in, ask_receive_in, map_with, may_ask_in};
-ghost use Rattle.ncp_conn.specs.Asking.{MayAsk, ActsOrNoMemory};
+ghost use Rattle.ncp_model.specs.Calls.{end_to_ask};
+ghost use Rattle.ncp_model.specs.Ends.{any, uses_link, free_link, may_ask_in};
+ghost use Rattle.ncp_conn.specs.Asking.{MayAsk};
+ghost use Rattle.ncp_conn.specs.Asked.{AsksToSend, AsksToReceive, with_sender_asked, with_receiver_asked};
 
 mod stores;
 
@@ -57,7 +58,7 @@ impl<S: BitStore> Table<S> {
         requires may { MayAsk pair self.old }
         requires empty { S.held store ≡ [] }
         requires small { S.capacity store ≤ MAX_ROOM }
-        ensures { self.new ≡ map_with self.old pair (asked_to_send size (S.capacity store) (or_new (get self.old pair))) }
+        ensures { self.new ≡ with_sender_asked pair size (S.capacity store) self.old }
     {
         let Some(key) = self.entries.find(pair) else {
             let mut entry = Entry::new(pair);
@@ -83,7 +84,7 @@ impl<S: BitStore> Table<S> {
         room: u32,
         full: bool,
     ) -> Result<Command, CallFault>
-        ensures done { ActsOrNoMemory (record { local = local; remote = remote }) (ask_send_in (record { local = local; remote = remote }) size room full self.old) result self.old self.new }
+        ensures done { AsksToSend local remote size room full result self.old self.new }
         ensures err { OnErr result (self.new ≡ self.old) }
     {
         let pair = Pair { local, remote };
@@ -121,7 +122,7 @@ impl<S: BitStore> Table<S> {
         requires link { any (uses_link link) self.old ≡ false }
         requires empty { S.held store ≡ [] }
         requires small { S.capacity store ≤ MAX_ROOM }
-        ensures { self.new ≡ map_with self.old pair (asked_to_receive link (S.capacity store) (or_new (get self.old pair))) }
+        ensures { self.new ≡ with_receiver_asked pair link (S.capacity store) self.old }
     {
         let Some(key) = self.entries.find(pair) else {
             let mut entry = Entry::new(pair);
@@ -146,7 +147,7 @@ impl<S: BitStore> Table<S> {
         room: u32,
         full: bool,
     ) -> Result<Command, CallFault>
-        ensures done { ActsOrNoMemory (record { local = local; remote = remote }) (ask_receive_in (record { local = local; remote = remote }) room full self.old) result self.old self.new }
+        ensures done { AsksToReceive local remote room full result self.old self.new }
         ensures err { OnErr result (self.new ≡ self.old) }
     {
         let pair = Pair { local, remote };

@@ -3,8 +3,9 @@ ghost use Rattle.std.specs.Prelude.{◌≡◌, nat_le};
 ghost use Rattle.std.specs.FinMap.{get};
 ghost use Rattle.ncp_model.specs.End.{or_new};
 ghost use Rattle.ncp_model.specs.Act.{answer, is_data_link};
-ghost use Rattle.ncp_model.specs.Commands.{at_open, all_at, gvb_at, ret_at, interrupted, hear_cls};
-ghost use Rattle.ncp_model.specs.Ends.{any, count, is_by_peer, hears_link, sender_on, receiver_on, end_of, pair_of, hear, leads_to, map_after, map_after_at, hear_rts_in, hear_str_in, wrong_rts_in, wrong_str_in};
+ghost use Rattle.ncp_model.specs.Commands.{all_at, gvb_at, ret_at, interrupted, hear_cls};
+ghost use Rattle.ncp_model.specs.Ends.{any, count, is_by_peer, hears_link, hear, leads_to, map_after, map_after_at, hear_rts_in, hear_str_in, wrong_rts_in, wrong_str_in};
+ghost use Rattle.ncp_conn.specs.Hearing.{command_at_sender, after_command_at_sender, command_at_receiver, after_command_at_receiver};
 
 use crate::entry::{Entry, refused};
 use crate::table::Table;
@@ -126,8 +127,8 @@ impl<S: BitStore> Table<S> {
     // An ALL came.
     fn hear_all(&mut self, command: &Command, link: u8, messages: u16, bits: u32) -> Heard
         requires { command.now ≡ Command.All link messages bits }
-        ensures answer { result ≡ answer (at_open command.now (all_at link messages bits) (end_of (sender_on link self.old))) }
-        ensures table { self.new ≡ map_after_at self.old (pair_of (sender_on link self.old)) (at_open command.now (all_at link messages bits) (end_of (sender_on link self.old))) }
+        ensures answer { result ≡ answer (command_at_sender link command.now (all_at link messages bits) self.old) }
+        ensures table { self.new ≡ after_command_at_sender link command.now (all_at link messages bits) self.old }
     {
         let Some(key) = self.entries.senders.key(link) else {
             return refused(SOCKET_NOT_CONNECTED, command);
@@ -139,8 +140,8 @@ impl<S: BitStore> Table<S> {
 
     // A GVB came.
     fn hear_gvb(&mut self, command: &Command, link: u8, fm: u8, fb: u8) -> Heard
-        ensures answer { result ≡ answer (at_open command.now (gvb_at link fm fb) (end_of (sender_on link self.old))) }
-        ensures table { self.new ≡ map_after_at self.old (pair_of (sender_on link self.old)) (at_open command.now (gvb_at link fm fb) (end_of (sender_on link self.old))) }
+        ensures answer { result ≡ answer (command_at_sender link command.now (gvb_at link fm fb) self.old) }
+        ensures table { self.new ≡ after_command_at_sender link command.now (gvb_at link fm fb) self.old }
     {
         let Some(key) = self.entries.senders.key(link) else {
             return refused(SOCKET_NOT_CONNECTED, command);
@@ -153,8 +154,8 @@ impl<S: BitStore> Table<S> {
     // A RET came.
     fn hear_ret(&mut self, command: &Command, link: u8, messages: u16, bits: u32) -> Heard
         requires { command.now ≡ Command.Ret link messages bits }
-        ensures answer { result ≡ answer (at_open command.now (ret_at link messages bits) (end_of (receiver_on link self.old))) }
-        ensures table { self.new ≡ map_after_at self.old (pair_of (receiver_on link self.old)) (at_open command.now (ret_at link messages bits) (end_of (receiver_on link self.old))) }
+        ensures answer { result ≡ answer (command_at_receiver link command.now (ret_at link messages bits) self.old) }
+        ensures table { self.new ≡ after_command_at_receiver link command.now (ret_at link messages bits) self.old }
     {
         let Some(key) = self.entries.receivers.key(link) else {
             return refused(SOCKET_NOT_CONNECTED, command);
@@ -166,8 +167,8 @@ impl<S: BitStore> Table<S> {
 
     // An INR came.
     fn hear_inr(&mut self, command: &Command, link: u8) -> Heard
-        ensures answer { result ≡ answer (at_open command.now interrupted (end_of (sender_on link self.old))) }
-        ensures table { self.new ≡ map_after_at self.old (pair_of (sender_on link self.old)) (at_open command.now interrupted (end_of (sender_on link self.old))) }
+        ensures answer { result ≡ answer (command_at_sender link command.now interrupted self.old) }
+        ensures table { self.new ≡ after_command_at_sender link command.now interrupted self.old }
     {
         let Some(key) = self.entries.senders.key(link) else {
             return refused(SOCKET_NOT_CONNECTED, command);
@@ -179,8 +180,8 @@ impl<S: BitStore> Table<S> {
 
     // An INS came.
     fn hear_ins(&mut self, command: &Command, link: u8) -> Heard
-        ensures answer { result ≡ answer (at_open command.now interrupted (end_of (receiver_on link self.old))) }
-        ensures table { self.new ≡ map_after_at self.old (pair_of (receiver_on link self.old)) (at_open command.now interrupted (end_of (receiver_on link self.old))) }
+        ensures answer { result ≡ answer (command_at_receiver link command.now interrupted self.old) }
+        ensures table { self.new ≡ after_command_at_receiver link command.now interrupted self.old }
     {
         let Some(key) = self.entries.receivers.key(link) else {
             return refused(SOCKET_NOT_CONNECTED, command);

@@ -4,7 +4,8 @@ ghost use Rattle.std.specs.FinMap.{get, insert};
 ghost use Rattle.ncp_model.specs.End.{or_new};
 ghost use Rattle.ncp_model.specs.Ends.{any, hears_link, uses_link};
 ghost use Rattle.ncp_conn.specs.Stores.{stored_in, room_in};
-ghost use Rattle.ncp_conn.specs.Restoring.{end_told, has_room_for, has_place_for, may_stand};
+ghost use Rattle.ncp_conn.specs.Stored.{told_end};
+ghost use Rattle.ncp_conn.specs.Restoring.{has_room_for, has_place_for, may_stand};
 
 use crate::entry::Entry;
 use crate::record::Record;
@@ -90,8 +91,8 @@ impl<S: BitStore> Table<S> {
     /// [`LAST_LINK`](crate::LAST_LINK)), or where there is no place for it (the pair has a connection, its kind is
     /// full, or another connection has its link).
     pub fn restore(&mut self, pair: Pair, told: &Record, store: Option<S>) -> Result<(), Unfit>
-        ensures fits { IsOk result ↔ (may_stand pair (end_told told.now (stored_in S.held store) (room_in S.capacity store)) self.old ≡ true) }
-        ensures ok { OnOk result (self.new ≡ insert self.old pair (end_told told.now (stored_in S.held store) (room_in S.capacity store))) }
+        ensures fits { IsOk result ↔ (may_stand pair (told_end S.held S.capacity told.now store) self.old ≡ true) }
+        ensures ok { OnOk result (self.new ≡ insert self.old pair (told_end S.held S.capacity told.now store)) }
         ensures err { OnErr result (self.new ≡ self.old) }
     {
         let Some(entry) = Entry::restored(pair, told, store) else {

@@ -4,7 +4,8 @@ ghost use Rattle.std.specs.FinMap.{get};
 ghost use Rattle.ncp_model.specs.Act.{answer};
 ghost use Rattle.ncp_model.specs.Calls.{give, take_held, allocate, call_back, interrupt};
 ghost use Rattle.ncp_model.specs.Texts.{Rfnm};
-ghost use Rattle.ncp_model.specs.Ends.{sender_on, receiver_on, pair_of, text_in, cut_in, answered_in, map_after, map_after_at};
+ghost use Rattle.ncp_model.specs.Ends.{text_in, cut_in, answered_in, map_after};
+ghost use Rattle.ncp_conn.specs.Hearing.{after_sender, after_receiver};
 ghost use Rattle.ncp_conn.specs.Cutting.{may_cut, next_cut, sizes, text_of};
 
 use crate::table::Table;
@@ -120,7 +121,7 @@ impl<S: BitStore> Table<S> {
     /// message and its bits are no longer outstanding.
     pub fn text(&mut self, link: u8, size: u8, text: Part<'_>) -> Took
         ensures answer { result ≡ answer (text_in link size text.entry self.old) }
-        ensures table { self.new ≡ map_after_at self.old (pair_of (receiver_on link self.old)) (text_in link size text.entry self.old) }
+        ensures table { self.new ≡ after_receiver link (text_in link size text.entry self.old) self.old }
     {
         let Some(key) = self.entries.receivers.key(link) else {
             return Took::NotOpen;
@@ -139,7 +140,7 @@ impl<S: BitStore> Table<S> {
     /// or busy, or not one whole byte waits that the counters admit.
     pub fn cut(&mut self, link: u8) -> Option<(u8, Bits)>
         ensures answer { result ≡ answer (cut_in link self.old) }
-        ensures table { self.new ≡ map_after_at self.old (pair_of (sender_on link self.old)) (cut_in link self.old) }
+        ensures table { self.new ≡ after_sender link (cut_in link self.old) self.old }
     {
         let (size, _bytes) = self.next_size(link)?;
         let mut text = Bits::new();
@@ -163,7 +164,7 @@ impl<S: BitStore> Table<S> {
     pub fn cut_onto(&mut self, link: u8, bits: &mut Bits)
         requires { length bits.old + MAX_TEXT ≤ MAX_BITS }
         ensures bits { bits.new ≡ bits.old ++ text_of (answer (cut_in link self.old)) }
-        ensures table { self.new ≡ map_after_at self.old (pair_of (sender_on link self.old)) (cut_in link self.old) }
+        ensures table { self.new ≡ after_sender link (cut_in link self.old) self.old }
     {
         let Some(key) = self.entries.senders.key(link) else {
             return;
@@ -196,7 +197,7 @@ impl<S: BitStore> Table<S> {
     /// the table where the peer's CLS had come.
     pub fn answered(&mut self, link: u8) -> Option<Command>
         ensures answer { result ≡ answer (answered_in link Rfnm self.old) }
-        ensures table { self.new ≡ map_after_at self.old (pair_of (sender_on link self.old)) (answered_in link Rfnm self.old) }
+        ensures table { self.new ≡ after_sender link (answered_in link Rfnm self.old) self.old }
     {
         let Some(key) = self.entries.senders.key(link) else {
             return None;

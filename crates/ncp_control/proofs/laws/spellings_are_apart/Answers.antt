@@ -2,7 +2,10 @@ use Rattle.ncp_control.proofs.Reading.{one_spelling, spelling_takes, spelling_sh
 use Rattle.ncp_control.proofs.laws.spellings_are_apart.Goals as goal
 
 pub returns-clause-apart : goal.returns-clause-apart
-returns-clause-apart c = one_spelling
+returns-clause-apart c = λ one other more rest a b is. (one_spelling one other more rest a b is).0
+
+pub returns-clause-apart_behind : goal.returns-clause-apart_behind
+returns-clause-apart_behind c = λ one other more rest a b is. (one_spelling one other more rest a b is).1
 
 pub returns-clause-some : goal.returns-clause-some
 returns-clause-some c = spelling_takes

@@ -5,7 +5,13 @@ pub returns-clause-open : goal.returns-clause-open
 returns-clause-open c = (refl, refl)
 
 pub returns-clause-link : goal.returns-clause-link
-returns-clause-link c = (refl, refl)
+returns-clause-link c = refl
+
+pub returns-clause-link_there : goal.returns-clause-link_there
+returns-clause-link_there c = refl
 
 pub returns-clause-anew : goal.returns-clause-anew
-returns-clause-anew c = (refl, refl)
+returns-clause-anew c = refl
+
+pub returns-clause-anew_given : goal.returns-clause-anew_given
+returns-clause-anew_given c = refl

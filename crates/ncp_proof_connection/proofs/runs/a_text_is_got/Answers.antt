@@ -14,7 +14,13 @@ pub returns-clause-waiting : goal.returns-clause-waiting
 returns-clause-waiting c = refl
 
 pub returns-clause-outstanding : goal.returns-clause-outstanding
-returns-clause-outstanding c = (refl, refl)
+returns-clause-outstanding c = refl
+
+pub returns-clause-outstanding_bits : goal.returns-clause-outstanding_bits
+returns-clause-outstanding_bits c = refl
 
 pub returns-clause-counters : goal.returns-clause-counters
-returns-clause-counters c = (refl, refl)
+returns-clause-counters c = refl
+
+pub returns-clause-counters_bits : goal.returns-clause-counters_bits
+returns-clause-counters_bits c = refl

@@ -10,12 +10,36 @@ use Rattle.ncp_proof_headline.proofs.headline.a_text_is_held_back_past_a_reset.G
 
 pub returns-clause-owed : goal.returns-clause-owed
 unfolding lowest all_empty
-returns-clause-owed c = (ap (λ (h : ResetHost). h.phase) (this-host held_past_reset), ap (λ (h : ResetHost). h.phase) (that-host held_past_reset), this-link held_past_reset 2)
+returns-clause-owed c = ap (λ (h : ResetHost). h.phase) (this-host held_past_reset)
+
+pub returns-clause-owed_and_awaited : goal.returns-clause-owed_and_awaited
+unfolding lowest all_empty
+returns-clause-owed_and_awaited c = ap (λ (h : ResetHost). h.phase) (that-host held_past_reset)
+
+pub returns-clause-owed_behind_the_text : goal.returns-clause-owed_behind_the_text
+unfolding lowest all_empty
+returns-clause-owed_behind_the_text c = this-link held_past_reset 2
 
 pub returns-clause-dropped : goal.returns-clause-dropped
 unfolding lowest all_empty
-returns-clause-dropped c = (ap (λ (h : ResetHost). h.phase) (this-host up_after_held), ap (λ (h : ResetHost). h.phase) (that-host up_after_held), ap (λ (p : Past). p.got) (that-past up_after_held inward))
+returns-clause-dropped c = ap (λ (h : ResetHost). h.phase) (this-host up_after_held)
+
+pub returns-clause-dropped_there : goal.returns-clause-dropped_there
+unfolding lowest all_empty
+returns-clause-dropped_there c = ap (λ (h : ResetHost). h.phase) (that-host up_after_held)
+
+pub returns-clause-dropped_text : goal.returns-clause-dropped_text
+unfolding lowest all_empty
+returns-clause-dropped_text c = ap (λ (p : Past). p.got) (that-past up_after_held inward)
 
 pub returns-clause-anew : goal.returns-clause-anew
 unfolding lowest all_empty
-returns-clause-anew c = (this-end opened_after_held outward, that-end opened_after_held inward, ap (λ (p : Past). p.got) (that-past opened_after_held inward))
+returns-clause-anew c = this-end opened_after_held outward
+
+pub returns-clause-anew_there : goal.returns-clause-anew_there
+unfolding lowest all_empty
+returns-clause-anew_there c = that-end opened_after_held inward
+
+pub returns-clause-anew_got : goal.returns-clause-anew_got
+unfolding lowest all_empty
+returns-clause-anew_got c = ap (λ (p : Past). p.got) (that-past opened_after_held inward)

@@ -19,14 +19,36 @@ returns-clause-open c = (ap (λ (o : Option End). is_open (or_new o)) (this-end 
 
 pub returns-clause-messages : goal.returns-clause-messages
 unfolding lowest all_empty back
-returns-clause-messages c = let w = run calls_back_under_text in (
-  ap (λ (o : Option End). (or_new o).messages) (that-end calls_back_under_text inward),
-  ap (λ (o : Option End). (or_new o).messages) (this-end calls_back_under_text outward),
-  ap (λ (o : Option End). sum_on (or_new o).link granted_messages (commands_back w)) (this-end calls_back_under_text outward) ∙ ap (λ (h : ResetHost). sum_on 2 granted_messages (commands_underway h w.that.control)) (that-host calls_back_under_text) ∙ ap (λ (l : Link (List Command)). sum_on 2 granted_messages (commands_underway (low_run calls_back_under_text).that.host l)) (that-control calls_back_under_text),
-  ap (λ (o : Option End). how_many_texts (message_not_come (w.this.texts (or_new o).link).slot (w.this.texts (or_new o).link).subnet)) (this-end calls_back_under_text outward) ∙ ap (λ (l : Link TextOut). how_many_texts (message_not_come l.slot l.subnet)) (this-link calls_back_under_text 2),
-  ap (λ (o : Option End). sum_on (or_new o).link returned_messages (commands_there w)) (this-end calls_back_under_text outward) ∙ ap (λ (h : ResetHost). sum_on 2 returned_messages (commands_underway h w.this.control)) (this-host calls_back_under_text) ∙ ap (λ (l : Link (List Command)). sum_on 2 returned_messages (commands_underway (low_run calls_back_under_text).this.host l)) (this-control calls_back_under_text),
-)
+returns-clause-messages c = ap (λ (o : Option End). (or_new o).messages) (that-end calls_back_under_text inward)
+
+pub returns-clause-messages_at_sender : goal.returns-clause-messages_at_sender
+unfolding lowest all_empty back
+returns-clause-messages_at_sender c = ap (λ (o : Option End). (or_new o).messages) (this-end calls_back_under_text outward)
+
+pub returns-clause-messages_granted : goal.returns-clause-messages_granted
+unfolding lowest all_empty back
+returns-clause-messages_granted c = let w = run calls_back_under_text in ap (λ (o : Option End). sum_on (or_new o).link granted_messages (commands_back w)) (this-end calls_back_under_text outward) ∙ ap (λ (h : ResetHost). sum_on 2 granted_messages (commands_underway h w.that.control)) (that-host calls_back_under_text) ∙ ap (λ (l : Link (List Command)). sum_on 2 granted_messages (commands_underway (low_run calls_back_under_text).that.host l)) (that-control calls_back_under_text)
+
+pub returns-clause-messages_in_texts : goal.returns-clause-messages_in_texts
+unfolding lowest all_empty back
+returns-clause-messages_in_texts c = let w = run calls_back_under_text in ap (λ (o : Option End). how_many_texts (message_not_come (w.this.texts (or_new o).link).slot (w.this.texts (or_new o).link).subnet)) (this-end calls_back_under_text outward) ∙ ap (λ (l : Link TextOut). how_many_texts (message_not_come l.slot l.subnet)) (this-link calls_back_under_text 2)
+
+pub returns-clause-messages_returned : goal.returns-clause-messages_returned
+unfolding lowest all_empty back
+returns-clause-messages_returned c = let w = run calls_back_under_text in ap (λ (o : Option End). sum_on (or_new o).link returned_messages (commands_there w)) (this-end calls_back_under_text outward) ∙ ap (λ (h : ResetHost). sum_on 2 returned_messages (commands_underway h w.this.control)) (this-host calls_back_under_text) ∙ ap (λ (l : Link (List Command)). sum_on 2 returned_messages (commands_underway (low_run calls_back_under_text).this.host l)) (this-control calls_back_under_text)
 
 pub returns-clause-alone : goal.returns-clause-alone
 unfolding lowest all_empty
-returns-clause-alone c = (this-end sender_cleared outward, that-end sender_cleared inward, ap (λ (p : Past). p.got) (that-past sender_cleared inward), ap (λ (p : Past). p.given) (this-past sender_cleared outward))
+returns-clause-alone c = this-end sender_cleared outward
+
+pub returns-clause-alone_there : goal.returns-clause-alone_there
+unfolding lowest all_empty
+returns-clause-alone_there c = that-end sender_cleared inward
+
+pub returns-clause-alone_got : goal.returns-clause-alone_got
+unfolding lowest all_empty
+returns-clause-alone_got c = ap (λ (p : Past). p.got) (that-past sender_cleared inward)
+
+pub returns-clause-alone_given : goal.returns-clause-alone_given
+unfolding lowest all_empty
+returns-clause-alone_given c = ap (λ (p : Past). p.given) (this-past sender_cleared outward)

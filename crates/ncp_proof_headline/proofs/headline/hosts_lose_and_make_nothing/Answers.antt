@@ -18,7 +18,10 @@ either_way P f events pair s =
     (f t.own t.own' (run events) t.holds t.stand pair s, f u.own u.own' (nodes_swapped (run events)) u.holds u.stand pair s)
 
 pub returns-clause-safe : goal.returns-clause-safe
-returns-clause-safe c = λ es. (let t = ever es in (t.holds.joined.this.safe, t.holds.joined.that.safe))
+returns-clause-safe c = λ es. (ever es).holds.joined.this.safe
+
+pub returns-clause-safe_there : goal.returns-clause-safe_there
+returns-clause-safe_there c = λ es. (ever es).holds.joined.that.safe
 
 pub returns-clause-messages : goal.returns-clause-messages
 returns-clause-messages c = either_way MessagesAgreeInModel messages_agree

@@ -13,12 +13,32 @@ returns-clause-lost c = this-control request_lost
 
 pub returns-clause-again : goal.returns-clause-again
 unfolding lowest all_empty
-returns-clause-again c = (this-control request_again, that-end request_again inward, ap (λ (h : ResetHost). h.came) (that-host request_again))
+returns-clause-again c = this-control request_again
+
+pub returns-clause-again_heard : goal.returns-clause-again_heard
+unfolding lowest all_empty
+returns-clause-again_heard c = that-end request_again inward
+
+pub returns-clause-again_once : goal.returns-clause-again_once
+unfolding lowest all_empty
+returns-clause-again_once c = ap (λ (h : ResetHost). h.came) (that-host request_again)
 
 pub returns-clause-held : goal.returns-clause-held
 unfolding lowest all_empty
-returns-clause-held c = (this-control request_held, that-end request_held inward)
+returns-clause-held c = this-control request_held
+
+pub returns-clause-held_unheard : goal.returns-clause-held_unheard
+unfolding lowest all_empty
+returns-clause-held_unheard c = that-end request_held inward
 
 pub returns-clause-woken : goal.returns-clause-woken
 unfolding lowest all_empty
-returns-clause-woken c = (this-control request_woken, that-end request_woken inward, ap (λ (h : ResetHost). h.came) (that-host request_woken))
+returns-clause-woken c = this-control request_woken
+
+pub returns-clause-woken_heard : goal.returns-clause-woken_heard
+unfolding lowest all_empty
+returns-clause-woken_heard c = that-end request_woken inward
+
+pub returns-clause-woken_once : goal.returns-clause-woken_once
+unfolding lowest all_empty
+returns-clause-woken_once c = ap (λ (h : ResetHost). h.came) (that-host request_woken)

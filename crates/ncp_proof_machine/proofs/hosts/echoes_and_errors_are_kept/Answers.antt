@@ -30,7 +30,19 @@ returns-clause-awaited c = this-echoes echo_asks
 
 pub returns-clause-echoed : goal.returns-clause-echoed
 unfolding lowest all_empty
-returns-clause-echoed c = (this-echoes echo_comes_back, that-echoes echo_comes_back, ap (λ (h : ResetHost). h.came) (that-host echo_comes_back), ap (λ (h : ResetHost). h.came) (this-host echo_comes_back))
+returns-clause-echoed c = this-echoes echo_comes_back
+
+pub returns-clause-echoed_here_alone : goal.returns-clause-echoed_here_alone
+unfolding lowest all_empty
+returns-clause-echoed_here_alone c = that-echoes echo_comes_back
+
+pub returns-clause-echoed_came : goal.returns-clause-echoed_came
+unfolding lowest all_empty
+returns-clause-echoed_came c = ap (λ (h : ResetHost). h.came) (that-host echo_comes_back)
+
+pub returns-clause-echoed_came_back : goal.returns-clause-echoed_came_back
+unfolding lowest all_empty
+returns-clause-echoed_came_back c = ap (λ (h : ResetHost). h.came) (this-host echo_comes_back)
 
 pub returns-clause-error : goal.returns-clause-error
 unfolding lowest all_empty

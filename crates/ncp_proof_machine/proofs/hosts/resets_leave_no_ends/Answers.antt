@@ -10,16 +10,52 @@ use Rattle.ncp_proof_machine.proofs.hosts.resets_leave_no_ends.Goals as goal
 
 pub returns-clause-both : goal.returns-clause-both
 unfolding lowest all_empty
-returns-clause-both c = (ap (λ (h : ResetHost). h.phase) (this-host both_reset), ap (λ (h : ResetHost). h.phase) (that-host both_reset), this-end both_reset outward, that-end both_reset inward)
+returns-clause-both c = ap (λ (h : ResetHost). h.phase) (this-host both_reset)
+
+pub returns-clause-both_there : goal.returns-clause-both_there
+unfolding lowest all_empty
+returns-clause-both_there c = ap (λ (h : ResetHost). h.phase) (that-host both_reset)
+
+pub returns-clause-both_no_end : goal.returns-clause-both_no_end
+unfolding lowest all_empty
+returns-clause-both_no_end c = this-end both_reset outward
+
+pub returns-clause-both_no_end_there : goal.returns-clause-both_no_end_there
+unfolding lowest all_empty
+returns-clause-both_no_end_there c = that-end both_reset inward
 
 pub returns-clause-waits : goal.returns-clause-waits
 unfolding lowest all_empty
-returns-clause-waits c = (ap (λ (h : ResetHost). h.phase) (this-host reset_under_text), ap (λ (h : ResetHost). h.phase) (that-host reset_under_text), this-end reset_under_text outward, that-end reset_under_text inward, ap (λ (p : Past). p.got) (that-past reset_under_text inward))
+returns-clause-waits c = ap (λ (h : ResetHost). h.phase) (this-host reset_under_text)
+
+pub returns-clause-waits_there : goal.returns-clause-waits_there
+unfolding lowest all_empty
+returns-clause-waits_there c = ap (λ (h : ResetHost). h.phase) (that-host reset_under_text)
+
+pub returns-clause-waits_no_end : goal.returns-clause-waits_no_end
+unfolding lowest all_empty
+returns-clause-waits_no_end c = this-end reset_under_text outward
+
+pub returns-clause-waits_no_end_there : goal.returns-clause-waits_no_end_there
+unfolding lowest all_empty
+returns-clause-waits_no_end_there c = that-end reset_under_text inward
+
+pub returns-clause-waits_nothing_got : goal.returns-clause-waits_nothing_got
+unfolding lowest all_empty
+returns-clause-waits_nothing_got c = ap (λ (p : Past). p.got) (that-past reset_under_text inward)
 
 pub returns-clause-up : goal.returns-clause-up
 unfolding lowest all_empty
-returns-clause-up c = (ap (λ (h : ResetHost). h.phase) (this-host reset_over), ap (λ (h : ResetHost). h.phase) (that-host reset_over))
+returns-clause-up c = ap (λ (h : ResetHost). h.phase) (this-host reset_over)
+
+pub returns-clause-up_there : goal.returns-clause-up_there
+unfolding lowest all_empty
+returns-clause-up_there c = ap (λ (h : ResetHost). h.phase) (that-host reset_over)
 
 pub returns-clause-again : goal.returns-clause-again
 unfolding lowest all_empty
-returns-clause-again c = (that-end asks_again inward, right asks_again)
+returns-clause-again c = that-end asks_again inward
+
+pub returns-clause-again_safely : goal.returns-clause-again_safely
+unfolding lowest all_empty
+returns-clause-again_safely c = right asks_again

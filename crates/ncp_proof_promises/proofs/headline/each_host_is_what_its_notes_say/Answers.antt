@@ -22,8 +22,7 @@ returns-clause-commands c ns w side is =
     let n : ℕ = side_number (other side) w in
     let s : PeerState = had_for n h in
     let t = c.each_host_is_by_itself.ensures ns w side is in
-    let k = commands-noted h.me (numbers_of h.peers) all n s (is_run all h t) (is_kept all h n (Some s) t (kept-for ns w side is)) in
-    (k.0, k.1, k.2)
+    commands-noted h.me (numbers_of h.peers) all n s (is_run all h t) (is_kept all h n (Some s) t (kept-for ns w side is))
 
 pub returns-clause-up : goal.returns-clause-up
 returns-clause-up c ns w side is =

@@ -3,7 +3,8 @@ use Rattle.std.proofs.Common.{◌≡◌, true, false, List, [], ◌∷◌, refl}
 use Rattle.ncp_terms.specs.declared.command.Command.{Command}
 use Rattle.ncp_terms.specs.declared.command.Command.TheVariants.{Rst, Rrp}
 use Rattle.ncp_model.specs.Phase.{Reaction, is_other}
-use Rattle.ncp_proof_resets.specs.Resets.{ResetEvent, This, That, Resets, Makes, Sends, Hears, Is_answered, reset_run, is_up}
+use Rattle.ncp_proof_resets.specs.Resets.{ResetEvent, This, That, Resets, Makes, Sends, Hears, Is_answered}
+use Rattle.ncp_proof_resets.specs.AfterResets.{CanBe, CameAlone}
 use Rattle.ncp_proof_resets.proofs.resets.both_come_up.Goals as goal
 
 abbrev quietly : List Reaction
@@ -15,10 +16,10 @@ schedule c =
     ∷ record { side = This; step = Is_answered } ∷ record { side = That; step = Sends 0 } ∷ record { side = This; step = Hears quietly }
     ∷ record { side = This; step = Makes c } ∷ record { side = This; step = Sends 0 } ∷ record { side = That; step = Hears quietly } ∷ []
 
-comes : (c : Command) → is_other c ≡ true → (events : List ResetEvent) × (is_up (reset_run events).this ≡ true) × (is_up (reset_run events).that ≡ true) × ((reset_run events).that.came ≡ c ∷ [])
+comes : (c : Command) → is_other c ≡ true → CanBe (CameAlone c)
 comes Rst o = absurd (cc o)
 comes Rrp o = absurd (cc o)
-comes c o = (schedule c, refl, refl, refl)
+comes c o = (schedule c, (refl, refl, refl))
 
 pub returns : goal.returns
 returns c = comes

@@ -16,5 +16,14 @@ returns-clause-wait c me ns all n s from there = (flags-noted me ns all n s from
 pub returns-clause-up : goal.returns-clause-up
 returns-clause-up c = up-noted
 
-pub returns-clause-noted : goal.returns-clause-noted
-returns-clause-noted c = flags-said
+pub returns-clause-down_noted : goal.returns-clause-down_noted
+returns-clause-down_noted c n flags me ns before after from = (flags-said me ns before after n flags from).0
+
+pub returns-clause-want_noted : goal.returns-clause-want_noted
+returns-clause-want_noted c n flags me ns before after from = (flags-said me ns before after n flags from).1
+
+pub returns-clause-owe_noted : goal.returns-clause-owe_noted
+returns-clause-owe_noted c n flags me ns before after from = (flags-said me ns before after n flags from).2
+
+pub returns-clause-wait_noted : goal.returns-clause-wait_noted
+returns-clause-wait_noted c n flags me ns before after from = (flags-said me ns before after n flags from).3

@@ -23,4 +23,4 @@ pub returns-clause-byte_noted : goal.returns-clause-byte_noted
 returns-clause-byte_noted c = λ n byte me ns before after from. byte-noted me ns before after n byte from
 
 pub returns-clause-errors_noted : goal.returns-clause-errors_noted
-returns-clause-errors_noted c = errors-noted
+returns-clause-errors_noted c = λ n errors me ns before after from. errors-noted me ns before after n errors from

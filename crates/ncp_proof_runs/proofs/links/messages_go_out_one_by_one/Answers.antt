@@ -2,7 +2,7 @@ use Rattle.ncp_proof_runs.proofs.InRuns.{goes_out, ready_out, unanswered_out, ag
 use Rattle.ncp_proof_runs.proofs.links.messages_go_out_one_by_one.Goals as goal
 
 pub returns-clause-addressed : goal.returns-clause-addressed
-returns-clause-addressed c me ns before after message from = let g = goes_out me ns before after message from in (g.n, g.on, g.a_peer, g.a_link, g.leader)
+returns-clause-addressed c message me ns before after from = let g = goes_out me ns before after message from in (g.n, g.on, g.a_peer, g.a_link, g.leader)
 
 pub returns-clause-ready : goal.returns-clause-ready
 returns-clause-ready c = ready_out

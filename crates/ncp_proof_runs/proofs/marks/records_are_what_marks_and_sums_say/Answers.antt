@@ -23,7 +23,7 @@ pub returns-clause-bits : goal.returns-clause-bits
 returns-clause-bits c me ns all n s pair e from there is = (stored-there me ns all n s pair e from there is).bits
 
 pub returns-clause-noted : goal.returns-clause-noted
-returns-clause-noted c = record-noted
+returns-clause-noted c r me ns before after n pair from = record-noted me ns before after n pair r from
 
 pub returns-clause-none_noted : goal.returns-clause-none_noted
 returns-clause-none_noted c = none-noted

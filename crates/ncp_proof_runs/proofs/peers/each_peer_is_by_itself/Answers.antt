@@ -13,5 +13,5 @@ pub returns-clause-alone : goal.returns-clause-alone
 returns-clause-alone c = alone
 
 pub returns-clause-others : goal.returns-clause-others
-returns-clause-others c me you ns ms one other n from from_too e e_too same =
-    (each_peer me ns one n from e).state ∙ ap (λ (xs : List HostNote). Some (notes_for xs new_state)) same ∙ sym (each_peer you ms other n from_too e_too).state
+returns-clause-others c me ns one n from e you ms other m from_too e_too same =
+    (each_peer me ns one n from e).state ∙ ap (λ (xs : List HostNote). Some (notes_for xs new_state)) same ∙ sym (each_peer you ms other m from_too e_too).state

@@ -11,8 +11,7 @@ pub returns-clause-commands : goal.returns-clause-commands
 returns-clause-commands g c n s there =
     let all = c.args.alone.now.notes in
     let h = c.args.alone.now.host in
-    let w = commands-noted h.me (numbers_of h.peers) all n s (is_run all h c.transcript-notes.ensures.run) (is_kept all h n (Some s) c.transcript-notes.ensures.run there) in
-    (w.0, w.1, w.2)
+    commands-noted h.me (numbers_of h.peers) all n s (is_run all h c.transcript-notes.ensures.run) (is_kept all h n (Some s) c.transcript-notes.ensures.run there)
 
 pub returns-clause-again : goal.returns-clause-again
 returns-clause-again g c before after message n on e =
@@ -21,7 +20,7 @@ returns-clause-again g c before after message n on e =
     again_out h.me (numbers_of h.peers) before after message n on (is_run_at all before after (HostNote.Out message) h c.transcript-notes.ensures.run e)
 
 pub returns-clause-first : goal.returns-clause-first
-returns-clause-first g c before after message e =
+returns-clause-first g c message before after e =
     let all = c.args.alone.now.notes in
     let h = c.args.alone.now.host in
     out-first h.me (numbers_of h.peers) before after message (is_run_at all before after (HostNote.Out message) h c.transcript-notes.ensures.run e)
@@ -33,7 +32,7 @@ returns-clause-none_ready g c before after e =
     none-ready h.me (numbers_of h.peers) before after (is_run_at all before after HostNote.Nothing h c.transcript-notes.ensures.run e)
 
 pub returns-clause-nothing : goal.returns-clause-nothing
-returns-clause-nothing g c before after n on e =
+returns-clause-nothing g c before after e n on =
     let all = c.args.alone.now.notes in
     let h = c.args.alone.now.host in
     nothing_ready h.me (numbers_of h.peers) before after n on (is_run_at all before after HostNote.Nothing h c.transcript-notes.ensures.run e)

@@ -1,0 +1,30 @@
+-- What a command does at the end to which its link leads, and what an act there leaves of the ends
+-- (NIC 8246, links).
+use Rattle.std.specs.Prelude.{ℕ}
+use Rattle.ncp_terms.specs.declared.command.Command.{Command}
+use Rattle.ncp_model.specs.declared.outcomes.Heard.{Heard}
+use Rattle.ncp_model.specs.End.{End}
+use Rattle.ncp_model.specs.Act.{Act}
+use Rattle.ncp_model.specs.Commands.{at_open}
+use Rattle.ncp_model.specs.Ends.{Ends, sender_on, receiver_on, end_of, pair_of, map_after_at}
+
+-- the ends after an act at the sending end that heard a link, and at the receiving end that asked with it
+abbrev pub after_sender : {A : Type 0} → ℕ → Act A → Ends → Ends
+after_sender on act m = map_after_at m (pair_of (sender_on on m)) act
+
+abbrev pub after_receiver : {A : Type 0} → ℕ → Act A → Ends → Ends
+after_receiver on act m = map_after_at m (pair_of (receiver_on on m)) act
+
+-- what a command does there, where the end is open
+abbrev pub command_at_sender : ℕ → Command → (End → Act Heard) → Ends → Act Heard
+command_at_sender on command act m = at_open command act (end_of (sender_on on m))
+
+abbrev pub command_at_receiver : ℕ → Command → (End → Act Heard) → Ends → Act Heard
+command_at_receiver on command act m = at_open command act (end_of (receiver_on on m))
+
+-- the ends then
+abbrev pub after_command_at_sender : ℕ → Command → (End → Act Heard) → Ends → Ends
+after_command_at_sender on command act m = after_sender on (command_at_sender on command act m) m
+
+abbrev pub after_command_at_receiver : ℕ → Command → (End → Act Heard) → Ends → Ends
+after_command_at_receiver on command act m = after_receiver on (command_at_receiver on command act m) m

@@ -1,0 +1,68 @@
+-- More states for examples.
+use Rattle.std.specs.Prelude.{ℕ, Bool, List, [], ◌∷◌}
+use Rattle.std.specs.List.{list_any}
+use Rattle.ncp_terms.specs.declared.command.Command.TheVariants.{Eco, Erp, Inr}
+use Rattle.ncp_model.specs.Peers.{Peer}
+use Rattle.ncp_proof_resets.specs.Resets.{Party, This, That}
+use Rattle.ncp_proof_watch.specs.Histories.{Past, no_past}
+use Rattle.ncp_proof_machine.specs.Watching.{Watch}
+use Rattle.ncp_proof_machine.specs.Hosts.{Hears, node_at, run, peer_of}
+use Rattle.ncp_proof_machine.specs.HostRuns.{meets, meets_there}
+use Rattle.ncp_host.specs.PeerState.{PeerState}
+use Rattle.ncp_transcript_two.specs.Subnet.{TransitByLink, Accepted, link_in, set_at}
+use Rattle.ncp_transcript_two.specs.World.{World}
+use Rattle.ncp_transcript_two.specs.Honest.{IsBeginningWithin, sent, came}
+use Rattle.ncp_transcript_two.specs.Underway.{underway}
+use Rattle.ncp_transcript_two.specs.declared.note.Note.{Note}
+use Rattle.ncp_transcript_two.specs.Seen.{told}
+use Rattle.ncp_proof_promises.specs.Judged.{is_error}
+use Rattle.ncp_proof_promises.specs.Resetting.{AwaitsReply, StillWaits}
+use Rattle.ncp_proof_promises.specs.Since.{watch_after_message}
+use Rattle.ncp_proof_promises.specs.Examples.{seen_before}
+
+-- two requests meet at this host, a sender's, and at that one, a receiver's: what it keeps before that, and behind it
+abbrev pub before_meeting : Peer
+before_meeting = peer_of (run meets).this
+
+abbrev pub after_meeting : Peer
+after_meeting = peer_of (node_at This Hears (run meets)).this
+
+abbrev pub before_meeting_there : Peer
+before_meeting_there = peer_of (run meets_there).that
+
+abbrev pub after_meeting_there : Peer
+after_meeting_there = peer_of (node_at That Hears (run meets_there)).that
+
+-- an ECO is made after what was seen; or one comes, and its ERP is made
+abbrev pub eco_made : Watch
+eco_made = record seen_before { made = Eco 64 ∷ Eco 65 ∷ [] }
+
+abbrev pub eco_came : Watch
+eco_came = record seen_before { made = Eco 64 ∷ Erp 65 ∷ []; came = Inr 2 ∷ Eco 65 ∷ [] }
+
+-- so many messages were granted, returned and used
+abbrev pub of_messages : ℕ → ℕ → ℕ → Past
+of_messages granted returned used = record no_past { granted_messages = granted; returned_messages = returned; used_messages = used }
+
+-- the subnet has taken a message, as it goes to that host
+abbrev pub taken_from_here : List Bool → World → TransitByLink
+taken_from_here message v = set_at (link_in message) (Accepted message) v.going
+
+-- what came from the host of this number, on a link, is a beginning of what it sent there
+abbrev pub IsInOrder : Party → ℕ → ℕ → List Note → Type 0
+IsInOrder side number on notes = IsBeginningWithin 1 (came side on (told notes)) (sent number side on (told notes))
+
+-- an ERR is underway to that host; and to this one
+abbrev pub an_err_goes : World → Bool
+an_err_goes v = list_any is_error (underway v.this v.going)
+
+abbrev pub an_err_comes : World → Bool
+an_err_comes v = list_any is_error (underway v.that v.coming)
+
+-- where a host waits for an RRP, it goes on to wait
+abbrev pub GoesOnWaiting : PeerState → Type 0
+GoesOnWaiting s = AwaitsReply s → StillWaits s
+
+-- what is watched behind a control message that comes
+abbrev pub heard_in : List Bool → PeerState → Watch → Watch
+heard_in m s w = watch_after_message 0 m s w

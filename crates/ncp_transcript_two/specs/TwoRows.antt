@@ -1,0 +1,35 @@
+-- More notes of the examples.
+use Rattle.std.specs.Prelude.{Bool, List, [], ◌∷◌}
+use Rattle.ncp_terms.specs.declared.answer.Answer.{Answer}
+use Rattle.ncp_model.specs.declared.outcomes.Took.TheVariants as took
+use Rattle.ncp_proof_resets.specs.Resets.{This, That}
+use Rattle.ncp_host.specs.declared.received.Received.{Received}
+use Rattle.ncp_host.specs.declared.received.Received.TheVariants as received
+use Rattle.ncp_transcript_two.specs.Subnet.{from_host}
+use Rattle.ncp_transcript_two.specs.World.{In, Answered, WorldNote}
+use Rattle.ncp_transcript_two.specs.Honest.{MessageDeed, Sent, Comes, Taken, Refused}
+use Rattle.ncp_transcript_two.specs.ExampleNotes.{noted_at}
+
+-- a message is lost, goes out again and is taken; one is taken, and another goes out
+abbrev pub lost_and_taken : List Bool → List MessageDeed
+lost_and_taken m = Sent m ∷ Refused ∷ Sent m ∷ Comes (from_host 1 m) ∷ Taken ∷ []
+
+abbrev pub one_taken : List Bool → List Bool → List MessageDeed
+one_taken m n = Sent m ∷ Taken ∷ Sent n ∷ []
+
+-- on link 2 a message comes to this host
+abbrev pub comes_on_2 : List Bool → Received → List WorldNote
+comes_on_2 m r = noted_at This (In 2 m r) ∷ []
+
+-- a control message is read here, and a late text comes; bits that are no message come there, and an answer
+abbrev pub read_here : List Bool → WorldNote
+read_here m = noted_at This (In 0 m (received.Control 1))
+
+abbrev pub late_here : List Bool → WorldNote
+late_here m = noted_at This (In 2 m (received.Text took.Late))
+
+abbrev pub short_there : List Bool → WorldNote
+short_there n = noted_at That (In 2 n received.Short)
+
+abbrev pub answered_there : Answer → WorldNote
+answered_there how = noted_at That (Answered 2 how received.Answered)
