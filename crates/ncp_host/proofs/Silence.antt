@@ -1,5 +1,5 @@
 -- On which links no message is ready: what tells it, and what keeps it.
-use Rattle.std.proofs.Common.{◌≡◌, inl, inr, ℕ, ◌==◌, ◌≤◌, ◌<◌, Bool, true, false, if◌then◌else◌, List, [], ◌∷◌, Option, None, Some, IfSome, is_some, refl, sym, ap, ◌∙◌, arith}
+use Rattle.std.proofs.Common.{◌≡◌, inl, inr, ℕ, zero, suc, ◌==◌, ◌≤◌, ◌<◌, Bool, true, false, if◌then◌else◌, List, [], ◌∷◌, Option, None, Some, IfSome, is_some, refl, sym, ap, subst, ◌∙◌, arith}
 use Rattle.std.proofs.lemmas.Bool.Decides.{eqb_tells}
 use Rattle.std.specs.List.{slice_get}
 use Rattle.ncp_terms.specs.declared.command.Command.{Command}
@@ -77,6 +77,26 @@ silent_to_next s links from again cut l has is last told = go again cut is last 
           last = omega arith;
           between = λ on a b. one on a (omega arith) (is.lower on a (omega arith)) (cuts.2 on a (omega arith));
         }
+
+none_there : (o : Option ℕ) → is_some o ≡ false → o ≡ None
+none_there None h = refl
+none_there (Some on) h = absurd (cc)
+
+-- nothing is ready where no message is to go out again, no text may be cut and no command waits
+pub silent_where_idle : (s : PeerState) (links : ℕ) (again cut : Option ℕ) → HasReady links s.slots → IsLowestIfAny links 0 again → is_some again ≡ false → cut ≡ next_cut 0 s.peer.ends → is_some cut ≡ false → is_some (slice_get s.peer.phase.waiting 0) ≡ false → SilentFrom 0 None s
+silent_where_idle s links again cut has is no_again told no_text no_command = λ on low high. at on high
+  where
+    ready : (on : ℕ) → on ≤ 71 → is_ready (slot_at s.slots on) ≡ false
+    ready on high =
+        let out : IsLowestIfAny links 0 None = subst (λ (o : Option ℕ). IsLowestIfAny links 0 o) (none_there again no_again) is in
+        not_again links s.slots on has high (out on (omega arith))
+
+    uncut : PassedBy (may_cut s.peer.ends) 71 0 None
+    uncut = subst (PassedBy (may_cut s.peer.ends) 71 0) (none_there cut no_text) (passed_by_first (may_cut s.peer.ends) 71 0 cut told)
+
+    at : (on : ℕ) → on ≤ 71 → IsSilent on s
+    at zero high number = by_slot (slot_at s.slots control_link) number control_link s (ready control_link high) (ap (λ cs. control_message number cs) (no_commands s.peer.phase.waiting no_command))
+    at (suc on) high number = silent s (suc on) (omega arith) (ready (suc on) high) (uncut (suc on) (omega arith) high) number
 
 -- Whether the data links are quiet.
 

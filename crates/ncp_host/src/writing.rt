@@ -1,6 +1,7 @@
 //! Bytes that are written one behind the other.
 ghost use Rattle.std.specs.Prelude.{◌≡◌, ◌≤◌, ◌<◌, ◌^◌, ◌++◌, ◌∷◌, [], map, length, OnOk};
 ghost use Rattle.ncp_numbers.specs.Bytes.{bytes_of};
+ghost use Rattle.ncp_host.specs.SavedParts.{request_saved};
 ghost use Rattle.ncp_host.specs.Saved.{two_bytes, four_bytes, mark, bits_saved, command_saved, error_saved, echoed_saved, pair_saved, counts_saved, ignored_saved};
 
 use crate::counts::{Counts, Ignored};
@@ -117,7 +118,7 @@ fn put_request(
     second: u32,
     last: u8,
 ) -> Result<(), AllocError>
-    ensures { OnOk result (out.new.items ≡ out.old.items ++ opcode ∷ four_bytes first ++ four_bytes second ++ last ∷ []) }
+    ensures { OnOk result (out.new.items ≡ out.old.items ++ request_saved opcode first second last) }
 {
     put_sockets(out, opcode, first, second)?;
     put_byte(out, last)

@@ -72,19 +72,12 @@ impl<S: BitStore> Model for Crowd<S> {
     ghost view = { λ m. record { hosts = boxed_slice_items m.members; subnet = m.subnet } };
 }
 
-// Whether a number is one of some.
-fn is_one_of(number: u8, numbers: &[u8]) -> bool
-    ensures { result ≡ is_one_of number numbers.now }
-{
-    numbers.iter().any(|other| *other == number)
-}
-
 // Whether no two numbers are the same.
 fn are_distinct(numbers: &[u8]) -> bool
     ensures { result ≡ are_distinct numbers.now }
 {
     for place in 0..numbers.len() {
-        if is_one_of(numbers[place], &numbers[place + 1..]) {
+        if numbers[place + 1..].contains(&numbers[place]) {
             return false;
         }
     }

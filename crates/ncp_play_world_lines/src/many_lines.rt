@@ -1,7 +1,6 @@
 //! What a line of a script of two to eight hosts asks for.
 ghost use Rattle.std.specs.Prelude.{◌≡◌, ◌∷◌, option_map, IfOk, OnErr};
 ghost use Rattle.ncp_play_script.specs.Calls.{NamesGive, NamesGiveBehind};
-ghost use Rattle.ncp_host.specs.Host.{is_one_of};
 ghost use Rattle.ncp_proof_runs.specs.Peers.{peer_of_call};
 ghost use Rattle.ncp_play_script.specs.HostLines.{alone};
 ghost use Rattle.ncp_transcript_many.specs.ManyHappening.{wanted_of};
@@ -17,19 +16,12 @@ use std::alloc::{AllocError, Global};
 // The word of a line that asks for the next message.
 const OUT: &[u8] = b"out";
 
-// Whether a number is one of these.
-fn is_one_of(number: u8, hosts: &[u8]) -> bool
-    ensures { result ≡ is_one_of number hosts.now }
-{
-    hosts.iter().any(|host| *host == number)
-}
-
 // The host that the first word is.
 fn host_first(hosts: &[u8], words: &mut Words<'_>) -> Option<u8>
     ensures { option_map (λ host. (host, words.new)) result ≡ host_first hosts.now words.old }
 {
     let number = words.next_u8()?;
-    if is_one_of(number, hosts) {
+    if hosts.contains(&number) {
         Some(number)
     } else {
         None
@@ -93,7 +85,7 @@ fn is_known(hosts: &[u8], peer: Option<u8>) -> bool
     ensures { result ≡ is_known hosts.now peer }
 {
     match peer {
-        Some(peer) => is_one_of(peer, hosts),
+        Some(peer) => hosts.contains(&peer),
         None => true,
     }
 }

@@ -1,6 +1,5 @@
 //! Bits that come to a host, and their note.
 ghost use Rattle.std.specs.Prelude.{◌≡◌, None, IfOk, IfSome, IfNone, OnErr};
-ghost use Rattle.ncp_host.specs.Hearing.{answer_of};
 ghost use Rattle.ncp_transcript.specs.After.{after_note};
 ghost use Rattle.ncp_transcript.specs.Noting.{is_answer, answer_in, note_of_bits};
 
@@ -8,9 +7,8 @@ use crate::message::pack_in_room;
 use crate::note::HostNote;
 use crate::room::Room;
 use ncp_bits::{BitStore, Bits};
-use ncp_host::Host;
+use ncp_host::{Host, answer_of};
 use ncp_leader::{DESTINATION_DEAD, INCOMPLETE, Leader, RFNM, read_leader};
-use ncp_terms::Answer;
 use std::alloc::{AllocError, Global};
 
 // Whether a type is one of an answer.
@@ -18,17 +16,6 @@ fn is_answer(kind: u8) -> bool
     ensures { result ≡ is_answer kind }
 {
     kind == RFNM || kind == DESTINATION_DEAD || kind == INCOMPLETE
-}
-
-// The answer of such a type.
-fn answer_of(kind: u8) -> Answer
-    ensures { result ≡ answer_of kind }
-{
-    match kind {
-        RFNM => Answer::Rfnm,
-        DESTINATION_DEAD => Answer::Dead,
-        _ => Answer::Incomplete,
-    }
 }
 
 // The leader of bits that are the answer of a peer.

@@ -1,14 +1,13 @@
 //! What comes of a peer: the commands of a control text in order and then its fault, and texts.
 ghost use Rattle.std.specs.Prelude.{◌≡◌, ◌∷◌, ◌%◌, length, Bool, true};
 ghost use Rattle.ncp_numbers.specs.Bytes.{bytes_of};
-ghost use Rattle.ncp_control.specs.Reading.{commands_in, fault_in};
-ghost use Rattle.ncp_control.specs.Texts.{items_of};
+ghost use Rattle.ncp_control.specs.Reading.{commands_in};
 ghost use Rattle.ncp_model.specs.Phase.{up, is_other};
 ghost use Rattle.ncp_model.specs.Act.{answer, text_error};
-ghost use Rattle.ncp_model.specs.Ends.{hear, leads_to, map_after_at, text_in};
+ghost use Rattle.ncp_model.specs.Ends.{text_in};
 ghost use Rattle.ncp_model.specs.Peers.{hears, hears_other, hears_fault, takes_text};
-ghost use Rattle.ncp_host.specs.Counting.{one_more_if, is_late, counts_while_up, counts_after, counts_after_fault};
-ghost use Rattle.ncp_host.specs.Steps.{by_hearing, heard_items};
+ghost use Rattle.ncp_host.specs.Counting.{counts_while_up, counts_after, counts_after_fault};
+ghost use Rattle.ncp_host.specs.Acted.{by_connection, counted_late, heard_text};
 
 use crate::association::Association;
 use crate::counts::{Counts, one_more};
@@ -43,8 +42,8 @@ impl<S: BitStore> Association<S> {
     // A command that knows no echo came, while up. RST and RRP do nothing here.
     fn hear_connection(&mut self, command: &Command, counts: &mut Counts)
         requires up { up self.old.phase ≡ true }
-        ensures peer { self.new ≡ by_hearing (answer (hear command.now self.old.ends)) (record self.old { ends = map_after_at self.old.ends (leads_to command.now self.old.ends) (hear command.now self.old.ends) }) }
-        ensures counts { counts.new ≡ record counts.old { late = one_more_if (is_late (answer (hear command.now self.old.ends))) counts.old.late } }
+        ensures peer { self.new ≡ by_connection command.now self.old }
+        ensures counts { counts.new ≡ counted_late command.now self.old counts.old }
     {
         match self.table.hear(command) {
             Heard::Nothing => (),
@@ -121,8 +120,8 @@ impl<S: BitStore> Association<S> {
     pub(crate) fn hear_all(&mut self, quiet: bool, text: Part<'_>, counts: &mut Counts) -> u32
         requires { length text % 8 ≡ 0 }
         ensures count { result ≡ length (commands_in (bytes_of text.entry)) }
-        ensures peer { self.new ≡ (heard_items quiet (items_of (commands_in (bytes_of text.entry)) (fault_in (bytes_of text.entry))) (self.old, counts.old)).0 }
-        ensures counts { counts.new ≡ (heard_items quiet (items_of (commands_in (bytes_of text.entry)) (fault_in (bytes_of text.entry))) (self.old, counts.old)).1 }
+        ensures peer { self.new ≡ (heard_text quiet (bytes_of text.entry) (self.old, counts.old)).0 }
+        ensures counts { counts.new ≡ (heard_text quiet (bytes_of text.entry) (self.old, counts.old)).1 }
     {
         // No more commands than bytes.
         let _bits = text.len();

@@ -1,11 +1,11 @@
 //! What is saved of the phase, the connections and the echoes.
-ghost use Rattle.std.specs.Prelude.{◌≡◌, ◌++◌, ◌∷◌, [], List, Bool, Some, length, map, OnOk};
+ghost use Rattle.std.specs.Prelude.{◌≡◌, ◌++◌, ◌∷◌, Some, OnOk};
 ghost use Rattle.std.specs.FinMap.{get};
 ghost use Rattle.ncp_numbers.specs.Bytes.{bytes_of};
 ghost use Rattle.ncp_model.specs.End.{or_new};
 ghost use Rattle.ncp_conn.specs.Records.{record_in};
-ghost use Rattle.ncp_conn.specs.Restoring.{end_told};
-ghost use Rattle.ncp_host.specs.Saved.{mark, two_bytes, end_saved, connection_saved, ends_saved, phase_saved, echoes_saved};
+ghost use Rattle.ncp_host.specs.Saved.{two_bytes, end_saved, connection_saved, ends_saved};
+ghost use Rattle.ncp_host.specs.SavedParts.{standing_saved, IsPutButForBits, association_saved};
 
 use crate::association::Association;
 use crate::writing::{
@@ -18,7 +18,7 @@ use std::alloc::{AllocError, Global};
 
 // The marks of an end.
 fn put_standing(out: &mut Vec<u8>, told: &Record) -> Result<(), AllocError>
-    ensures { OnOk result (out.new.items ≡ out.old.items ++ map mark (told.now.asked ∷ told.now.heard ∷ told.now.opened ∷ told.now.leaving ∷ told.now.left ∷ told.now.cls ∷ told.now.busy ∷ told.now.recall ∷ [])) }
+    ensures { OnOk result (out.new.items ≡ out.old.items ++ standing_saved told.now) }
 {
     put_marks(out, [told.asked, told.heard, told.opened, told.leaving])?;
     put_marks(out, [told.left, told.cls, told.busy, told.recall])
@@ -35,7 +35,7 @@ fn put_way(out: &mut Vec<u8>, link: u8, size: u8, messages: u16) -> Result<(), A
 // What is known of an end, but for the bits that it stores: these are to come behind.
 #[tactic(auto, unfolding(crate::specs::Saved::end_saved))]
 fn put_record(out: &mut Vec<u8>, told: &Record, room: u32) -> Result<(), AllocError>
-    ensures { OnOk result ((stored : List Bool) → length stored ≡ told.now.stored → out.new.items ++ bytes_of stored ≡ out.old.items ++ end_saved (end_told told.now stored room)) }
+    ensures { OnOk result (IsPutButForBits told.now room out.old.items out.new.items) }
 {
     put_standing(out, told)?;
     put_way(out, told.link, told.size, told.messages)?;
@@ -111,7 +111,7 @@ fn put_connections<S: BitStore>(
 impl<S: BitStore> Association<S> {
     /// The phase and the commands that wait, the connections, the echo and the errors.
     pub(crate) fn save(&self, alloc: Global, out: &mut Vec<u8>) -> Result<(), AllocError>
-        ensures { OnOk result (out.new.items ≡ out.old.items ++ phase_saved self.now.phase ++ ends_saved self.now.ends ++ echoes_saved self.now.echoes) }
+        ensures { OnOk result (out.new.items ≡ out.old.items ++ association_saved self.now) }
     {
         self.phase.save(out)?;
         put_connections(out, alloc, &self.table)?;

@@ -3,7 +3,8 @@
 ghost use Rattle.std.specs.Prelude.{◌≡◌, OnErr};
 ghost use Rattle.ncp_model.specs.Peers.{Close, Give, Take, Allocate, Call_back, Interrupt, Ask_to_send, Ask_to_receive};
 ghost use Rattle.ncp_host.specs.Restarting.{restart_reply, after_restart};
-ghost use Rattle.ncp_host.specs.Calls.{DoneOrNoMemory, sockets, call_reply, after_call_to, take_reply, reset_reply, after_reset, echo_reply, after_echo, wake_reply, after_wake};
+ghost use Rattle.ncp_host.specs.Asked.{AsksOrNoMemory};
+ghost use Rattle.ncp_host.specs.Calls.{sockets, call_reply, after_call_to, take_reply, reset_reply, after_reset, echo_reply, after_echo, wake_reply, after_wake};
 
 use crate::host::{Host, find};
 use ncp_bits::{BitStore, Bits};
@@ -38,7 +39,7 @@ impl<S: BitStore> Host<S> {
         size: u8,
         room: u32,
     ) -> Result<(), CallFault>
-        ensures done { DoneOrNoMemory (call_reply peer (sockets local remote) (Ask_to_send size room) self.old) (after_call_to peer (sockets local remote) (Ask_to_send size room) self.old) result self.old self.new }
+        ensures done { AsksOrNoMemory peer (sockets local remote) (Ask_to_send size room) result self.old self.new }
         ensures err { OnErr result (self.new ≡ self.old) }
     {
         let place = find(self.numbers.as_slice(), &self.peers, peer)?;
@@ -58,7 +59,7 @@ impl<S: BitStore> Host<S> {
         remote: u32,
         room: u32,
     ) -> Result<(), CallFault>
-        ensures done { DoneOrNoMemory (call_reply peer (sockets local remote) (Ask_to_receive room) self.old) (after_call_to peer (sockets local remote) (Ask_to_receive room) self.old) result self.old self.new }
+        ensures done { AsksOrNoMemory peer (sockets local remote) (Ask_to_receive room) result self.old self.new }
         ensures err { OnErr result (self.new ≡ self.old) }
     {
         let place = find(self.numbers.as_slice(), &self.peers, peer)?;

@@ -8,7 +8,8 @@ ghost use Rattle.ncp_model.specs.Phase.{reset_answer};
 ghost use Rattle.ncp_model.specs.Peers.{comes_of, reply, reply_of_take, reply_of_echo, Close, Give, Take, Allocate, Call_back, Interrupt, Ask_to_send, Ask_to_receive};
 ghost use Rattle.ncp_host.specs.PeerState.{state_calls, state_calls_echo, state_calls_reset, state_calls_wake};
 ghost use Rattle.ncp_conn.specs.Listing.{connection_in, room_of, pair_led_to};
-ghost use Rattle.ncp_host.specs.Calls.{DoneOrNoMemory, flags_of, record_answer};
+ghost use Rattle.ncp_host.specs.Asked.{StateAsksOrNoMemory};
+ghost use Rattle.ncp_host.specs.Calls.{flags_of, record_answer};
 ghost use Rattle.ncp_host.specs.Listing.{room_answer};
 
 use crate::counts::Counts;
@@ -33,7 +34,7 @@ impl<S: BitStore> Peer<S> {
 
     /// Asks to send.
     pub(crate) fn ask_send(&mut self, pair: Pair, size: u8, room: u32) -> Result<(), CallFault>
-        ensures done { DoneOrNoMemory (reply (comes_of pair (Ask_to_send size room) self.old.peer)) (state_calls pair (Ask_to_send size room) self.old) result self.old self.new }
+        ensures done { StateAsksOrNoMemory pair (Ask_to_send size room) result self.old self.new }
         ensures err { OnErr result (self.new ≡ self.old) }
     {
         self.association.ask_send(pair, size, room)
@@ -41,7 +42,7 @@ impl<S: BitStore> Peer<S> {
 
     /// Asks to receive.
     pub(crate) fn ask_receive(&mut self, pair: Pair, room: u32) -> Result<(), CallFault>
-        ensures done { DoneOrNoMemory (reply (comes_of pair (Ask_to_receive room) self.old.peer)) (state_calls pair (Ask_to_receive room) self.old) result self.old self.new }
+        ensures done { StateAsksOrNoMemory pair (Ask_to_receive room) result self.old self.new }
         ensures err { OnErr result (self.new ≡ self.old) }
     {
         self.association.ask_receive(pair, room)

@@ -1,5 +1,5 @@
 //! What goes out to a peer.
-ghost use Rattle.std.specs.Prelude.{◌≡◌, ◌≢◌, ◌<◌, false, is_some, IfNone};
+ghost use Rattle.std.specs.Prelude.{◌≡◌, ◌≢◌, ◌<◌, true, false, None, is_some, IfNone};
 ghost use Rattle.ncp_host.specs.PeerState.{control_link};
 ghost use Rattle.ncp_slot.specs.declared.slot.Slot.{Slot};
 ghost use Rattle.ncp_slot.specs.Slots.{HasSlot, slot_at};
@@ -37,11 +37,11 @@ impl<S: BitStore> Peer<S> {
         ensures sent { result ≡ is_some (output_on number link self.old) }
         ensures state { self.new ≡ after_output_on link (output_on number link self.old) self.old }
     {
-        let Some((size, count)) = self.association.next_size(link) else {
+        let Some(counted) = self.association.next_size(link) else {
             return false;
         };
         let message = self.slots.begin(link);
-        write_text(number, link, size, count, &mut self.association, message);
+        write_text(number, link, counted, &mut self.association, message);
         self.kept.insert(link);
         true
     }
@@ -84,6 +84,23 @@ impl<S: BitStore> Peer<S> {
         lower_of(again, cut)
     }
 
+    // Whether no message is to go out again, no text may go out, and no command waits: then nothing is ready.
+    // No slot is looked at.
+    fn is_idle(&self) -> bool
+        ensures { result ≡ true → SilentFrom control_link None self.now }
+    {
+        if self.again.first_from(CONTROL_LINK).is_some() {
+            return false;
+        }
+        if self.association.next_cut(CONTROL_LINK).is_some() {
+            return false;
+        }
+        if self.association.waiting(0).is_some() {
+            return false;
+        }
+        true
+    }
+
     /// The first message that is ready, on link 0 and then 2 to 71, if any, goes out, and is kept on
     /// this link.
     pub(crate) fn send_next(&mut self, number: u8) -> Option<u8>
@@ -91,6 +108,9 @@ impl<S: BitStore> Peer<S> {
         ensures state { self.new ≡ after_next (next_of number self.old) self.old }
         ensures none { IfNone result (self.new ≡ self.old) }
     {
+        if self.is_idle() {
+            return None;
+        }
         if self.may_send_control() {
             if self.send_on(number, CONTROL_LINK) {
                 return Some(CONTROL_LINK);

@@ -141,15 +141,14 @@ impl<S: BitStore> Peer<S> {
     }
 }
 
-// The answer of a type that is one.
-fn answer_of(kind: u8) -> Answer
+/// What the subnet answers by a leader of this type, where it is an answer: RFNM (5), Destination Dead (7), or else
+/// Incomplete Transmission (9) (BBN 1822, section 3).
+pub fn answer_of(kind: u8) -> Answer
     ensures { result ≡ answer_of kind }
 {
-    if kind == RFNM {
-        Answer::Rfnm
-    } else if kind == DESTINATION_DEAD {
-        Answer::Dead
-    } else {
-        Answer::Incomplete
+    match kind {
+        RFNM => Answer::Rfnm,
+        DESTINATION_DEAD => Answer::Dead,
+        _ => Answer::Incomplete,
     }
 }

@@ -1,9 +1,9 @@
 //! What is saved of what a host has for a peer.
-ghost use Rattle.std.specs.Prelude.{◌≡◌, ◌++◌, ◌∷◌, List, Bool, Some, OnOk};
-ghost use Rattle.ncp_slot.specs.Slot.{kept_message};
+ghost use Rattle.std.specs.Prelude.{◌≡◌, ◌++◌, OnOk};
 ghost use Rattle.ncp_slot.specs.Links.{HasItsLinks};
 ghost use Rattle.ncp_slot.specs.Slots.{slot_at};
-ghost use Rattle.ncp_host.specs.Saved.{bits_saved, slot_saved, slots_saved, state_saved};
+ghost use Rattle.ncp_host.specs.Saved.{slot_saved, slots_saved, state_saved};
+ghost use Rattle.ncp_host.specs.SavedParts.{IsKindOf};
 
 use crate::peer::Peer;
 use crate::writing::{put_bits, put_byte, put_counts};
@@ -14,7 +14,7 @@ use std::alloc::{AllocError, Global};
 
 // What becomes of the message of a link that has one.
 fn kind_of(slots: &Slots, link: u8) -> u8
-    ensures { (message : List Bool) → kept_message (slot_at slots.now link) ≡ Some message → slot_saved (slot_at slots.now link) ≡ result ∷ bits_saved message }
+    ensures { IsKindOf result (slot_at slots.now link) }
 {
     if slots.is_ready(link) {
         1

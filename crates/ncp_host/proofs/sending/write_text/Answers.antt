@@ -12,4 +12,4 @@ returns-clause-message g c =
     let text : Option (ℕ × List Bool) = answer (cut_in c.args.link c.args.association.now.ends) in
     c.cut_onto.ensures.bits
     ∙ ap (λ (bits : List Bool). bits ++ text_of text) c.write_front.ensures.front
-    ∙ front_text (leader_to c.args.number c.args.link) c.args.size c.args.count (text_of text) (counts_it text c.args.size c.args.count (sym c.requires))
+    ∙ front_text (leader_to c.args.number c.args.link) c.args.counted.0 c.args.counted.1 (text_of text) (counts_it text c.args.counted.0 c.args.counted.1 (sym c.requires))
