@@ -105,10 +105,6 @@ abbrev pub any_code_in : {A : Type 0} → (Host → Option A) → Option Held �
 any_code_in reply None = NO_HOST
 any_code_in reply (Some at) = code_if_any (reply at.host)
 
-abbrev pub any_in : {A B : Type 0} → (A → B → B) → (Host → Option A) → Option Held → B → B
-any_in write reply None out = out
-any_in write reply (Some at) out = any_of write (reply at.host) out
-
 -- Bytes over the front of a buffer; a message and a command as bytes; how many bits or bytes they are.
 
 abbrev pub over : List ℕ → ℕ → List ℕ → List ℕ
@@ -157,15 +153,6 @@ pair_named (Err short) h = None
 abbrev pub arrived_in : List Bool → Option Held → Arrived → Arrived
 arrived_in bits None out = out
 arrived_in bits (Some at) out = arrived_of (pair_named (leader_in bits) (after_received bits at.host)) (leader_in bits) bits (received_in bits at.host)
-
--- a text that is taken, over the front of a buffer
-abbrev pub told_over_of : {A B : Type 0} → (A → B → B) → Result A CallFault → B → B
-told_over_of write (Ok answer) out = write answer out
-told_over_of write (Err fault) out = out
-
-abbrev pub told_over : {A B : Type 0} → (A → B → B) → (Host → Result A CallFault) → Option Held → B → B
-told_over write reply None out = out
-told_over write reply (Some at) out = told_over_of write (reply at.host) out
 
 abbrev pub ignored_told : Host → Result Ignored CallFault
 ignored_told h = Ok h.ignored

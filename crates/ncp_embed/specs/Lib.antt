@@ -7,3 +7,8 @@ pub mod Exports
 pub mod SubnetExports
 pub mod Names
 pub mod Changes
+pub mod Connected
+pub mod Buffers
+pub mod FromBits
+pub mod ArrivedRows
+pub mod ChangeRows

@@ -12,7 +12,7 @@ use Rattle.ncp_subnet.specs.Subnet.{Subnet, transit_at, with_transit, Refuses, r
 use Rattle.ncp_embed.specs.declared.net.carried.Carried.{Carried}
 use Rattle.ncp_embed.specs.declared.codes.TheConstants.{DONE, NO_SUBNET, NOTHING}
 use Rattle.ncp_embed.specs.Codes.{bits_code, subnet_code}
-use Rattle.ncp_embed.specs.Exports.{any_of, code_if_any}
+use Rattle.ncp_embed.specs.Exports.{code_if_any}
 
 abbrev pub subnet_carried : Subnet → Carried
 subnet_carried s = record { subnet = s }
@@ -52,7 +52,7 @@ after_loss from to link s = if is_under_way from to link s then with_transit s f
 abbrev pub after_death : ℕ → ℕ → ℕ → Subnet → Subnet
 after_death from to link s = if is_under_way from to link s then with_transit s from to link transit.Dead else s
 
--- The same of a net: its code, the subnet after it, and what is written.
+-- The same of a net: its code, and the subnet after it.
 
 abbrev pub code_in_net : {A : Type 0} → (Subnet → Option A) → Option Carried → ℕ
 code_in_net reply None = NO_SUBNET
@@ -68,7 +68,3 @@ holds_code_in test (Some at) = code_if (test at.subnet)
 abbrev pub changed_in : (Subnet → Subnet) → Option Carried → Option Carried
 changed_in after None = None
 changed_in after (Some at) = Some (subnet_carried (after at.subnet))
-
-abbrev pub found_over : {A B : Type 0} → (A → B → B) → (Subnet → Option A) → Option Carried → B → B
-found_over write reply None out = out
-found_over write reply (Some at) out = any_of write (reply at.subnet) out

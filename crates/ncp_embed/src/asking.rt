@@ -2,9 +2,8 @@
 //! or the number of the refusal.
 ghost use Rattle.std.specs.Prelude.{◌≡◌, ◌≢◌};
 ghost use Rattle.ncp_model.specs.Peers.{Ask_to_send, Ask_to_receive};
-ghost use Rattle.ncp_host.specs.Calls.{call_reply, after_call_to};
 ghost use Rattle.ncp_host.specs.Calls.{sockets};
-ghost use Rattle.ncp_embed.specs.Exports.{code_in, host_changed_in, AnswersOrNoMemory};
+ghost use Rattle.ncp_embed.specs.Connected.{Tries};
 
 use crate::codes::{DONE, NO_HOST, code_of};
 use crate::handle::{Handle, put, take};
@@ -21,7 +20,7 @@ pub extern "C" fn ncp_embed_ask_send(
     size: u8,
     room: u32,
 ) -> u32
-    ensures done { AnswersOrNoMemory (code_in (call_reply peer (sockets local remote) (Ask_to_send size room)) handle.old.host) (host_changed_in (after_call_to peer (sockets local remote) (Ask_to_send size room)) handle.old.host) result handle.old.host handle.new.host }
+    ensures done { Tries peer (sockets local remote) (Ask_to_send size room) result handle.old.host handle.new.host }
     ensures err { result ≢ DONE → handle.new.host ≡ handle.old.host }
 {
     let Some(mut held) = take(alloc, handle) else {
@@ -42,7 +41,7 @@ pub extern "C" fn ncp_embed_ask_receive(
     remote: u32,
     room: u32,
 ) -> u32
-    ensures done { AnswersOrNoMemory (code_in (call_reply peer (sockets local remote) (Ask_to_receive room)) handle.old.host) (host_changed_in (after_call_to peer (sockets local remote) (Ask_to_receive room)) handle.old.host) result handle.old.host handle.new.host }
+    ensures done { Tries peer (sockets local remote) (Ask_to_receive room) result handle.old.host handle.new.host }
     ensures err { result ≢ DONE → handle.new.host ≡ handle.old.host }
 {
     let Some(mut held) = take(alloc, handle) else {

@@ -1,15 +1,12 @@
 //! Messages come and go.
 ghost use Rattle.std.specs.Prelude.{◌≡◌, ◌≢◌, ◌<◌, ◌≤◌, length};
 ghost use Rattle.ncp_bits.specs.Bits.{read_bytes};
-ghost use Rattle.ncp_model.specs.Peers.{Give, Take};
-ghost use Rattle.ncp_host.specs.Calls.{call_reply, after_call_to, take_reply};
-ghost use Rattle.ncp_host.specs.Arrivals.{after_received};
-ghost use Rattle.ncp_host.specs.Host.{Host};
 ghost use Rattle.ncp_host.specs.Readiness.{IsNext};
-ghost use Rattle.std.specs.declared.option.Option.TheVariants.{Some};
 ghost use Rattle.ncp_host.specs.Turns.{next_output, after_next_output};
 ghost use Rattle.ncp_host.specs.Calls.{sockets};
-ghost use Rattle.ncp_embed.specs.Exports.{TouchesOnePeer, held, code_in, host_changed_in, any_code_in, any_in, any_of, code_if_any, formed_in, with_room, message_over, size_of_message, code_of_bits, after_bits_read, receive_code, arrived_in, told_over};
+ghost use Rattle.ncp_embed.specs.Buffers.{message_code, host_with_room, FirstIsReady, found_in_host, message_put, bits_put, code_of_take, host_after_take, taken_text};
+ghost use Rattle.ncp_embed.specs.Exports.{TouchesOnePeer, any_code_in, any_of, code_if_any, message_over, size_of_message, code_of_bits, receive_code};
+ghost use Rattle.ncp_embed.specs.FromBits.{host_after_bits, arrived_from_bits, code_of_give, host_after_give};
 
 use crate::codes::{
     DONE, LONGEST_MESSAGE, NO_HOST, NOTHING, SHORT_BUFFER, bits_code, code_of, fault_code,
@@ -35,10 +32,10 @@ pub extern "C" fn ncp_embed_receive(
     arrived: &mut Arrived,
 ) -> u32
     ensures code { result ≡ code_of_bits (read_bytes bytes.now bits) (λ came. receive_code came handle.old.host) }
-    ensures host { handle.new.host ≡ after_bits_read (read_bytes bytes.now bits) (λ came. host_changed_in (after_received came) handle.old.host) handle.old.host }
+    ensures host { handle.new.host ≡ host_after_bits (read_bytes bytes.now bits) handle.old.host }
     ensures err { result ≢ DONE → handle.new.host ≡ handle.old.host }
     ensures bits_touch_one_peer_alone { TouchesOnePeer (read_bytes bytes.now bits) handle.old.host handle.new.host }
-    ensures arrived { arrived.new ≡ after_bits_read (read_bytes bytes.now bits) (λ came. arrived_in came handle.old.host arrived.old) arrived.old }
+    ensures arrived { arrived.new ≡ arrived_from_bits (read_bytes bytes.now bits) handle.old.host arrived.old }
 {
     let came = match Bits::from_bytes(bytes, bits) {
         Ok(came) => came,
@@ -89,12 +86,12 @@ pub extern "C" fn ncp_embed_next_output(
     out: &mut [u8],
     bits: &mut usize,
 ) -> u32
-    ensures code { result ≡ with_room LONGEST_MESSAGE out.old SHORT_BUFFER (any_code_in next_output handle.old.host) }
-    ensures host { handle.new.host ≡ with_room LONGEST_MESSAGE out.old handle.old.host (host_changed_in after_next_output handle.old.host) }
+    ensures code { result ≡ message_code out.old (any_code_in next_output handle.old.host) }
+    ensures host { handle.new.host ≡ host_with_room out.old after_next_output handle.old.host }
     ensures err { result ≢ DONE → handle.new.host ≡ handle.old.host }
-    ensures first_ready { LONGEST_MESSAGE ≤ length out.old → (h : Host) → handle.old.host ≡ Some (held h) → IsNext (next_output h) h.peers }
-    ensures message { out.new ≡ with_room LONGEST_MESSAGE out.old out.old (any_in message_over next_output handle.old.host out.old) }
-    ensures bits { bits.new ≡ with_room LONGEST_MESSAGE out.old bits.old (any_in size_of_message next_output handle.old.host bits.old) }
+    ensures first_ready { LONGEST_MESSAGE ≤ length out.old → FirstIsReady handle.old.host }
+    ensures message { out.new ≡ message_put (found_in_host next_output handle.old.host) out.old }
+    ensures bits { bits.new ≡ bits_put (found_in_host next_output handle.old.host) out.old bits.old }
 {
     if out.len() < LONGEST_MESSAGE {
         return SHORT_BUFFER;
@@ -121,8 +118,8 @@ pub extern "C" fn ncp_embed_give(
     bytes: &[u8],
     bits: usize,
 ) -> u32
-    ensures code { result ≡ code_of_bits (read_bytes bytes.now bits) (λ text. code_in (call_reply peer (sockets local remote) (Give text)) handle.old.host) }
-    ensures host { handle.new.host ≡ after_bits_read (read_bytes bytes.now bits) (λ text. host_changed_in (after_call_to peer (sockets local remote) (Give text)) handle.old.host) handle.old.host }
+    ensures code { result ≡ code_of_give peer (sockets local remote) bytes.now bits handle.old.host }
+    ensures host { handle.new.host ≡ host_after_give peer (sockets local remote) bytes.now bits handle.old.host }
     ensures err { result ≢ DONE → handle.new.host ≡ handle.old.host }
 {
     let text = match Bits::from_bytes(bytes, bits) {
@@ -152,11 +149,11 @@ pub extern "C" fn ncp_embed_take(
     out: &mut [u8],
     bits: &mut usize,
 ) -> u32
-    ensures code { result ≡ with_room LONGEST_MESSAGE out.old SHORT_BUFFER (code_in (take_reply peer (sockets local remote) bytes) handle.old.host) }
-    ensures host { handle.new.host ≡ with_room LONGEST_MESSAGE out.old handle.old.host (host_changed_in (after_call_to peer (sockets local remote) (Take bytes)) handle.old.host) }
+    ensures code { result ≡ code_of_take peer (sockets local remote) bytes out.old handle.old.host }
+    ensures host { handle.new.host ≡ host_after_take peer (sockets local remote) bytes out.old handle.old.host }
     ensures err { result ≢ DONE → handle.new.host ≡ handle.old.host }
-    ensures text { out.new ≡ with_room LONGEST_MESSAGE out.old out.old (told_over message_over (take_reply peer (sockets local remote) bytes) handle.old.host out.old) }
-    ensures bits { bits.new ≡ with_room LONGEST_MESSAGE out.old bits.old (told_over size_of_message (take_reply peer (sockets local remote) bytes) handle.old.host bits.old) }
+    ensures text { out.new ≡ message_put (taken_text peer (sockets local remote) bytes handle.old.host) out.old }
+    ensures bits { bits.new ≡ bits_put (taken_text peer (sockets local remote) bytes handle.old.host) out.old bits.old }
 {
     if out.len() < LONGEST_MESSAGE {
         return SHORT_BUFFER;

@@ -3,8 +3,9 @@
 ghost use Rattle.std.specs.Prelude.{◌≡◌, ◌≢◌};
 ghost use Rattle.ncp_model.specs.Peers.{Close, Allocate, Call_back, Interrupt};
 ghost use Rattle.ncp_host.specs.Restarting.{restart_reply, after_restart};
-ghost use Rattle.ncp_host.specs.Calls.{call_reply, after_call_to, reset_reply, after_reset, echo_reply, after_echo, wake_reply, after_wake};
+ghost use Rattle.ncp_host.specs.Calls.{reset_reply, after_reset, echo_reply, after_echo, wake_reply, after_wake};
 ghost use Rattle.ncp_host.specs.Calls.{sockets};
+ghost use Rattle.ncp_embed.specs.Connected.{code_of_call, host_called};
 ghost use Rattle.ncp_embed.specs.Exports.{code_in, host_changed_in};
 
 use crate::codes::{DONE, NO_HOST, code_of};
@@ -38,8 +39,8 @@ pub extern "C" fn ncp_embed_allocate(
     messages: u16,
     bits: u32,
 ) -> u32
-    ensures code { result ≡ code_in (call_reply peer (sockets local remote) (Allocate messages bits)) handle.old.host }
-    ensures host { handle.new.host ≡ host_changed_in (after_call_to peer (sockets local remote) (Allocate messages bits)) handle.old.host }
+    ensures code { result ≡ code_of_call peer (sockets local remote) (Allocate messages bits) handle.old.host }
+    ensures host { handle.new.host ≡ host_called peer (sockets local remote) (Allocate messages bits) handle.old.host }
     ensures err { result ≢ DONE → handle.new.host ≡ handle.old.host }
 {
     let Some(mut held) = take(alloc, handle) else {
@@ -63,8 +64,8 @@ pub extern "C" fn ncp_embed_call_back(
     fm: u8,
     fb: u8,
 ) -> u32
-    ensures code { result ≡ code_in (call_reply peer (sockets local remote) (Call_back fm fb)) handle.old.host }
-    ensures host { handle.new.host ≡ host_changed_in (after_call_to peer (sockets local remote) (Call_back fm fb)) handle.old.host }
+    ensures code { result ≡ code_of_call peer (sockets local remote) (Call_back fm fb) handle.old.host }
+    ensures host { handle.new.host ≡ host_called peer (sockets local remote) (Call_back fm fb) handle.old.host }
     ensures err { result ≢ DONE → handle.new.host ≡ handle.old.host }
 {
     let Some(mut held) = take(alloc, handle) else {
@@ -84,8 +85,8 @@ pub extern "C" fn ncp_embed_interrupt(
     local: u32,
     remote: u32,
 ) -> u32
-    ensures code { result ≡ code_in (call_reply peer (sockets local remote) Interrupt) handle.old.host }
-    ensures host { handle.new.host ≡ host_changed_in (after_call_to peer (sockets local remote) Interrupt) handle.old.host }
+    ensures code { result ≡ code_of_call peer (sockets local remote) Interrupt handle.old.host }
+    ensures host { handle.new.host ≡ host_called peer (sockets local remote) Interrupt handle.old.host }
     ensures err { result ≢ DONE → handle.new.host ≡ handle.old.host }
 {
     let Some(mut held) = take(alloc, handle) else {
@@ -105,8 +106,8 @@ pub extern "C" fn ncp_embed_close(
     local: u32,
     remote: u32,
 ) -> u32
-    ensures code { result ≡ code_in (call_reply peer (sockets local remote) Close) handle.old.host }
-    ensures host { handle.new.host ≡ host_changed_in (after_call_to peer (sockets local remote) Close) handle.old.host }
+    ensures code { result ≡ code_of_call peer (sockets local remote) Close handle.old.host }
+    ensures host { handle.new.host ≡ host_called peer (sockets local remote) Close handle.old.host }
     ensures err { result ≢ DONE → handle.new.host ≡ handle.old.host }
 {
     let Some(mut held) = take(alloc, handle) else {

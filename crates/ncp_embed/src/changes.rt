@@ -1,6 +1,7 @@
 //! What changed of a connection since it was looked at.
 ghost use Rattle.std.specs.Prelude.{◌≡◌};
 ghost use Rattle.ncp_host.specs.Calls.{sockets};
+ghost use Rattle.ncp_embed.specs.Connected.{changes_read};
 ghost use Rattle.ncp_embed.specs.Exports.{code_in, formed_in};
 ghost use Rattle.ncp_embed.specs.Changes.{no_connection, no_changes, is_closed_here, peer_asks, is_more_held, is_more_allowed, became, changes_of, ending_of, is_another, changes_anew, changes_since, changes_between, seen_of, connection_read, reading_told};
 
@@ -221,7 +222,7 @@ pub extern "C" fn ncp_embed_changes(
 ) -> u32
     ensures host { handle.new.host ≡ handle.old.host }
     ensures code { result ≡ code_in (reading_told peer (sockets local remote)) handle.old.host }
-    ensures changes { out.new ≡ formed_in (changes_between seen.old) (reading_told peer (sockets local remote)) handle.old.host out.old }
+    ensures changes { out.new ≡ changes_read peer (sockets local remote) seen.old handle.old.host out.old }
     ensures seen { seen.new ≡ formed_in seen_of (reading_told peer (sockets local remote)) handle.old.host seen.old }
 {
     let Some(held) = take(alloc, handle) else {

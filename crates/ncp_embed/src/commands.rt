@@ -2,11 +2,11 @@
 ghost use Rattle.std.specs.Prelude.{◌≡◌, ◌%◌, ◌∷◌, [], length, slice_get, Some};
 ghost use Rattle.ncp_numbers.specs.Bytes.{bytes_of};
 ghost use Rattle.ncp_bits.specs.Bits.{read_bytes};
-ghost use Rattle.ncp_control.specs.Texts.{items_of, commands_among};
-ghost use Rattle.ncp_control.specs.Reading.{commands_in, fault_in};
-ghost use Rattle.ncp_terms.specs.declared.command.TheConstants.{LONGEST_COMMAND};
+ghost use Rattle.ncp_control.specs.Texts.{commands_among};
+ghost use Rattle.ncp_control.specs.Reading.{commands_in};
+ghost use Rattle.ncp_embed.specs.Buffers.{command_put, bytes_put};
 ghost use Rattle.ncp_embed.specs.Commands.{is_control_message, command_of, command_of_message, no_tally, command_tally_from, command_tally_of};
-ghost use Rattle.ncp_embed.specs.Exports.{after_bits_read, any_of, code_if_any, code_of_bits, command_over, size_of_command, with_room};
+ghost use Rattle.ncp_embed.specs.FromBits.{code_of_command, command_read, items_read};
 
 use crate::codes::{DONE, NOTHING, SHORT_BUFFER, bits_code};
 use crate::writing::write_command;
@@ -34,7 +34,7 @@ fn command_of(item: Result<Command, CommandFault>) -> Option<Command>
 // The command at a place of a control text.
 fn command_at(text: Part<'_>, place: u32) -> Option<Command>
     requires { length text % 8 ≡ 0 }
-    ensures { result ≡ command_of (slice_get (items_of (commands_in (bytes_of text.entry)) (fault_in (bytes_of text.entry))) place) }
+    ensures { result ≡ command_of (slice_get (items_read text.entry) place) }
 {
     let mut left = place;
     for item in Commands::new(text) {
@@ -129,9 +129,9 @@ pub extern "C" fn ncp_embed_command(
     out: &mut [u8],
     size: &mut usize,
 ) -> u32
-    ensures code { result ≡ code_of_bits (read_bytes bytes.now bits) (λ came. with_room LONGEST_COMMAND out.old SHORT_BUFFER (code_if_any (command_of_message came place))) }
-    ensures command { out.new ≡ after_bits_read (read_bytes bytes.now bits) (λ came. with_room LONGEST_COMMAND out.old out.old (any_of command_over (command_of_message came place) out.old)) out.old }
-    ensures size { size.new ≡ after_bits_read (read_bytes bytes.now bits) (λ came. with_room LONGEST_COMMAND out.old size.old (any_of size_of_command (command_of_message came place) size.old)) size.old }
+    ensures code { result ≡ code_of_command (read_bytes bytes.now bits) place out.old }
+    ensures command { out.new ≡ command_put (command_read (read_bytes bytes.now bits) place) out.old }
+    ensures size { size.new ≡ bytes_put (command_read (read_bytes bytes.now bits) place) out.old size.old }
 {
     let came = match Bits::from_bytes(bytes, bits) {
         Ok(came) => came,

@@ -1,6 +1,6 @@
 //! Laws about what C is told, each the contract of a function that does nothing: the numbers are those of
 //! `include/ncp.h`, and no field is told as another.
-ghost use Rattle.std.specs.Prelude.{◌≡◌, ◌∷◌, [], ℕ, Bool, true, false, Result, Ok, Err, Option, None, Some, List, replicate, map};
+ghost use Rattle.std.specs.Prelude.{◌≡◌, ◌∷◌, [], ℕ, Bool, true, false, Result, Ok, Err, Option, None, Some, List, map};
 ghost use Rattle.ncp_bits.specs.declared.bits.BitsFault.{BitsFault};
 ghost use Rattle.ncp_conn.specs.declared.record.End.{End};
 ghost use Rattle.ncp_conn.specs.declared.record.Record.{Record};
@@ -10,13 +10,18 @@ ghost use Rattle.ncp_leader.specs.declared.leader.Short.{Short};
 ghost use Rattle.ncp_model.specs.declared.call_fault.CallFault.{CallFault};
 ghost use Rattle.ncp_model.specs.declared.outcomes.Took.{Took};
 ghost use Rattle.ncp_model.specs.declared.pair.Pair.{Pair};
+ghost use Rattle.ncp_model.specs.declared.outcomes.Error.{Error as Noticed};
 ghost use Rattle.ncp_host.specs.declared.fault.HostFault.{HostFault};
 ghost use Rattle.ncp_host.specs.declared.fault.LoadFault.{LoadFault};
+ghost use Rattle.ncp_host.specs.declared.counts.Counts.{Counts};
+ghost use Rattle.ncp_host.specs.declared.counts.Ignored.{Ignored};
 ghost use Rattle.ncp_host.specs.declared.flags.Flags.{Flags};
 ghost use Rattle.ncp_host.specs.declared.received.Received.{Received};
 ghost use Rattle.ncp_subnet.specs.declared.fault.SubnetFault.{SubnetFault};
 ghost use Rattle.ncp_embed.specs.declared.connection.Connection.{Connection};
 ghost use Rattle.ncp_embed.specs.declared.told.Arrived.{Arrived};
+ghost use Rattle.ncp_embed.specs.ArrivedRows.{ArrivesAs, TextArrivesAs, no_arrival, no_flags};
+ghost use Rattle.ncp_embed.specs.ChangeRows.{TellsChanges, TellsEnding, asked_here, asked_there, both_asked};
 ghost use Rattle.ncp_embed.specs.Changes.{no_connection, no_changes, changes_between, seen_of};
 ghost use Rattle.ncp_terms.specs.declared.command.Command.TheVariants.{Nop, Err as Error, Rst};
 ghost use Rattle.ncp_embed.specs.Commands.{command_tally_of, command_tally_from, no_tally};
@@ -41,9 +46,15 @@ pub fn codes_are_these()
     ensures first { code_of {A = ℕ} (Err CallFault.UnknownPeer) ≡ 1 }
     ensures last { code_of {A = ℕ} (Err CallFault.OutOfMemory) ≡ 17 }
     ensures made { (host_code HostFault.BadPeers ≡ 65) × (host_code HostFault.OutOfMemory ≡ 66) }
-    ensures of_the_subnet { (subnet_code SubnetFault.NotRegular ≡ 73) × (subnet_code SubnetFault.NoHost ≡ 74) × (subnet_code SubnetFault.Occupied ≡ 75) }
-    ensures of_saved { (load_code LoadFault.NotAHost ≡ 81) × (load_code LoadFault.OtherVersion ≡ 82) × (load_code LoadFault.OutOfMemory ≡ 83) }
-    ensures of_bits { (bits_code BitsFault.TooLong ≡ 41) × (bits_code BitsFault.ShortBytes ≡ 42) × (bits_code BitsFault.SpareNotZero ≡ 43) }
+    ensures not_regular { subnet_code SubnetFault.NotRegular ≡ 73 }
+    ensures not_of_the_subnet { subnet_code SubnetFault.NoHost ≡ 74 }
+    ensures occupied { subnet_code SubnetFault.Occupied ≡ 75 }
+    ensures not_a_host { load_code LoadFault.NotAHost ≡ 81 }
+    ensures other_version { load_code LoadFault.OtherVersion ≡ 82 }
+    ensures not_loaded { load_code LoadFault.OutOfMemory ≡ 83 }
+    ensures too_long { bits_code BitsFault.TooLong ≡ 41 }
+    ensures short_bytes { bits_code BitsFault.ShortBytes ≡ 42 }
+    ensures spare_not_zero { bits_code BitsFault.SpareNotZero ≡ 43 }
 {}
 
 /// No two answers have one number: the one that is found by the number of an answer is that answer.
@@ -53,44 +64,63 @@ pub fn each_answer_has_a_number_of_its_own()
 
 /// What became of bits, and what is told of it with what their leader names.
 pub fn arrivals_are_told_so()
-    ensures short { (p : Option Pair) (l : Result Leader Short) (b : List Bool) → arrived_of p l b Received.Short ≡ arrival l 1 0 }
-    ensures other { (p : Option Pair) (l : Result Leader Short) (b : List Bool) → arrived_of p l b (Received.Other 4) ≡ arrival l 2 4 }
-    ensures unknown { (p : Option Pair) (l : Result Leader Short) (b : List Bool) → arrived_of p l b Received.Unknown ≡ arrival l 3 0 }
-    ensures stray { (p : Option Pair) (l : Result Leader Short) (b : List Bool) → arrived_of p l b Received.Stray ≡ arrival l 4 0 }
-    ensures answered { (p : Option Pair) (l : Leader) (b : List Bool) → arrived_of p (Ok l) b Received.Answered ≡ arrival (Ok l) 5 l.kind }
-    ensures named { (l : Leader) → arrival (Ok l) 9 3 ≡ record { what = 9; detail = 3; local = 0; remote = 0; errors = 0; resets = 0; peer = l.host; link = l.link; kind = l.kind } }
-    ensures none_named { arrival (Err (record {})) 1 0 ≡ record { what = 1; detail = 0; local = 0; remote = 0; errors = 0; resets = 0; peer = 0; link = 0; kind = 0 } }
-    ensures faults { (p : Option Pair) (l : Result Leader Short) (b : List Bool) → (arrived_of p l b (Received.Fault MessageFault.ShortPrefix) ≡ arrival l 6 1) × (arrived_of p l b (Received.Fault MessageFault.M1NotZero) ≡ arrival l 6 2) × (arrived_of p l b (Received.Fault MessageFault.SizeZero) ≡ arrival l 6 3) }
-    ensures more_faults { (p : Option Pair) (l : Result Leader Short) (b : List Bool) → (arrived_of p l b (Received.Fault MessageFault.M2NotZero) ≡ arrival l 6 4) × (arrived_of p l b (Received.Fault MessageFault.TextMissing) ≡ arrival l 6 5) }
-    ensures wrong_link { (p : Option Pair) (l : Result Leader Short) (b : List Bool) → arrived_of p l b Received.WrongLink ≡ arrival l 7 0 }
-    ensures wrong_size { (p : Option Pair) (l : Result Leader Short) (b : List Bool) → arrived_of p l b Received.WrongSize ≡ arrival l 8 0 }
-    ensures control { (p : Option Pair) (l : Result Leader Short) (b : List Bool) → arrived_of p l b (Received.Control 3) ≡ with_tally (command_tally_of b) (arrival l 9 3) }
-    ensures admitted { (p : Option Pair) (l : Result Leader Short) (b : List Bool) → arrived_of p l b (Received.Text Took.Admitted) ≡ led_to p (arrival l 10 1) }
-    ensures led { (a : Arrived) → (led_to None a ≡ a) × (led_to (Some (record { local = 2; remote = 3 })) a ≡ record a { local = 2; remote = 3 }) }
-    ensures late { (p : Option Pair) (l : Result Leader Short) (b : List Bool) → arrived_of p l b (Received.Text Took.Late) ≡ led_to p (arrival l 10 2) }
-    ensures size { (p : Option Pair) (l : Result Leader Short) (b : List Bool) → arrived_of p l b (Received.Text Took.WrongSize) ≡ led_to p (arrival l 10 3) }
-    ensures over { (p : Option Pair) (l : Result Leader Short) (b : List Bool) → arrived_of p l b (Received.Text Took.Over) ≡ led_to p (arrival l 10 4) }
-    ensures not_open { (p : Option Pair) (l : Result Leader Short) (b : List Bool) → arrived_of p l b (Received.Text Took.NotOpen) ≡ led_to p (arrival l 10 5) }
-    ensures not_up { (p : Option Pair) (l : Result Leader Short) (b : List Bool) → arrived_of p l b Received.NotUp ≡ arrival l 11 0 }
+    ensures short { ArrivesAs Received.Short 1 0 }
+    ensures other { ArrivesAs (Received.Other 4) 2 4 }
+    ensures unknown { ArrivesAs Received.Unknown 3 0 }
+    ensures stray { ArrivesAs Received.Stray 4 0 }
+    ensures answered { (p : Option Pair) (l : Leader) (b : List Bool)
+        → arrived_of p (Ok l) b Received.Answered ≡ arrival (Ok l) 5 l.kind }
+    ensures named { (l : Leader)
+        → arrival (Ok l) 9 3 ≡ record no_arrival { what = 9; detail = 3; peer = l.host; link = l.link; kind = l.kind } }
+    ensures none_named { arrival (Err (record {})) 1 0 ≡ record no_arrival { what = 1 } }
+    ensures short_prefix { ArrivesAs (Received.Fault MessageFault.ShortPrefix) 6 1 }
+    ensures m1_not_zero { ArrivesAs (Received.Fault MessageFault.M1NotZero) 6 2 }
+    ensures size_zero { ArrivesAs (Received.Fault MessageFault.SizeZero) 6 3 }
+    ensures m2_not_zero { ArrivesAs (Received.Fault MessageFault.M2NotZero) 6 4 }
+    ensures text_missing { ArrivesAs (Received.Fault MessageFault.TextMissing) 6 5 }
+    ensures wrong_link { ArrivesAs Received.WrongLink 7 0 }
+    ensures wrong_size { ArrivesAs Received.WrongSize 8 0 }
+    ensures control { (p : Option Pair) (l : Result Leader Short) (b : List Bool)
+        → arrived_of p l b (Received.Control 3) ≡ with_tally (command_tally_of b) (arrival l 9 3) }
+    ensures admitted { TextArrivesAs Took.Admitted 1 }
+    ensures led_nowhere { (a : Arrived) → led_to None a ≡ a }
+    ensures led { (a : Arrived)
+        → led_to (Some (record { local = 2; remote = 3 })) a ≡ record a { local = 2; remote = 3 } }
+    ensures late { TextArrivesAs Took.Late 2 }
+    ensures size { TextArrivesAs Took.WrongSize 3 }
+    ensures over { TextArrivesAs Took.Over 4 }
+    ensures not_open { TextArrivesAs Took.NotOpen 5 }
+    ensures not_up { ArrivesAs Received.NotUp 11 0 }
 {}
 
 /// Whatever became of a message that has a leader, its type is told: so the types that say nothing to a host are told apart.
 pub fn types_are_told_so()
-    ensures each { (p : Option Pair) (l : Leader) (b : List Bool) (r : Received) → (arrived_of p (Ok l) b r).kind ≡ l.kind }
+    ensures each { (p : Option Pair) (l : Leader) (b : List Bool) (r : Received)
+        → (arrived_of p (Ok l) b r).kind ≡ l.kind }
     ensures none { (p : Option Pair) (b : List Bool) (r : Received) → (arrived_of p (Err (record {})) b r).kind ≡ 0 }
 {}
 
 /// How many ERRs and RSTs are among three commands.
 pub fn tallies_are_these()
-    ensures counted { (bytes : List ℕ) → command_tally_from no_tally (Rst ∷ Error 1 bytes ∷ Nop ∷ Error 2 bytes ∷ []) ≡ record { errors = 2; resets = 1 } }
+    ensures counted { (bytes : List ℕ)
+        → command_tally_from no_tally (Rst ∷ Error 1 bytes ∷ Nop ∷ Error 2 bytes ∷ []) ≡ record { errors = 2; resets = 1 } }
     ensures none { command_tally_from no_tally [] ≡ record { errors = 0; resets = 0 } }
 {}
 
-/// What is counted, with all counts different, and an ERR.
+/// What is counted, each number as itself, and an ERR.
 pub fn counts_are_told_so()
-    ensures counted { counted_told (record { stray = 1; faults = 2; wrong_link = 3; wrong_size = 4; not_up = 5; late = 6; over = 7 }) ≡ record { stray = 1; faults = 2; wrong_link = 3; wrong_size = 4; not_up = 5; late = 6; over = 7 } }
-    ensures discarded { discarded_of (record { short = 1; other = 2; unknown = 3 }) ≡ record { short_bits = 1; other = 2; unknown = 3 } }
-    ensures noted { noted_of (record { code = 5; bytes = replicate 10 6 }) ≡ record { code = 5; bytes = replicate 10 6 } }
+    ensures stray { (n : Counts) → (counted_told n).stray ≡ n.stray }
+    ensures faults { (n : Counts) → (counted_told n).faults ≡ n.faults }
+    ensures wrong_link { (n : Counts) → (counted_told n).wrong_link ≡ n.wrong_link }
+    ensures wrong_size { (n : Counts) → (counted_told n).wrong_size ≡ n.wrong_size }
+    ensures not_up { (n : Counts) → (counted_told n).not_up ≡ n.not_up }
+    ensures late { (n : Counts) → (counted_told n).late ≡ n.late }
+    ensures over { (n : Counts) → (counted_told n).over ≡ n.over }
+    ensures short_bits { (n : Ignored) → (discarded_of n).short_bits ≡ n.short }
+    ensures other { (n : Ignored) → (discarded_of n).other ≡ n.other }
+    ensures unknown { (n : Ignored) → (discarded_of n).unknown ≡ n.unknown }
+    ensures code { (e : Noticed) → (noted_of e).code ≡ e.code }
+    ensures bytes { (e : Noticed) → (noted_of e).bytes ≡ e.bytes }
 {}
 
 /// The four flags, each as itself.
@@ -103,8 +133,11 @@ pub fn flags_are_told_so()
 
 /// A host is up where no flag is set, and a connection is open until this side begins to close it.
 pub fn up_and_open_mean_this()
-    ensures up { are_flags_up (record { down = false; want = false; owe = false; wait = false }) ≡ true }
-    ensures not_up { (are_flags_up (record { down = true; want = false; owe = false; wait = false }) ≡ false) × (are_flags_up (record { down = false; want = true; owe = false; wait = false }) ≡ false) × (are_flags_up (record { down = false; want = false; owe = true; wait = false }) ≡ false) × (are_flags_up (record { down = false; want = false; owe = false; wait = true }) ≡ false) }
+    ensures up { are_flags_up no_flags ≡ true }
+    ensures down { are_flags_up (record no_flags { down = true }) ≡ false }
+    ensures want { are_flags_up (record no_flags { want = true }) ≡ false }
+    ensures owe { are_flags_up (record no_flags { owe = true }) ≡ false }
+    ensures wait { are_flags_up (record no_flags { wait = true }) ≡ false }
     ensures asked { (r : Record) → is_record_open r ≡ true → (r.asked ≡ true) × (r.heard ≡ true) }
     ensures stays { (r : Record) → is_record_open r ≡ true → (r.leaving ≡ false) × (r.left ≡ false) }
 {}
@@ -136,15 +169,22 @@ pub fn changes_are_told_once()
 
 /// What changed of a connection, one by one.
 pub fn changes_are_told_so()
-    ensures anew { changes_between (record no_connection { asked = true; heard = true; opened = true }) (Some (record no_connection { heard = true; link = 7 })) ≡ record no_changes { ended = true; asks = true } }
-    ensures asks { changes_between no_connection (Some (record no_connection { heard = true; link = 7 })) ≡ record no_changes { asks = true } }
-    ensures opened { changes_between (record no_connection { asked = true }) (Some (record no_connection { asked = true; heard = true; opened = true })) ≡ record no_changes { opened = true } }
-    ensures text { changes_between no_connection (Some (record no_connection { stored = 8 })) ≡ record no_changes { text = true } }
-    ensures allowed { changes_between no_connection (Some (record no_connection { sends = true; bits = 8 })) ≡ record no_changes { allowed = true } }
-    ensures delivered { changes_between (record no_connection { busy = true }) (Some no_connection) ≡ record no_changes { delivered = true } }
-    ensures interrupted { changes_between no_connection (Some (record no_connection { interrupts = 1 })) ≡ record no_changes { interrupted = true } }
-    ensures closes { changes_between no_connection (Some (record no_connection { cls = true; leaving = true })) ≡ record no_changes { closes = true } }
-    ensures closed { changes_between (record no_connection { asked = true; heard = true; left = true }) None ≡ record no_changes { closed = true } }
-    ensures refused { changes_between (record no_connection { asked = true }) None ≡ record no_changes { refused = true } }
-    ensures ended { changes_between (record no_connection { asked = true; heard = true; cls = true; leaving = true }) None ≡ record no_changes { ended = true } }
+    ensures anew { TellsChanges both_asked asked_there (record no_changes { ended = true; asks = true }) }
+    ensures asks { TellsChanges no_connection asked_there (record no_changes { asks = true }) }
+    ensures opened { TellsChanges asked_here both_asked (record no_changes { opened = true }) }
+    ensures text { TellsChanges no_connection (record no_connection { stored = 8 })
+        (record no_changes { text = true }) }
+    ensures allowed { TellsChanges no_connection (record no_connection { sends = true; bits = 8 })
+        (record no_changes { allowed = true }) }
+    ensures delivered { TellsChanges (record no_connection { busy = true }) no_connection
+        (record no_changes { delivered = true }) }
+    ensures interrupted { TellsChanges no_connection (record no_connection { interrupts = 1 })
+        (record no_changes { interrupted = true }) }
+    ensures closes { TellsChanges no_connection (record no_connection { cls = true; leaving = true })
+        (record no_changes { closes = true }) }
+    ensures closed { TellsEnding (record no_connection { asked = true; heard = true; left = true })
+        (record no_changes { closed = true }) }
+    ensures refused { TellsEnding asked_here (record no_changes { refused = true }) }
+    ensures ended { TellsEnding (record asked_here { heard = true; cls = true; leaving = true })
+        (record no_changes { ended = true }) }
 {}

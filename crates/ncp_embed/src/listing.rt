@@ -1,10 +1,11 @@
 //! Which connections a host has, what they have room for, where a link leads, and what is held. The host stays as it was.
 //! Each answers `NO_HOST` where there is no host.
 ghost use Rattle.std.specs.Prelude.{◌≡◌};
-ghost use Rattle.ncp_host.specs.Listing.{connection_told, room_told, pair_told, held_told};
-ghost use Rattle.ncp_embed.specs.Told.{connection_of, end_that_sends};
+ghost use Rattle.ncp_host.specs.Listing.{connection_told, room_told, held_told};
+ghost use Rattle.ncp_embed.specs.Told.{end_that_sends};
 ghost use Rattle.ncp_host.specs.Calls.{sockets};
-ghost use Rattle.ncp_embed.specs.Exports.{code_in, formed_in, found_code_in, found_formed_in, holds_in};
+ghost use Rattle.ncp_embed.specs.Connected.{told_copied, known_local, known_remote, known_connection, pair_on};
+ghost use Rattle.ncp_embed.specs.Exports.{code_in, found_code_in, found_formed_in, holds_in};
 
 use crate::codes::{DONE, NO_HOST, NOTHING, fault_code};
 use crate::connection::{Connection, connection_of};
@@ -26,9 +27,9 @@ pub extern "C" fn ncp_embed_connection_at(
 ) -> u32
     ensures host { handle.new.host ≡ handle.old.host }
     ensures code { result ≡ found_code_in (connection_told peer place) handle.old.host }
-    ensures local { local.new ≡ found_formed_in (λ known. known.0.local) (connection_told peer place) handle.old.host local.old }
-    ensures remote { remote.new ≡ found_formed_in (λ known. known.0.remote) (connection_told peer place) handle.old.host remote.old }
-    ensures told { out.new ≡ found_formed_in (λ known. connection_of known.1) (connection_told peer place) handle.old.host out.old }
+    ensures local { local.new ≡ found_formed_in known_local (connection_told peer place) handle.old.host local.old }
+    ensures remote { remote.new ≡ found_formed_in known_remote (connection_told peer place) handle.old.host remote.old }
+    ensures told { out.new ≡ found_formed_in known_connection (connection_told peer place) handle.old.host out.old }
 {
     let Some(held) = take(alloc, handle) else {
         return NO_HOST;
@@ -59,7 +60,7 @@ pub extern "C" fn ncp_embed_room(
 ) -> u32
     ensures host { handle.new.host ≡ handle.old.host }
     ensures code { result ≡ code_in (room_told peer (sockets local remote)) handle.old.host }
-    ensures told { bits.new ≡ formed_in (λ room. room) (room_told peer (sockets local remote)) handle.old.host bits.old }
+    ensures told { bits.new ≡ told_copied (room_told peer (sockets local remote)) handle.old.host bits.old }
 {
     let Some(held) = take(alloc, handle) else {
         return NO_HOST;
@@ -93,9 +94,9 @@ pub extern "C" fn ncp_embed_pair_on(
     remote: &mut u32,
 ) -> u32
     ensures host { handle.new.host ≡ handle.old.host }
-    ensures code { result ≡ found_code_in (pair_told peer (end_that_sends sends) link) handle.old.host }
-    ensures local { local.new ≡ found_formed_in (λ pair. pair.local) (pair_told peer (end_that_sends sends) link) handle.old.host local.old }
-    ensures remote { remote.new ≡ found_formed_in (λ pair. pair.remote) (pair_told peer (end_that_sends sends) link) handle.old.host remote.old }
+    ensures code { result ≡ found_code_in (pair_on peer sends link) handle.old.host }
+    ensures local { local.new ≡ found_formed_in (λ p. p.local) (pair_on peer sends link) handle.old.host local.old }
+    ensures remote { remote.new ≡ found_formed_in (λ p. p.remote) (pair_on peer sends link) handle.old.host remote.old }
 {
     let Some(held) = take(alloc, handle) else {
         return NO_HOST;

@@ -1,12 +1,11 @@
 //! What a user may read. The host stays as it was. Each answers `NO_HOST` where there is no host; a
 //! buffer that is too short is judged before that.
 ghost use Rattle.std.specs.Prelude.{◌≡◌, Ok};
-ghost use Rattle.ncp_terms.specs.declared.command.TheConstants.{LONGEST_COMMAND};
-ghost use Rattle.ncp_host.specs.Host.{state_of};
-ghost use Rattle.ncp_host.specs.Calls.{record_told, flags_told, echoed_told, counts_told, waiting_at, kept_for};
+ghost use Rattle.ncp_host.specs.Calls.{record_told, flags_told, echoed_told, counts_told};
 ghost use Rattle.ncp_embed.specs.Told.{connection_of, phase_of, is_record_open, are_flags_up, counted_told, discarded_of, noted_of};
 ghost use Rattle.ncp_host.specs.Calls.{sockets};
-ghost use Rattle.ncp_embed.specs.Exports.{code_in, formed_in, any_code_in, any_in, with_room, message_over, size_of_message, command_over, size_of_command, ignored_told, found_code_in, found_formed_in, error_told, holds_in};
+ghost use Rattle.ncp_embed.specs.Buffers.{message_code, command_code, found_in_host, message_put, bits_put, command_put, bytes_put, waiting_told, kept_told};
+ghost use Rattle.ncp_embed.specs.Exports.{code_in, formed_in, any_code_in, ignored_told, found_code_in, found_formed_in, error_told, holds_in};
 
 use crate::codes::{DONE, LONGEST_MESSAGE, NO_HOST, NOTHING, SHORT_BUFFER, fault_code};
 use crate::connection::{Connection, connection_of};
@@ -169,9 +168,9 @@ pub extern "C" fn ncp_embed_waiting(
     bytes: &mut usize,
 ) -> u32
     ensures host { handle.new.host ≡ handle.old.host }
-    ensures code { result ≡ with_room LONGEST_COMMAND out.old SHORT_BUFFER (any_code_in (λ h. waiting_at (state_of h peer) place) handle.old.host) }
-    ensures command { out.new ≡ with_room LONGEST_COMMAND out.old out.old (any_in command_over (λ h. waiting_at (state_of h peer) place) handle.old.host out.old) }
-    ensures bytes { bytes.new ≡ with_room LONGEST_COMMAND out.old bytes.old (any_in size_of_command (λ h. waiting_at (state_of h peer) place) handle.old.host bytes.old) }
+    ensures code { result ≡ command_code out.old (any_code_in (waiting_told peer place) handle.old.host) }
+    ensures command { out.new ≡ command_put (found_in_host (waiting_told peer place) handle.old.host) out.old }
+    ensures bytes { bytes.new ≡ bytes_put (found_in_host (waiting_told peer place) handle.old.host) out.old bytes.old }
 {
     if out.len() < LONGEST_COMMAND {
         return SHORT_BUFFER;
@@ -204,9 +203,9 @@ pub extern "C" fn ncp_embed_kept(
     bits: &mut usize,
 ) -> u32
     ensures host { handle.new.host ≡ handle.old.host }
-    ensures code { result ≡ with_room LONGEST_MESSAGE out.old SHORT_BUFFER (any_code_in (λ h. kept_for (state_of h peer) link) handle.old.host) }
-    ensures message { out.new ≡ with_room LONGEST_MESSAGE out.old out.old (any_in message_over (λ h. kept_for (state_of h peer) link) handle.old.host out.old) }
-    ensures bits { bits.new ≡ with_room LONGEST_MESSAGE out.old bits.old (any_in size_of_message (λ h. kept_for (state_of h peer) link) handle.old.host bits.old) }
+    ensures code { result ≡ message_code out.old (any_code_in (kept_told peer link) handle.old.host) }
+    ensures message { out.new ≡ message_put (found_in_host (kept_told peer link) handle.old.host) out.old }
+    ensures bits { bits.new ≡ bits_put (found_in_host (kept_told peer link) handle.old.host) out.old bits.old }
 {
     if out.len() < LONGEST_MESSAGE {
         return SHORT_BUFFER;

@@ -2,6 +2,7 @@
 ghost use Rattle.std.specs.Prelude.{◌≡◌, ◌≢◌, ◌⊎◌, ◌↔◌, true, length, nat_lt, if◌then◌else◌};
 ghost use Rattle.ncp_host.specs.Loading.{is_of_other_version};
 ghost use Rattle.ncp_host.specs.declared.fault.LoadFault.TheVariants.{OtherVersion};
+ghost use Rattle.ncp_embed.specs.Buffers.{saved_over};
 ghost use Rattle.ncp_embed.specs.Codes.{load_code};
 ghost use Rattle.ncp_embed.specs.Exports.{IsLoadCode, IsSaveCode, IsSavedAs, bytes_saved, over};
 
@@ -38,7 +39,7 @@ pub extern "C" fn ncp_embed_save(
     ensures code { IsSaveCode (length out.old) handle.old.host result }
     ensures size { (result ≡ DONE) ⊎ (result ≡ SHORT_BUFFER) → size.new ≡ length (bytes_saved handle.old.host) }
     ensures untold { result ≢ DONE → result ≢ SHORT_BUFFER → size.new ≡ size.old }
-    ensures written { result ≡ DONE → out.new ≡ over (bytes_saved handle.old.host) (length (bytes_saved handle.old.host)) out.old }
+    ensures written { result ≡ DONE → out.new ≡ saved_over handle.old.host out.old }
     ensures kept { result ≢ DONE → out.new ≡ out.old }
 {
     let Some(held) = take(alloc, handle) else {

@@ -5,9 +5,9 @@ ghost use Rattle.std.specs.declared.option.Option.TheVariants.{None, Some};
 ghost use Rattle.ncp_bits.specs.Bits.{read_bytes};
 ghost use Rattle.ncp_subnet.specs.Subnet.{new_subnet};
 ghost use Rattle.ncp_host.specs.declared.fault.HostFault.TheVariants.{OutOfMemory};
+ghost use Rattle.ncp_embed.specs.Buffers.{message_code, subnet_with_room, found_in_net, message_put, bits_put};
 ghost use Rattle.ncp_embed.specs.Codes.{host_code};
-ghost use Rattle.ncp_embed.specs.Exports.{with_room, message_over, size_of_message};
-ghost use Rattle.ncp_embed.specs.SubnetExports.{subnet_carried, Accepts, coming_in, after_coming, answer_in_transit, subnet_after_answer, is_under_way, after_loss, after_death, changed_in, holds_code_in, code_in_net, found_over};
+ghost use Rattle.ncp_embed.specs.SubnetExports.{subnet_carried, Accepts, coming_in, after_coming, answer_in_transit, subnet_after_answer, is_under_way, after_loss, after_death, changed_in, holds_code_in, code_in_net};
 
 use crate::codes::{
     DONE, LONGEST_MESSAGE, NO_SUBNET, NOTHING, SHORT_BUFFER, bits_code, host_code, subnet_code,
@@ -89,10 +89,10 @@ pub extern "C" fn ncp_embed_subnet_deliver(
     out: &mut [u8],
     bits: &mut usize,
 ) -> u32
-    ensures code { result ≡ with_room LONGEST_MESSAGE out.old SHORT_BUFFER (code_in_net (coming_in from to link) net.old.subnet) }
-    ensures subnet { net.new.subnet ≡ with_room LONGEST_MESSAGE out.old net.old.subnet (changed_in (after_coming from to link) net.old.subnet) }
-    ensures message { out.new ≡ with_room LONGEST_MESSAGE out.old out.old (found_over message_over (coming_in from to link) net.old.subnet out.old) }
-    ensures bits { bits.new ≡ with_room LONGEST_MESSAGE out.old bits.old (found_over size_of_message (coming_in from to link) net.old.subnet bits.old) }
+    ensures code { result ≡ message_code out.old (code_in_net (coming_in from to link) net.old.subnet) }
+    ensures subnet { net.new.subnet ≡ subnet_with_room out.old (after_coming from to link) net.old.subnet }
+    ensures message { out.new ≡ message_put (found_in_net (coming_in from to link) net.old.subnet) out.old }
+    ensures bits { bits.new ≡ bits_put (found_in_net (coming_in from to link) net.old.subnet) out.old bits.old }
     ensures err { result ≢ DONE → net.new.subnet ≡ net.old.subnet }
 {
     if out.len() < LONGEST_MESSAGE {
@@ -167,10 +167,10 @@ pub extern "C" fn ncp_embed_subnet_answer(
     out: &mut [u8],
     bits: &mut usize,
 ) -> u32
-    ensures code { result ≡ with_room LONGEST_MESSAGE out.old SHORT_BUFFER (code_in_net (answer_in_transit from to link) net.old.subnet) }
-    ensures subnet { net.new.subnet ≡ with_room LONGEST_MESSAGE out.old net.old.subnet (changed_in (subnet_after_answer from to link) net.old.subnet) }
-    ensures message { out.new ≡ with_room LONGEST_MESSAGE out.old out.old (found_over message_over (answer_in_transit from to link) net.old.subnet out.old) }
-    ensures bits { bits.new ≡ with_room LONGEST_MESSAGE out.old bits.old (found_over size_of_message (answer_in_transit from to link) net.old.subnet bits.old) }
+    ensures code { result ≡ message_code out.old (code_in_net (answer_in_transit from to link) net.old.subnet) }
+    ensures subnet { net.new.subnet ≡ subnet_with_room out.old (subnet_after_answer from to link) net.old.subnet }
+    ensures message { out.new ≡ message_put (found_in_net (answer_in_transit from to link) net.old.subnet) out.old }
+    ensures bits { bits.new ≡ bits_put (found_in_net (answer_in_transit from to link) net.old.subnet) out.old bits.old }
     ensures err { result ≢ DONE → net.new.subnet ≡ net.old.subnet }
 {
     if out.len() < LONGEST_MESSAGE {

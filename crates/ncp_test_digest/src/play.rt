@@ -28,6 +28,19 @@ const TYPES: [u8; 8] = [0, 5, 7, 9, 0, 0, 4, 0];
 pub struct Play {
     first: Host<PackedStore>,
     second: Host<PackedStore>,
+    table: Table,
+}
+
+// The connection that is tried: with a peer, between two sockets.
+#[derive(Clone, Copy, Drop)]
+struct Tried {
+    peer: u8,
+    pair: Pair,
+}
+
+// What is thrown, and the digest of what was answered.
+#[derive(Drop)]
+struct Table {
     dice: Dice,
     digest: Digest,
     buffer: [u8; LONGEST],
@@ -58,202 +71,178 @@ fn fill(dice: &mut Dice, buffer: &mut [u8; LONGEST]) {
     }
 }
 
-// Any message, often of a type that says something.
-fn feed(
-    digest: &mut Digest,
-    dice: &mut Dice,
-    host: &mut Host<PackedStore>,
-    buffer: &mut [u8; LONGEST],
-    peer: u8,
-) {
-    fill(dice, buffer);
-    buffer[0] = TYPES[dice.size(8)];
-    buffer[1] = peer;
-    buffer[2] = dice.small(5);
-    if dice.one_in(2) {
-        buffer[4] = 0;
-        buffer[5] = 8;
-        buffer[6] = 0;
-        buffer[7] = dice.small(24);
-        buffer[8] = 0;
-        buffer[9] = dice.small(15);
+impl Table {
+    // Any message, often of a type that says something.
+    fn feed(&mut self, host: &mut Host<PackedStore>, peer: u8) {
+        fill(&mut self.dice, &mut self.buffer);
+        self.buffer[0] = TYPES[self.dice.size(8)];
+        self.buffer[1] = peer;
+        self.buffer[2] = self.dice.small(5);
+        if self.dice.one_in(2) {
+            self.buffer[4] = 0;
+            self.buffer[5] = 8;
+            self.buffer[6] = 0;
+            self.buffer[7] = self.dice.small(24);
+            self.buffer[8] = 0;
+            self.buffer[9] = self.dice.small(15);
+        }
+        let len = self.dice.size(49);
+        let bits = if self.dice.one_in(4) {
+            self.dice.size(400)
+        } else {
+            8 * len
+        };
+        receive(&mut self.digest, host, &self.buffer[..len], bits);
     }
-    let len = dice.size(49);
-    let bits = if dice.one_in(4) {
-        dice.size(400)
-    } else {
-        8 * len
-    };
-    receive(digest, host, &buffer[..len], bits);
-}
 
-// The network takes the next message of a host: it is lost, comes to a dead host, is spoiled, or comes.
-fn carry(
-    digest: &mut Digest,
-    dice: &mut Dice,
-    from: &mut Host<PackedStore>,
-    me: u8,
-    to: &mut Host<PackedStore>,
-) {
-    let next = from.next_output();
-    let luck = dice.pick(16);
-    let spoiled = dice.size(128);
-    let Some(output) = next else {
-        digest.mix(NOTHING);
-        return;
-    };
-    digest.mix(0);
-    mix_bits(digest, &output);
-    let mut message = [0; LONGEST];
-    let bits = output.len();
-    let _used = output.to_bytes(&mut message);
-    if luck == 0 {
-        return answer(digest, from, 9, &message);
+    // The network takes the next message of a host: it is lost, comes to a dead host, is spoiled, or comes.
+    fn carry(&mut self, from: &mut Host<PackedStore>, me: u8, to: &mut Host<PackedStore>) {
+        let next = from.next_output();
+        let luck = self.dice.pick(16);
+        let spoiled = self.dice.size(128);
+        let Some(output) = next else {
+            self.digest.mix(NOTHING);
+            return;
+        };
+        self.digest.mix(0);
+        mix_bits(&mut self.digest, &output);
+        let mut message = [0; LONGEST];
+        let bits = output.len();
+        let _used = output.to_bytes(&mut message);
+        if luck == 0 {
+            return answer(&mut self.digest, from, 9, &message);
+        }
+        if luck == 1 {
+            return answer(&mut self.digest, from, 7, &message);
+        }
+        answer(&mut self.digest, from, 5, &message);
+        if message[1] == C {
+            return;
+        }
+        message[1] = me;
+        if luck == 2 {
+            message[spoiled] ^= 1 << self.dice.small(8);
+        }
+        receive(&mut self.digest, to, &message, bits);
     }
-    if luck == 1 {
-        return answer(digest, from, 7, &message);
-    }
-    answer(digest, from, 5, &message);
-    if message[1] == C {
-        return;
-    }
-    message[1] = me;
-    if luck == 2 {
-        message[spoiled] ^= 1 << dice.small(8);
-    }
-    receive(digest, to, &message, bits);
-}
 
-// A call that has no bits.
-fn ask(
-    digest: &mut Digest,
-    dice: &mut Dice,
-    host: &mut Host<PackedStore>,
-    peer: u8,
-    pair: Pair,
-    which: u64,
-) {
-    let answer = match which {
-        0 => {
-            if dice.one_in(64) {
-                host.reset(peer)
-            } else {
-                host.wake(peer)
+    // A call that has no bits.
+    fn ask(&mut self, host: &mut Host<PackedStore>, tried: Tried, which: u64) {
+        let Tried { peer, pair } = tried;
+        let dice = &mut self.dice;
+        let answer = match which {
+            0 => {
+                if dice.one_in(64) {
+                    host.reset(peer)
+                } else {
+                    host.wake(peer)
+                }
             }
-        }
-        1 => {
-            let size = if dice.one_in(4) { dice.small(37) } else { 8 };
-            host.ask_send(peer, pair.local, pair.remote, size, dice.mostly(4096, 8))
-        }
-        2 => host.ask_receive(peer, pair.local, pair.remote, dice.mostly(4096, 8)),
-        3 => {
-            let messages = u16::from(dice.small(4));
-            host.allocate(peer, pair, messages, dice.mostly(600, 16))
-        }
-        4 => {
-            let fm = dice.byte();
-            host.call_back(peer, pair, fm, dice.byte())
-        }
-        5 => host.interrupt(peer, pair),
-        _ => {
-            if dice.one_in(4) {
-                host.close(peer, pair)
-            } else {
-                host.echo(peer, dice.byte())
+            1 => {
+                let size = if dice.one_in(4) { dice.small(37) } else { 8 };
+                host.ask_send(peer, pair.local, pair.remote, size, dice.mostly(4096, 8))
             }
+            2 => host.ask_receive(peer, pair.local, pair.remote, dice.mostly(4096, 8)),
+            3 => {
+                let messages = u16::from(dice.small(4));
+                host.allocate(peer, pair, messages, dice.mostly(600, 16))
+            }
+            4 => {
+                let fm = dice.byte();
+                host.call_back(peer, pair, fm, dice.byte())
+            }
+            5 => host.interrupt(peer, pair),
+            _ => {
+                if dice.one_in(4) {
+                    host.close(peer, pair)
+                } else {
+                    host.echo(peer, dice.byte())
+                }
+            }
+        };
+        self.digest.mix(of_call(answer));
+    }
+
+    fn give(&mut self, host: &mut Host<PackedStore>, tried: Tried) {
+        let len = if self.dice.one_in(8) {
+            self.dice.size(1025)
+        } else {
+            LONGEST
+        };
+        fill(&mut self.dice, &mut self.buffer);
+        let bits = if self.dice.one_in(4) {
+            self.dice.size(9000)
+        } else {
+            8 * self.dice.size(40)
+        };
+        match Bits::from_bytes(&self.buffer[..len], bits) {
+            Ok(text) => self
+                .digest
+                .mix(of_call(host.give(tried.peer, tried.pair, &text))),
+            Err(fault) => self.digest.mix(of_bits(fault)),
         }
-    };
-    digest.mix(of_call(answer));
-}
-
-fn give(
-    digest: &mut Digest,
-    dice: &mut Dice,
-    host: &mut Host<PackedStore>,
-    buffer: &mut [u8; LONGEST],
-    peer: u8,
-    pair: Pair,
-) {
-    let len = if dice.one_in(8) {
-        dice.size(1025)
-    } else {
-        LONGEST
-    };
-    fill(dice, buffer);
-    let bits = if dice.one_in(4) {
-        dice.size(9000)
-    } else {
-        8 * dice.size(40)
-    };
-    match Bits::from_bytes(&buffer[..len], bits) {
-        Ok(text) => digest.mix(of_call(host.give(peer, pair, &text))),
-        Err(fault) => digest.mix(of_bits(fault)),
     }
-}
 
-fn take(digest: &mut Digest, dice: &mut Dice, host: &mut Host<PackedStore>, peer: u8, pair: Pair) {
-    match host.take(peer, pair, dice.pick(200) as u32) {
-        Ok(text) => {
-            digest.mix(0);
-            mix_bits(digest, &text);
+    fn take(&mut self, host: &mut Host<PackedStore>, tried: Tried) {
+        match host.take(tried.peer, tried.pair, self.dice.pick(200) as u32) {
+            Ok(text) => {
+                self.digest.mix(0);
+                mix_bits(&mut self.digest, &text);
+            }
+            Err(fault) => self.digest.mix(u64::from(fault.number())),
         }
-        Err(fault) => digest.mix(u64::from(fault.number())),
     }
-}
 
-fn read(
-    digest: &mut Digest,
-    dice: &mut Dice,
-    host: &Host<PackedStore>,
-    peer: u8,
-    pair: Pair,
-    which: u64,
-) {
-    match which {
-        9 => state(digest, host, peer, pair),
-        10 => counts(digest, host, peer),
-        11 => phase(digest, host, peer),
-        12 => echoed(digest, host, peer),
-        13 => error(digest, host, peer, dice.size(18)),
-        14 => ignored(digest, host),
-        15 => waiting(digest, host, peer, dice.pick(4) as u32),
-        _ => kept(digest, host, peer, dice.small(5)),
+    fn read(&mut self, host: &Host<PackedStore>, tried: Tried, which: u64) {
+        let Tried { peer, pair } = tried;
+        let digest = &mut self.digest;
+        match which {
+            9 => state(digest, host, peer, pair),
+            10 => counts(digest, host, peer),
+            11 => phase(digest, host, peer),
+            12 => echoed(digest, host, peer),
+            13 => error(digest, host, peer, self.dice.size(18)),
+            14 => ignored(digest, host),
+            15 => waiting(digest, host, peer, self.dice.pick(4) as u32),
+            _ => kept(digest, host, peer, self.dice.small(5)),
+        }
     }
-}
 
-// A peer of one of the hosts, mostly.
-fn peer_for(dice: &mut Dice, me: u8) -> u8 {
-    if dice.one_in(8) {
-        return dice.byte();
+    // A peer of one of the hosts, mostly.
+    fn peer_for(&mut self, me: u8) -> u8 {
+        if self.dice.one_in(8) {
+            return self.dice.byte();
+        }
+        if me == B {
+            return A;
+        }
+        if self.dice.one_in(4) { C } else { B }
     }
-    if me == B {
-        return A;
-    }
-    if dice.one_in(4) { C } else { B }
-}
 
-// A step at one of the hosts.
-fn step_at(
-    digest: &mut Digest,
-    dice: &mut Dice,
-    buffer: &mut [u8; LONGEST],
-    me: u8,
-    host: &mut Host<PackedStore>,
-    other: &mut Host<PackedStore>,
-) {
-    let peer = peer_for(dice, me);
-    let sockets = 2 + 2 * dice.pick(3) as u32;
-    let local = sockets + dice.pick(2) as u32;
-    let remote = sockets.wrapping_add(dice.mostly(2, 64));
-    let pair = Pair { local, remote };
-    let which = dice.pick(32);
-    match which {
-        0..=6 => ask(digest, dice, host, peer, pair, which),
-        7 => give(digest, dice, host, buffer, peer, pair),
-        8 => take(digest, dice, host, peer, pair),
-        9..=16 => read(digest, dice, host, peer, pair, which),
-        17..=19 => feed(digest, dice, host, buffer, peer),
-        _ => carry(digest, dice, host, me, other),
+    // A connection of one of the hosts, mostly.
+    fn tried_for(&mut self, me: u8) -> Tried {
+        let peer = self.peer_for(me);
+        let sockets = 2 + 2 * self.dice.pick(3) as u32;
+        let local = sockets + self.dice.pick(2) as u32;
+        let remote = sockets.wrapping_add(self.dice.mostly(2, 64));
+        Tried {
+            peer,
+            pair: Pair { local, remote },
+        }
+    }
+
+    // A step at one of the hosts.
+    fn step_at(&mut self, me: u8, host: &mut Host<PackedStore>, other: &mut Host<PackedStore>) {
+        let tried = self.tried_for(me);
+        let which = self.dice.pick(32);
+        match which {
+            0..=6 => self.ask(host, tried, which),
+            7 => self.give(host, tried),
+            8 => self.take(host, tried),
+            9..=16 => self.read(host, tried, which),
+            17..=19 => self.feed(host, tried.peer),
+            _ => self.carry(host, me, other),
+        }
     }
 }
 
@@ -262,36 +251,23 @@ impl Play {
         Ok(Play {
             first: Host::new(alloc, A, &PEERS_OF_A)?,
             second: Host::new(alloc, B, &[A])?,
-            dice: Dice::new(),
-            digest: Digest::new(),
-            buffer: [0; LONGEST],
+            table: Table {
+                dice: Dice::new(),
+                digest: Digest::new(),
+                buffer: [0; LONGEST],
+            },
         })
     }
 
     pub fn digest(&self) -> u64 {
-        self.digest.value()
+        self.table.digest.value()
     }
 
     pub fn step(&mut self) {
-        let on = self.dice.pick(2);
-        if on == 0 {
-            step_at(
-                &mut self.digest,
-                &mut self.dice,
-                &mut self.buffer,
-                A,
-                &mut self.first,
-                &mut self.second,
-            );
+        if self.table.dice.pick(2) == 0 {
+            self.table.step_at(A, &mut self.first, &mut self.second);
         } else {
-            step_at(
-                &mut self.digest,
-                &mut self.dice,
-                &mut self.buffer,
-                B,
-                &mut self.second,
-                &mut self.first,
-            );
+            self.table.step_at(B, &mut self.second, &mut self.first);
         }
     }
 }

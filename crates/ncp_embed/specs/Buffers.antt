@@ -1,0 +1,85 @@
+-- Messages and commands over the front of a buffer of C. It has to have room for the longest: `SHORT_BUFFER` comes before all else,
+-- and then nothing changes.
+use Rattle.std.specs.Prelude.{◌≡◌, ℕ, Bool, List, length, Option, None, Some, Result, Ok, Err}
+use Rattle.ncp_terms.specs.declared.command.Command.{Command}
+use Rattle.ncp_terms.specs.declared.command.TheConstants.{LONGEST_COMMAND}
+use Rattle.ncp_model.specs.declared.pair.Pair.{Pair}
+use Rattle.ncp_model.specs.declared.call_fault.CallFault.{CallFault}
+use Rattle.ncp_model.specs.Peers.{Take}
+use Rattle.ncp_host.specs.Host.{Host, state_of}
+use Rattle.ncp_host.specs.Calls.{take_reply, waiting_at, kept_for}
+use Rattle.ncp_host.specs.Readiness.{IsNext}
+use Rattle.ncp_host.specs.Turns.{next_output}
+use Rattle.ncp_subnet.specs.Subnet.{Subnet}
+use Rattle.ncp_embed.specs.declared.handle.held.Held.{Held}
+use Rattle.ncp_embed.specs.declared.net.carried.Carried.{Carried}
+use Rattle.ncp_embed.specs.declared.codes.TheConstants.{LONGEST_MESSAGE, SHORT_BUFFER}
+use Rattle.ncp_embed.specs.Connected.{host_called}
+use Rattle.ncp_embed.specs.Exports.{held, code_in, host_changed_in, any_of, with_room, over, bytes_saved, message_over, size_of_message, command_over, size_of_command}
+use Rattle.ncp_embed.specs.SubnetExports.{changed_in}
+
+-- a code, where there is room
+abbrev pub message_code : List ℕ → ℕ → ℕ
+message_code out code = with_room LONGEST_MESSAGE out SHORT_BUFFER code
+
+abbrev pub command_code : List ℕ → ℕ → ℕ
+command_code out code = with_room LONGEST_COMMAND out SHORT_BUFFER code
+
+-- the host, or the subnet, after something, where there is room
+abbrev pub host_with_room : List ℕ → (Host → Host) → Option Held → Option Held
+host_with_room out after at = with_room LONGEST_MESSAGE out at (host_changed_in after at)
+
+abbrev pub subnet_with_room : List ℕ → (Subnet → Subnet) → Option Carried → Option Carried
+subnet_with_room out after at = with_room LONGEST_MESSAGE out at (changed_in after at)
+
+-- the message that was found, if one was, and how many bits it has
+abbrev pub message_put : Option (List Bool) → List ℕ → List ℕ
+message_put found out = with_room LONGEST_MESSAGE out out (any_of message_over found out)
+
+abbrev pub bits_put : Option (List Bool) → List ℕ → ℕ → ℕ
+bits_put found out bits = with_room LONGEST_MESSAGE out bits (any_of size_of_message found bits)
+
+-- the command that was found, if one was, and how many bytes it has
+abbrev pub command_put : Option Command → List ℕ → List ℕ
+command_put found out = with_room LONGEST_COMMAND out out (any_of command_over found out)
+
+abbrev pub bytes_put : Option Command → List ℕ → ℕ → ℕ
+bytes_put found out bytes = with_room LONGEST_COMMAND out bytes (any_of size_of_command found bytes)
+
+-- what is found of a host, if there is a host, and of a subnet, if there is one
+abbrev pub found_in_host : {A : Type 0} → (Host → Option A) → Option Held → Option A
+found_in_host reply None = None
+found_in_host reply (Some at) = reply at.host
+
+abbrev pub found_in_net : {A : Type 0} → (Subnet → Option A) → Option Carried → Option A
+found_in_net reply None = None
+found_in_net reply (Some at) = reply at.subnet
+
+-- the command that waits for a peer at a place, and the message that is kept on a link to it
+abbrev pub waiting_told : ℕ → ℕ → Host → Option Command
+waiting_told peer place h = waiting_at (state_of h peer) place
+
+abbrev pub kept_told : ℕ → ℕ → Host → Option (List Bool)
+kept_told peer link h = kept_for (state_of h peer) link
+
+-- what goes out next is the first message that is ready
+abbrev pub FirstIsReady : Option Held → Type 0
+FirstIsReady at = (h : Host) → at ≡ Some (held h) → IsNext (next_output h) h.peers
+
+-- a call that takes text: its code, the host after it, and the text, if it is not refused
+abbrev pub code_of_take : ℕ → Pair → ℕ → List ℕ → Option Held → ℕ
+code_of_take peer pair bytes out at = message_code out (code_in (take_reply peer pair bytes) at)
+
+abbrev pub host_after_take : ℕ → Pair → ℕ → List ℕ → Option Held → Option Held
+host_after_take peer pair bytes out at = with_room LONGEST_MESSAGE out at (host_called peer pair (Take bytes) at)
+
+abbrev pub answer_if_ok : {A : Type 0} → Result A CallFault → Option A
+answer_if_ok (Ok answer) = Some answer
+answer_if_ok (Err fault) = None
+
+abbrev pub taken_text : ℕ → Pair → ℕ → Option Held → Option (List Bool)
+taken_text peer pair bytes at = found_in_host (λ h. answer_if_ok (take_reply peer pair bytes h)) at
+
+-- a host as bytes, of whatever length
+abbrev pub saved_over : Option Held → List ℕ → List ℕ
+saved_over at out = over (bytes_saved at) (length (bytes_saved at)) out

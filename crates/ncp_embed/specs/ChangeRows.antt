@@ -1,0 +1,22 @@
+-- What changed of a connection, in rows: what was seen, what is there now, and what is told.
+use Rattle.std.specs.Prelude.{◌≡◌, true, None, Some}
+use Rattle.ncp_embed.specs.declared.changes.Changes.{Changes}
+use Rattle.ncp_embed.specs.declared.connection.Connection.{Connection}
+use Rattle.ncp_embed.specs.Changes.{no_connection, changes_between}
+
+abbrev pub TellsChanges : Connection → Connection → Changes → Type 0
+TellsChanges seen now changes = changes_between seen (Some now) ≡ changes
+
+-- it is there no more
+abbrev pub TellsEnding : Connection → Changes → Type 0
+TellsEnding seen changes = changes_between seen None ≡ changes
+
+-- it was asked for here, or by the peer, or by both
+abbrev pub asked_here : Connection
+asked_here = record no_connection { asked = true }
+
+abbrev pub asked_there : Connection
+asked_there = record no_connection { heard = true; link = 7 }
+
+abbrev pub both_asked : Connection
+both_asked = record no_connection { asked = true; heard = true; opened = true }

@@ -1,0 +1,48 @@
+-- What the first bits of a buffer of C do: they come to a host, are given to a connection, or are read. Where they are no bits, nothing
+-- changes.
+use Rattle.std.specs.Prelude.{ℕ, Bool, List, Option, None, Result, Ok, Err}
+use Rattle.ncp_bits.specs.declared.bits.BitsFault.{BitsFault}
+use Rattle.ncp_bits.specs.Bits.{read_bytes}
+use Rattle.ncp_numbers.specs.Bytes.{bytes_of}
+use Rattle.ncp_terms.specs.declared.command.Command.{Command}
+use Rattle.ncp_terms.specs.declared.fault.CommandFault.{CommandFault}
+use Rattle.ncp_control.specs.Texts.{items_of}
+use Rattle.ncp_control.specs.Reading.{commands_in, fault_in}
+use Rattle.ncp_model.specs.declared.pair.Pair.{Pair}
+use Rattle.ncp_model.specs.Peers.{Give}
+use Rattle.ncp_host.specs.Arrivals.{after_received}
+use Rattle.ncp_embed.specs.declared.handle.held.Held.{Held}
+use Rattle.ncp_embed.specs.declared.told.Arrived.{Arrived}
+use Rattle.ncp_embed.specs.Commands.{command_of_message}
+use Rattle.ncp_embed.specs.Connected.{code_of_call, host_called}
+use Rattle.ncp_embed.specs.Exports.{host_changed_in, code_of_bits, after_bits_read, code_if_any, arrived_in}
+use Rattle.ncp_embed.specs.Buffers.{command_code}
+
+-- they come to the host: the host after them, and what is told of them
+
+abbrev pub host_after_bits : Result (List Bool) BitsFault → Option Held → Option Held
+host_after_bits read at = after_bits_read read (λ came. host_changed_in (after_received came) at) at
+
+abbrev pub arrived_from_bits : Result (List Bool) BitsFault → Option Held → Arrived → Arrived
+arrived_from_bits read at out = after_bits_read read (λ came. arrived_in came at out) out
+
+-- they are given to the connection between two sockets
+
+abbrev pub code_of_give : ℕ → Pair → List ℕ → ℕ → Option Held → ℕ
+code_of_give peer pair bytes bits at = code_of_bits (read_bytes bytes bits) (λ text. code_of_call peer pair (Give text) at)
+
+abbrev pub host_after_give : ℕ → Pair → List ℕ → ℕ → Option Held → Option Held
+host_after_give peer pair bytes bits at = after_bits_read (read_bytes bytes bits) (λ text. host_called peer pair (Give text) at) at
+
+-- they are a message of which the command at a place is read
+
+abbrev pub code_of_command : Result (List Bool) BitsFault → ℕ → List ℕ → ℕ
+code_of_command read place out = code_of_bits read (λ came. command_code out (code_if_any (command_of_message came place)))
+
+abbrev pub command_read : Result (List Bool) BitsFault → ℕ → Option Command
+command_read (Ok came) place = command_of_message came place
+command_read (Err fault) place = None
+
+-- the commands of a control text, and its fault behind them
+abbrev pub items_read : List Bool → List (Result Command CommandFault)
+items_read text = items_of (commands_in (bytes_of text)) (fault_in (bytes_of text))
