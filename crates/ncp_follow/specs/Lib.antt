@@ -6,3 +6,4 @@ pub mod Slots
 pub mod Tables
 pub mod Followed
 pub mod Examples
+pub mod ConnectionRows

@@ -101,10 +101,15 @@ impl Follower {
         }
     }
 
-    // A message goes out.
-    fn hear_out(&mut self, number: u32, at: u8, peer: u8, link: u8, message: &Bits)
-        ensures { self.new ≡ follower_after_out number at peer link message.now self.old }
+    // A message with this leader goes out.
+    fn hear_out(&mut self, number: u32, at: u8, leader: &Leader, message: &Bits)
+        ensures { self.new ≡ follower_after_out number at leader.now.host leader.now.link message.now self.old }
     {
+        let Leader {
+            host: peer,
+            link,
+            ..
+        } = *leader;
         if self.outs.send(at, peer, link, message) {
             return;
         }
@@ -130,31 +135,25 @@ impl Follower {
         self.hear_message(&turn, message);
     }
 
-    // A message with this leader.
-    fn hear_leader(&mut self, number: u32, sent: bool, at: u8, leader: &Leader, message: &Bits)
-        ensures { self.new ≡ after_leader number sent at leader.now message.now self.old }
+    /// A record with this number: a message that went out of a host, or came to it.
+    pub fn hear(&mut self, number: u32, sent: bool, at: u8, message: &Bits)
+        ensures { self.new ≡ follower_after_record number sent at message.now self.old }
     {
+        let Ok(leader) = read_leader(message) else {
+            return;
+        };
         let peer = leader.host;
         if peer == at {
             return;
         }
         if leader.kind == REGULAR {
             if sent {
-                self.hear_out(number, at, peer, leader.link, message);
+                self.hear_out(number, at, &leader, message);
             } else {
                 self.hear_in(number, at, peer, message);
             }
         } else if !sent && is_answer(leader.kind) {
             self.outs.answer(at, peer, leader.link, leader.kind == RFNM);
-        }
-    }
-
-    /// A record with this number: a message that went out of a host, or came to it.
-    pub fn hear(&mut self, number: u32, sent: bool, at: u8, message: &Bits)
-        ensures { self.new ≡ follower_after_record number sent at message.now self.old }
-    {
-        if let Ok(leader) = read_leader(message) {
-            self.hear_leader(number, sent, at, &leader, message);
         }
     }
 }

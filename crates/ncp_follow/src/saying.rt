@@ -126,20 +126,16 @@ fn hear_items(turn: &Turn, text: Part<'_>, session: Session, tables: &mut Tables
     session
 }
 
-// A text.
-fn hear_text(
-    turn: &Turn,
-    link: u8,
-    size: u8,
-    text: Part<'_>,
-    session: Session,
-    tables: &mut Tables,
-) -> Session
-    ensures session { result ≡ text_session turn.now link text.entry session tables.old }
-    ensures tables { tables.new ≡ text_tables turn.now link size text.entry session tables.old }
+// A message whose text is one of a connection, or of none.
+fn hear_text(turn: &Turn, regular: &Regular<'_>, session: Session, tables: &mut Tables) -> Session
+    ensures session { result ≡ text_session turn.now regular.now.leader.link regular.now.text session tables.old }
+    ensures tables { tables.new ≡ text_tables turn.now regular.now.leader.link regular.now.size regular.now.text session tables.old }
 {
+    let text = regular.text();
     let bits = text.len() as u32;
-    if session.is_heard(turn.sent) && tables.say(turn, link, size, text) {
+    if session.is_heard(turn.sent)
+        && tables.say(turn, regular.leader().link, regular.size(), text)
+    {
         session
     } else {
         session.with_stray(turn.sent, bits)
@@ -176,14 +172,7 @@ pub(crate) fn hear_regular(
 {
     match reading_of(regular) {
         Reading::Nothing => session,
-        Reading::Text => hear_text(
-            turn,
-            regular.leader().link,
-            regular.size(),
-            regular.text(),
-            session,
-            tables,
-        ),
+        Reading::Text => hear_text(turn, regular, session, tables),
         Reading::Control => hear_items(turn, regular.text(), session, tables),
     }
 }

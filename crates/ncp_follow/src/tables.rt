@@ -106,19 +106,14 @@ impl Tables {
         }
     }
 
-    // A request for a connection, by its place.
-    fn ask_at(
-        &mut self,
-        turn: &Turn,
-        local: u32,
-        remote: u32,
-        request: Request,
-        place: Option<usize>,
-    )
-        requires { IfSome place (λ p. p < length self.old.lives) }
-        ensures { self.new ≡ asked_at turn.now local remote request self.old place }
+    // A request for a connection between a socket of the host and one of the other.
+    fn request(&mut self, turn: &Turn, local: u32, remote: u32, request: Request)
+        ensures { self.new ≡ after_request turn.now local remote request self.old }
     {
-        let Some(place) = place else {
+        if self.is_taken(turn, local, request) {
+            return;
+        }
+        let Some(place) = self.lives.place_of_pair(turn.at, turn.peer, local, remote) else {
             let new = Life::new(turn.at, turn.peer, local, remote);
             self.lives.push(new.with_request(request));
             return;
@@ -128,17 +123,6 @@ impl Tables {
             return;
         }
         self.put(turn, place, life.with_request(request));
-    }
-
-    // A request for a connection between a socket of the host and one of the other.
-    fn request(&mut self, turn: &Turn, local: u32, remote: u32, request: Request)
-        ensures { self.new ≡ after_request turn.now local remote request self.old }
-    {
-        if self.is_taken(turn, local, request) {
-            return;
-        }
-        let place = self.lives.place_of_pair(turn.at, turn.peer, local, remote);
-        self.ask_at(turn, local, remote, request, place);
     }
 
     /// An RTS or an STR.
