@@ -194,7 +194,8 @@ pub(crate) fn status_after(answer: &Result<bool, PlayFault>) -> u8
 
 /// Tells the fault of an answer, if it has one, and gives the status after it.
 pub(crate) fn conclude<E: Sink>(answer: Result<bool, PlayFault>, errors: &mut E) -> u8
-    ensures told { TellsFault answer (telling_of (E.written errors.old) (E.has_failed errors.old)) (telling_of (E.written errors.new) (E.has_failed errors.new)) }
+    ensures told { TellsFault answer (telling_of (E.written errors.old) (E.has_failed errors.old))
+        (telling_of (E.written errors.new) (E.has_failed errors.new)) }
     ensures status { result ≡ status_after answer }
 {
     match answer {

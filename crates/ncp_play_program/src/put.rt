@@ -7,7 +7,8 @@ use ncp_play_stream::{Failed, Sink};
 /// Writes all bytes of a piece. Where that fails a beginning of them was written.
 pub(crate) fn put<W: Sink>(sink: &mut W, piece: &[u8]) -> Result<(), Failed>
     ensures ok { OnOk result (Appends (W.written sink.old) (W.written sink.new) piece.now) }
-    ensures err { OnErr result ((count : ℕ) × Appends (W.written sink.old) (W.written sink.new) (take count piece.now)) }
+    ensures err { OnErr result ((count : ℕ)
+        × Appends (W.written sink.old) (W.written sink.new) (take count piece.now)) }
     ensures mark { W.has_failed sink.new ≡ (W.has_failed sink.old || is_err result) }
 {
     let mut done = 0;

@@ -9,7 +9,7 @@ use crate::origin::Origin;
 use crate::output::Output;
 use crate::program::{carry_out, conclude, status_after};
 use crate::put::put;
-use crate::telling::explained;
+use crate::telling::{Context, explained};
 use crate::watched::Watched;
 use anyhow::Result;
 use ncp_play_command_line::{Order, request};
@@ -43,8 +43,8 @@ fn plays(order: Order) -> bool {
 }
 
 // Tells what is wrong behind the line of a fault, as far as there is memory for it.
-fn tell_more<E: Sink>(alloc: Global, order: Order, kept: &Kept, fault: PlayFault, errors: &mut E) {
-    if let Ok(text) = explained(alloc, order, kept, fault) {
+fn tell_more<E: Sink>(alloc: Global, context: &Context<'_>, fault: PlayFault, errors: &mut E) {
+    if let Ok(text) = explained(alloc, context, fault) {
         let _untold = put(errors, text.as_bytes());
     }
 }
@@ -53,8 +53,7 @@ fn tell_more<E: Sink>(alloc: Global, order: Order, kept: &Kept, fault: PlayFault
 // more what is written, nothing is told.
 fn finish<O: Write, E: Sink>(
     alloc: Global,
-    order: Order,
-    kept: &Kept,
+    context: &Context<'_>,
     answer: Result<bool, PlayFault>,
     output: &Output<O>,
     errors: &mut E,
@@ -66,7 +65,7 @@ fn finish<O: Write, E: Sink>(
     }
     let status = conclude(answer, errors);
     if let Err(fault) = answer {
-        tell_more(alloc, order, kept, fault, errors);
+        tell_more(alloc, context, fault, errors);
     }
     status
 }
@@ -103,7 +102,11 @@ where
         }
     };
     let answer = carry_out(alloc, request.order, request.word, source, output);
-    ExitCode::from(finish(alloc, request.order, &source.kept, answer, output, errors))
+    let context = Context {
+        order: request.order,
+        kept: &source.kept,
+    };
+    ExitCode::from(finish(alloc, &context, answer, output, errors))
 }
 
 // The file that the words name, if they name one that is to be read; and whether it is a script.

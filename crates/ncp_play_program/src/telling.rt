@@ -159,13 +159,20 @@ fn of_file(
     }
 }
 
+/// What a fault is explained by: what was to be done, and what is kept of what was read.
+#[derive(Drop)]
+pub(crate) struct Context<'a> {
+    pub order: Order,
+    pub kept: &'a Kept,
+}
+
 /// What is told of a fault behind its line, each line indented.
 pub(crate) fn explained(
     alloc: Global,
-    order: Order,
-    kept: &Kept,
+    context: &Context<'_>,
     fault: PlayFault,
 ) -> Result<String, AllocError> {
+    let (order, kept) = (context.order, context.kept);
     match fault {
         PlayFault::BadLine(number) => of_line(alloc, order, kept, number),
         PlayFault::BadHosts => of_first_line(alloc, order, kept),

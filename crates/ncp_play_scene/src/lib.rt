@@ -16,6 +16,5 @@ mod teller;
 
 pub use first_line::find_first;
 pub use player::play_first;
-pub use playing::play_event;
 pub use scene::Scene;
 pub use teller::Teller;

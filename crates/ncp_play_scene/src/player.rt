@@ -9,7 +9,7 @@ ghost use Rattle.ncp_play_scene.specs.Playing.{Tells, TellsAs};
 ghost use Rattle.ncp_play_scene.specs.Players.{PlaysNext, PlaysLines, WritesAs, AnswersGood, PlaysBehind, PlaysScript};
 
 use crate::next_event::next_event;
-use crate::playing::play_on;
+use crate::playing::{Player, play_on};
 use crate::scene::Scene;
 use crate::teller::Teller;
 use ncp_play_notes::PlayFault;
@@ -19,16 +19,8 @@ use ncp_play_script::Words;
 use ncp_play_stream::{Sink, Source};
 use std::alloc::Global;
 
-// Hosts that are played, and the number of the note that is told next.
-#[derive(Drop)]
-struct Player<C: Scene> {
-    hosts: C::Hosts,
-    number: u32,
-}
-
 // Plays the next line, and answers whether others may follow.
 fn play_next<C: Scene, T: Teller<C>, R: Source, W: Sink>(
-    alloc: Global,
     first: &C::First,
     script: &mut Script<'_, R>,
     player: &mut Player<C>,
@@ -45,23 +37,15 @@ fn play_next<C: Scene, T: Teller<C>, R: Source, W: Sink>(
     ensures same_script { SameScript script.old script.new }
     ensures same_outlet { SameOutlet out.old out.new }
 {
-    let Some((event, ended)) = next_event::<C, R>(alloc, first, script)? else {
+    let Some((event, ended)) = next_event::<C, R>(player.alloc, first, script)? else {
         return Ok(false);
     };
-    play_on::<C, T, W>(
-        first,
-        &mut player.hosts,
-        &event,
-        &mut player.number,
-        script.lines,
-        out,
-    )?;
+    play_on::<C, T, W>(first, player, &event, script.lines, out)?;
     Ok(ended)
 }
 
 // Plays the lines that are to come.
 fn play_lines<C: Scene, T: Teller<C>, R: Source, W: Sink>(
-    alloc: Global,
     first: &C::First,
     script: &mut Script<'_, R>,
     player: &mut Player<C>,
@@ -77,14 +61,13 @@ fn play_lines<C: Scene, T: Teller<C>, R: Source, W: Sink>(
     ensures same_script { SameScript script.old script.new }
     ensures same_outlet { SameOutlet out.old out.new }
 {
-    while play_next::<C, T, R, W>(alloc, first, script, player, out)? {}
+    while play_next::<C, T, R, W>(first, script, player, out)? {}
     Ok(())
 }
 
 // Plays the lines behind the first: there are none where no LF ended it. What is told before all notes goes out before
 // a line is waited for.
 fn play_rest<C: Scene, T: Teller<C>, R: Source, W: Sink>(
-    alloc: Global,
     first: &C::First,
     ended: bool,
     script: &mut Script<'_, R>,
@@ -107,14 +90,13 @@ fn play_rest<C: Scene, T: Teller<C>, R: Source, W: Sink>(
         return Ok(());
     }
     match let_out(script.lines, out) {
-        Ok(()) => play_lines::<C, T, R, W>(alloc, first, script, player, out),
+        Ok(()) => play_lines::<C, T, R, W>(first, script, player, out),
         Err(_) => Err(PlayFault::WriteFailed),
     }
 }
 
 // Plays the lines behind the first, and answers whether no call was refused.
 fn play_all<C: Scene, T: Teller<C>, R: Source, W: Sink>(
-    alloc: Global,
     first: &C::First,
     ended: bool,
     script: &mut Script<'_, R>,
@@ -135,7 +117,7 @@ fn play_all<C: Scene, T: Teller<C>, R: Source, W: Sink>(
     ensures same_script { SameScript script.old script.new }
     ensures same_outlet { SameOutlet out.old out.new }
 {
-    let played = play_rest::<C, T, R, W>(alloc, first, ended, script, player, out);
+    let played = play_rest::<C, T, R, W>(first, ended, script, player, out);
     let good = !C::any_refusal(&player.hosts);
     played?;
     Ok(good)
@@ -181,7 +163,8 @@ fn play_behind<C: Scene, T: Teller<C>, R: Source, W: Sink>(
     ensures unread { ended ≡ false → play_read_failed result ≡ false }
     ensures read_failed { play_read_failed result ≡ true → is_cut_off R.Source script.new ≡ true }
     ensures write_failed { W.has_failed sink.new ≡ play_write_failed result }
-    ensures blamed { is_cut_off R.Source script.new ≡ true → (play_read_failed result || play_write_failed result) ≡ true }
+    ensures blamed { is_cut_off R.Source script.new ≡ true
+        → (play_read_failed result || play_write_failed result) ≡ true }
     ensures same_script { SameScript script.old script.new }
 {
     let mut page = Page::new();
@@ -193,8 +176,12 @@ fn play_behind<C: Scene, T: Teller<C>, R: Source, W: Sink>(
     let Ok(hosts) = C::begin(alloc, first) else {
         return finish::<C, W>(&mut out, Err(PlayFault::OutOfMemory));
     };
-    let mut player = Player::<C> { hosts, number: 1 };
-    let played = play_all::<C, T, R, W>(alloc, first, ended, script, &mut player, &mut out);
+    let mut player = Player::<C> {
+        alloc,
+        hosts,
+        number: 1,
+    };
+    let played = play_all::<C, T, R, W>(first, ended, script, &mut player, &mut out);
     finish::<C, W>(&mut out, played)
 }
 

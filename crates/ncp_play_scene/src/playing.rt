@@ -11,60 +11,66 @@ use ncp_play_notes::PlayFault;
 use ncp_play_page::Outlet;
 use ncp_play_reader::{Lines, let_out};
 use ncp_play_stream::Sink;
+use std::alloc::Global;
 
-// Does the next part of an event, which has left so many notes, and says what is told of the note that it leaves, which
-// has this number; then the number is that of the next note. It answers whether the event goes on.
+/// Hosts that are played, the number of the note that is told next, and where memory is taken.
+#[derive(Drop)]
+pub(crate) struct Player<C: Scene> {
+    pub alloc: Global,
+    pub hosts: C::Hosts,
+    pub number: u32,
+}
+
+// Does the next part of an event, which has left so many notes, and says what is told of the note that it leaves. It
+// answers whether the event goes on.
 fn play_part<C: Scene, T: Teller<C>, W: Sink>(
     first: &C::First,
-    hosts: &mut C::Hosts,
+    player: &mut Player<C>,
     event: &C::Event,
     left: usize,
-    number: &mut u32,
     out: &mut Outlet<'_, W>,
 ) -> Result<bool, PlayFault>
-    ensures part { DoesPart C.rules event.now left hosts.old result hosts.new }
+    ensures part { DoesPart C.rules event.now left player.old.hosts result player.new.hosts }
     ensures told { (began : C.Hosts) (was : List ℕ)
-        → Tells C.rules (T.tale first.now) began was hosts.old number.old out.old.page.now (written_by W.Sink out.old)
-        → TellsAs C.rules (T.tale first.now) began was hosts.new result number.new out.new.page.now (written_by W.Sink out.new) }
-    ensures room { IfOk result (λ more. more ≡ true → length (C.rules.notes hosts.new) < 2 ^ 64) }
+        → Tells C.rules (T.tale first.now) began was player.old.hosts player.old.number out.old.page.now (written_by W.Sink out.old)
+        → TellsAs C.rules (T.tale first.now) began was player.new.hosts result player.new.number out.new.page.now (written_by W.Sink out.new) }
+    ensures room { IfOk result (λ more. more ≡ true → length (C.rules.notes player.new.hosts) < 2 ^ 64) }
     ensures writes { credit W.Sink out.old ≤ credit W.Sink out.new + lost_pieces (play_write_failed result) }
     ensures mark { write_failed W.Sink out.new ≡ (write_failed W.Sink out.old || play_write_failed result) }
     ensures same_outlet { SameOutlet out.old out.new }
 {
-    let Ok(more) = C::step(hosts, event, left) else {
+    let Ok(more) = C::step(&mut player.hosts, event, left) else {
         return Err(PlayFault::OutOfMemory);
     };
-    match T::say(first, hosts, *number, out) {
+    match T::say(first, &player.hosts, player.number, out) {
         Ok(()) => {
-            *number = number.saturating_add(1);
+            player.number = player.number.saturating_add(1);
             Ok(more)
         }
         Err(_) => Err(PlayFault::WriteFailed),
     }
 }
 
-/// Does what an event says in a script of this first line, and says what is told of each note that it leaves, the first
-/// of which has this number; then the number is that of the next note.
-///
-/// After `OutOfMemory` the event was done up to the note for which there was none: where it leaves one, nothing has happened;
-/// after `WriteFailed` the event was done so far, and a beginning of all that is told is written.
-pub fn play_event<C: Scene, T: Teller<C>, W: Sink>(
+// Does what an event says in a script of this first line, and says what is told of each note that it leaves.
+//
+// After `OutOfMemory` the event was done up to the note for which there was none: where it leaves one, nothing has happened;
+// after `WriteFailed` the event was done so far, and a beginning of all that is told is written.
+fn play_event<C: Scene, T: Teller<C>, W: Sink>(
     first: &C::First,
-    hosts: &mut C::Hosts,
+    player: &mut Player<C>,
     event: &C::Event,
-    number: &mut u32,
     out: &mut Outlet<'_, W>,
 ) -> Result<(), PlayFault>
-    ensures event { DoesEvent C.rules event.now hosts.old result hosts.new }
+    ensures event { DoesEvent C.rules event.now player.old.hosts result player.new.hosts }
     ensures told { (began : C.Hosts) (was : List ℕ)
-        → Tells C.rules (T.tale first.now) began was hosts.old number.old out.old.page.now (written_by W.Sink out.old)
-        → TellsAs C.rules (T.tale first.now) began was hosts.new result number.new out.new.page.now (written_by W.Sink out.new) }
+        → Tells C.rules (T.tale first.now) began was player.old.hosts player.old.number out.old.page.now (written_by W.Sink out.old)
+        → TellsAs C.rules (T.tale first.now) began was player.new.hosts result player.new.number out.new.page.now (written_by W.Sink out.new) }
     ensures writes { credit W.Sink out.old ≤ credit W.Sink out.new + lost_pieces (play_write_failed result) }
     ensures mark { write_failed W.Sink out.new ≡ (write_failed W.Sink out.old || play_write_failed result) }
     ensures same_outlet { SameOutlet out.old out.new }
 {
     let mut left = 0;
-    while play_part::<C, T, W>(first, hosts, event, left, number, out)? {
+    while play_part::<C, T, W>(first, player, event, left, out)? {
         left += 1;
     }
     Ok(())
@@ -73,20 +79,19 @@ pub fn play_event<C: Scene, T: Teller<C>, W: Sink>(
 /// Plays an event as [`play_event`] does. Where the next line has still to be read, all that is told is written.
 pub(crate) fn play_on<C: Scene, T: Teller<C>, W: Sink>(
     first: &C::First,
-    hosts: &mut C::Hosts,
+    player: &mut Player<C>,
     event: &C::Event,
-    number: &mut u32,
     lines: &Lines,
     out: &mut Outlet<'_, W>,
 ) -> Result<(), PlayFault>
-    ensures event { DoesEvent C.rules event.now hosts.old result hosts.new }
+    ensures event { DoesEvent C.rules event.now player.old.hosts result player.new.hosts }
     ensures told { (began : C.Hosts) (was : List ℕ)
-        → Tells C.rules (T.tale first.now) began was hosts.old number.old out.old.page.now (written_by W.Sink out.old)
-        → TellsAs C.rules (T.tale first.now) began was hosts.new result number.new out.new.page.now (written_by W.Sink out.new) }
+        → Tells C.rules (T.tale first.now) began was player.old.hosts player.old.number out.old.page.now (written_by W.Sink out.old)
+        → TellsAs C.rules (T.tale first.now) began was player.new.hosts result player.new.number out.new.page.now (written_by W.Sink out.new) }
     ensures mark { write_failed W.Sink out.new ≡ (write_failed W.Sink out.old || play_write_failed result) }
     ensures same_outlet { SameOutlet out.old out.new }
 {
-    match play_event::<C, T, W>(first, hosts, event, number, out) {
+    match play_event::<C, T, W>(first, player, event, out) {
         Ok(()) => match let_out(lines, out) {
             Ok(()) => Ok(()),
             Err(_) => Err(PlayFault::WriteFailed),

@@ -16,12 +16,12 @@ pub returns-in_err-play_on-clause-events : goal.returns-in_err-play_on-clause-ev
 returns-in_err-play_on-clause-events g c = λ bytes ahead.
     let p = err_from_is_err_and c.from_residual-in_err-play_on.result c.from_residual-in_err-play_on.ensures.1 in
     rw (p.1, p.2) (
-    event_err g.C.Scene.rules c.args.first.now c.args.script.now.lines.now.number bytes c.args.player.now.hosts c.in-Some.event c.in-Some.ended c.next_event.new.script.lines.now (g.R.Source.left c.next_event.new.script.source.now) c.play_on.new.hosts c.in_err-play_on.field-0.0
+    event_err g.C.Scene.rules c.args.first.now c.args.script.now.lines.now.number bytes c.args.player.now.hosts c.in-Some.event c.in-Some.ended c.next_event.new.script.lines.now (g.R.Source.left c.next_event.new.script.source.now) c.play_on.new.player.hosts c.in_err-play_on.field-0.0
     (rw c.in-Some.is at (c.in_ok-event.ensures.told bytes ahead)) c.in_err-play_on.ensures.event)
 
 pub returns-clause-events : goal.returns-clause-events
 returns-clause-events g c = λ bytes ahead.
-    event_ok g.C.Scene.rules c.args.first.now c.args.script.now.lines.now.number bytes c.args.player.now.hosts c.in-Some.event c.in-Some.ended c.next_event.new.script.lines.now (g.R.Source.left c.next_event.new.script.source.now) c.play_on.new.hosts
+    event_ok g.C.Scene.rules c.args.first.now c.args.script.now.lines.now.number bytes c.args.player.now.hosts c.in-Some.event c.in-Some.ended c.next_event.new.script.lines.now (g.R.Source.left c.next_event.new.script.source.now) c.play_on.new.player.hosts
     (rw c.in-Some.is at (c.in_ok-event.ensures.told bytes ahead)) c.in_ok-play_on.ensures.event
 
 pub returns-in_err-event-clause-told : goal.returns-in_err-event-clause-told
@@ -36,7 +36,7 @@ pub returns-in_err-play_on-clause-told : goal.returns-in_err-play_on-clause-told
 returns-in_err-play_on-clause-told g c = λ began was told.
     let p = err_from_is_err_and c.from_residual-in_err-play_on.result c.from_residual-in_err-play_on.ensures.1 in
     rw (p.1, p.2) (
-    tells_err g.C.Scene.rules (g.T.Teller.tale c.args.first.now) began was c.play_on.new.hosts (Unit {0}) Bool c.play_on.new.number c.play_on.new.out.page.now (g.W.Sink.written c.play_on.new.out.sink.now) c.in_err-play_on.field-0.0
+    tells_err g.C.Scene.rules (g.T.Teller.tale c.args.first.now) began was c.play_on.new.player.hosts (Unit {0}) Bool c.play_on.new.player.number c.play_on.new.out.page.now (g.W.Sink.written c.play_on.new.out.sink.now) c.in_err-play_on.field-0.0
     (c.in_err-play_on.ensures.told began was told))
 
 pub returns-clause-told : goal.returns-clause-told

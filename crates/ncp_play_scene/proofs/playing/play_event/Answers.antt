@@ -7,14 +7,14 @@ use Rattle.ncp_play_scene.proofs.playing.play_event.Goals as goal
 
 pub loop-left-preserved : goal.loop-left-preserved
 loop-left-preserved g c =
-    let rules = g.C.Scene.rules in let mid = c.loop-left.hosts in let now = c.play_part.new.hosts in
+    let rules = g.C.Scene.rules in let mid = c.loop-left.player.hosts in let now = c.play_part.new.player.hosts in
     let one = g.met.C.Scene.noted_one c.args.event.now c.loop-left.left c.in_ok-play_part.field-0 mid now c.in_ok-play_part.ensures.part in
     let longer = one_longer (rules.notes mid) (rules.notes now) one.0 one.1 in
     let few = c.loop-left.invariant.few in
     let before = c.loop-left.invariant.writes in
     let behind = c.in_ok-play_part.ensures.writes in
     record {
-      begun = part_more rules c.args.event.now c.loop-left.left c.in_ok-play_part.field-0 c.args.hosts.now mid now c.if-branch.true c.loop-left.invariant.begun c.in_ok-play_part.ensures.part;
+      begun = part_more rules c.args.event.now c.loop-left.left c.in_ok-play_part.field-0 c.args.player.now.hosts mid now c.if-branch.true c.loop-left.invariant.begun c.in_ok-play_part.ensures.part;
       told = λ began was told. c.in_ok-play_part.ensures.told began was (c.loop-left.invariant.told began was told);
       few = omega (arith, few, longer);
       writes = omega (arith, before, behind);
@@ -25,17 +25,17 @@ loop-left-preserved g c =
 pub returns-in_err-play_part-clause-event : goal.returns-in_err-play_part-clause-event
 returns-in_err-play_part-clause-event g c =
     let p = err_from_is_err_and c.from_residual.result c.from_residual.ensures.1 in
-    rw (p.1, p.2) (part_err g.C.Scene.rules c.args.event.now c.loop-left.left c.args.hosts.now c.loop-left.hosts c.play_part.new.hosts c.in_err-play_part.field-0.0 c.loop-left.invariant.begun c.in_err-play_part.ensures.part)
+    rw (p.1, p.2) (part_err g.C.Scene.rules c.args.event.now c.loop-left.left c.args.player.now.hosts c.loop-left.player.hosts c.play_part.new.player.hosts c.in_err-play_part.field-0.0 c.loop-left.invariant.begun c.in_err-play_part.ensures.part)
 
 pub returns-in_err-play_part-clause-told : goal.returns-in_err-play_part-clause-told
 returns-in_err-play_part-clause-told g c = λ began was told.
     let p = err_from_is_err_and c.from_residual.result c.from_residual.ensures.1 in
     rw (p.1, p.2) (
-    tells_err g.C.Scene.rules (g.T.Teller.tale c.args.first.now) began was c.play_part.new.hosts Bool (Unit {0}) c.play_part.new.number c.play_part.new.out.page.now (g.W.Sink.written c.play_part.new.out.sink.now) c.in_err-play_part.field-0.0
+    tells_err g.C.Scene.rules (g.T.Teller.tale c.args.first.now) began was c.play_part.new.player.hosts Bool (Unit {0}) c.play_part.new.player.number c.play_part.new.out.page.now (g.W.Sink.written c.play_part.new.out.sink.now) c.in_err-play_part.field-0.0
     (c.in_err-play_part.ensures.told began was (c.loop-left.invariant.told began was told)))
 
 pub returns-clause-event : goal.returns-clause-event
-returns-clause-event g c = part_last g.C.Scene.rules c.args.event.now c.loop-left.left c.in_ok-play_part.field-0 c.args.hosts.now c.loop-left.hosts c.play_part.new.hosts c.if-branch.false c.loop-left.invariant.begun c.in_ok-play_part.ensures.part
+returns-clause-event g c = part_last g.C.Scene.rules c.args.event.now c.loop-left.left c.in_ok-play_part.field-0 c.args.player.now.hosts c.loop-left.player.hosts c.play_part.new.player.hosts c.if-branch.false c.loop-left.invariant.begun c.in_ok-play_part.ensures.part
 
 pub returns-clause-told : goal.returns-clause-told
 returns-clause-told g c = λ began was told. c.in_ok-play_part.ensures.told began was (c.loop-left.invariant.told began was told)
