@@ -2,8 +2,7 @@
 
 use crate::conversions::{ANSWERS, PLACED};
 use crate::failures::{read_bytewise, write_piecemeal};
-use crate::shown::converted;
-use crate::streams::is_front;
+use crate::shown::{converted, is_front};
 use ncp_play_files::FileFault;
 use ncp_play_stream::{MemorySink, MemorySource};
 use std::alloc::Global;

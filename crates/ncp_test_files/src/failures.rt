@@ -1,10 +1,10 @@
 //! Reads and writes that fail, each in turn.
 
 use crate::conversions::PLACED;
-use crate::shown::{checked, shown};
-use crate::streams::{Bytewise, Piecemeal, is_front};
+use crate::shown::{checked, is_front, shown};
 use ncp_play_files::FileFault;
 use ncp_play_stream::{MemorySink, MemorySource, Sink, Source};
+use ncp_test_streams::{Bytewise, Piecemeal};
 use std::alloc::Global;
 use std::test::Fail;
 
@@ -29,6 +29,7 @@ const PLACED_COUNTS: &[u8] = b"messages=2 short=0 regular=0 faults=0 bad=0\n";
 pub(crate) fn read_bytewise(file: &[u8], fails_at: Option<u32>) -> Bytewise<'_> {
     Bytewise {
         source: MemorySource::new(file, fails_at),
+        is_slow: true,
     }
 }
 
@@ -36,6 +37,7 @@ pub(crate) fn read_bytewise(file: &[u8], fails_at: Option<u32>) -> Bytewise<'_> 
 pub(crate) fn write_piecemeal(alloc: Global, fails_at: Option<u32>) -> Result<Piecemeal, Fail> {
     Ok(Piecemeal {
         sink: MemorySink::new(alloc, ROOM, fails_at)?,
+        is_slow: true,
     })
 }
 

@@ -28,6 +28,4 @@ mod refused;
 #[cfg(test)]
 mod shown;
 #[cfg(test)]
-mod streams;
-#[cfg(test)]
 mod table;

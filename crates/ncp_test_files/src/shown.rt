@@ -36,3 +36,8 @@ pub(crate) fn converted<R: Source, W: Sink>(
     }
     Some(convert(source, sink, at))
 }
+
+/// Whether these bytes are the first `count` of a text.
+pub(crate) fn is_front(bytes: &[u8], count: usize, text: &[u8]) -> bool {
+    bytes.len() == count && text.starts_with(bytes)
+}

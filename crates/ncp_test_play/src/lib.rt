@@ -4,8 +4,6 @@
 #![tactic(auto)]
 
 #[cfg(test)]
-mod bytewise;
-#[cfg(test)]
 mod faults;
 #[cfg(test)]
 mod feed;

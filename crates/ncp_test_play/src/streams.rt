@@ -1,9 +1,9 @@
 //! A script that is played a byte at a time, or in one piece.
-use crate::bytewise::{Bytewise, Piecemeal};
 use ncp_bits::{BitStore, PackedStore};
 use ncp_play_host::play_host;
 use ncp_play_notes::PlayFault;
 use ncp_play_stream::{MemorySink, MemorySource, Sink, Source};
+use ncp_test_streams::{Bytewise, Piecemeal};
 use std::alloc::Global;
 use std::test::Fail;
 

@@ -1,9 +1,9 @@
 //! Reads and writes that fail in a feed, each in turn.
 use super::{ROOM, fed, fed_to_page};
-use crate::bytewise::{Bytewise, Piecemeal};
 use ncp_play_files::FileFault;
 use ncp_play_notes::PlayFault;
 use ncp_play_stream::{MemorySink, MemorySource, Sink, Source};
+use ncp_test_streams::{Bytewise, Piecemeal};
 use std::alloc::Global;
 use std::test::Fail;
 

@@ -1,11 +1,11 @@
 //! Plays and records scripts. Nothing is promised of it, so that the prover does not follow a page through a long
 //! test.
-use crate::bytewise::{Bytewise, Piecemeal};
 use crate::texts::joined;
 use ncp_bits::{PackedStore, PlainStore};
 use ncp_play_notes::PlayFault;
 use ncp_play_stream::{MemorySink, MemorySource, Sink, Source};
 use ncp_play_world::{play_world, record_world};
+use ncp_test_streams::{Bytewise, Piecemeal};
 use std::alloc::{AllocError, Global};
 use std::process::Abort;
 use std::test::Fail;

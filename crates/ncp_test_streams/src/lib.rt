@@ -1,11 +1,18 @@
-//! A source and a sink that move a byte at a time, if they are to.
+//! Streams of tests: a source and a sink in memory that move a byte at a time, if they are to. A reader or writer over
+//! them meets the end of a piece after each byte.
+//!
+//! - *Use:* `Bytewise { source: MemorySource::new(bytes, None), is_slow: true }`.
+//! - *Proved:* they keep what each source and each sink promises.
+//! - *Tests:* `ncp_test_files` and `ncp_test_play` read and write by them.
+#![tactic(auto)]
+
 use ncp_play_stream::{Failed, MemorySink, MemorySource, Sink, Source};
 
 /// Reads a byte at a time, if it is slow.
 #[derive(Drop)]
-pub(crate) struct Bytewise<'a> {
-    pub(crate) source: MemorySource<'a>,
-    pub(crate) is_slow: bool,
+pub struct Bytewise<'a> {
+    pub source: MemorySource<'a>,
+    pub is_slow: bool,
 }
 
 impl Source for Bytewise<'_> {
@@ -32,9 +39,9 @@ impl Source for Bytewise<'_> {
 
 /// Writes a byte at a time, if it is slow.
 #[derive(Drop)]
-pub(crate) struct Piecemeal {
-    pub(crate) sink: MemorySink,
-    pub(crate) is_slow: bool,
+pub struct Piecemeal {
+    pub sink: MemorySink,
+    pub is_slow: bool,
 }
 
 impl Sink for Piecemeal {
