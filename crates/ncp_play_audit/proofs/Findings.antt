@@ -10,7 +10,7 @@ use Rattle.ncp_play_files.specs.declared.file.Direction.{Direction}
 use Rattle.ncp_play_files.specs.declared.version.Version.{Version}
 use Rattle.ncp_play_files.specs.declared.version.Version.TheVariants.{One, Two}
 use Rattle.ncp_play_files.specs.Results.{is_read_failed, is_write_failed}
-use Rattle.ncp_play_files.specs.File.{version_of, ending, HoldsBy, IsCut}
+use Rattle.ncp_play_files.specs.File.{version_of, ending, HoldsBy}
 use Rattle.ncp_play_files.specs.Versions.{Recorded, next_in}
 use Rattle.ncp_play_files.specs.Steps.{Stops, ReadsVersion, SaysFile, SaysOfFile}
 use Rattle.ncp_play_files.proofs.Files.{version_of-short}

@@ -1,5 +1,5 @@
 -- What the parts of `audit` do to the bytes that are to come, to the text that was said, and to what is known.
-use Rattle.std.specs.Prelude.{◌≡◌, ℕ, ◌&&◌, Bool, true, List, ◌++◌, drop, Option, Some, None, is_some, Result, Ok, Err}
+use Rattle.std.specs.Prelude.{◌≡◌, ℕ, ◌&&◌, Bool, true, List, ◌++◌, Option, Some, None, is_some, Result, Ok, Err}
 use Rattle.ncp_play_files.specs.declared.file.FileFault.{FileFault}
 use Rattle.ncp_play_files.specs.declared.version.Version.TheVariants.{Two}
 use Rattle.ncp_play_files.specs.Results.{MatchFault}

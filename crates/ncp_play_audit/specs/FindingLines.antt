@@ -2,11 +2,11 @@
 -- the rule, and the words that show it.
 use Rattle.std.specs.Prelude.{ℕ, ◌&&◌, ◌||◌, not, Bool, true, false, List, [], ◌++◌, codes, decimal, if◌then◌else◌}
 use Rattle.ncp_leader.specs.Fault.{name_of_message_fault}
-use Rattle.ncp_play_page.specs.Lines.{field}
-use Rattle.ncp_play_files.specs.Lines.{bad_words}
+use Rattle.ncp_play_page.specs.Lines.{field, hex_of}
+use Rattle.ncp_play_files.specs.Lines.{command_words, bad_words}
 use Rattle.ncp_umpire.specs.declared.finding.Finding.{Finding}
 use Rattle.ncp_umpire.specs.declared.finding.Rule.{Rule}
-use Rattle.ncp_umpire.specs.declared.finding.Rule.TheVariants.{Short, OwnHost, Kind, Fault, WrongLink, WrongSize, Extras, Occupied, Changed, Stray, Unsent, FalseAnswer, Bad, Early, RstAgain, RrpUnasked, Unquiet, RrpFirst, MissingRrp}
+use Rattle.ncp_umpire.specs.declared.finding.Rule.TheVariants.{Short, OwnHost, Kind, Fault, WrongLink, WrongSize, Extras, Occupied, Changed, Stray, Unsent, FalseAnswer, Bad, Early, RstAgain, RrpUnasked, Unquiet, RrpFirst, MissingRrp, Missing, Skipped, EcoAgain, ErpUnasked, ErrUnjust, Sex, LinkRange, SizeZero, AskedAgain, Unended, LinkUsed, ClsUnknown, ClsAgain, TextOut}
 use Rattle.ncp_umpire.specs.declared.finding.Thing.{Thing}
 use Rattle.ncp_umpire.specs.declared.finding.Thing.TheVariants as a
 use Rattle.ncp_umpire.specs.declared.finding.Unsent.{Unsent as Why}
@@ -71,6 +71,20 @@ rule_words RrpUnasked = codes "rrp-unasked"
 rule_words (Unquiet reply link) = codes "unquiet " ++ unquiet_word reply ++ field (codes " link=") link
 rule_words RrpFirst = codes "rrp-first"
 rule_words MissingRrp = codes "missing RRP"
+rule_words (Missing c) = codes "missing " ++ command_words c
+rule_words (Skipped c) = codes "skipped " ++ command_words c
+rule_words (EcoAgain byte) = field (codes "eco-again ECO data=") byte
+rule_words (ErpUnasked byte) = field (codes "erp-unasked ERP data=") byte
+rule_words (ErrUnjust code bytes) = field (codes "err-unjust ERR code=") code ++ codes " data=" ++ hex_of bytes
+rule_words (Sex c) = codes "sex " ++ command_words c
+rule_words (LinkRange c) = codes "link-range " ++ command_words c
+rule_words (SizeZero c) = codes "size-zero " ++ command_words c
+rule_words (AskedAgain c) = codes "asked-again " ++ command_words c
+rule_words (Unended c) = codes "unended " ++ command_words c
+rule_words (LinkUsed c local remote) = codes "link-used " ++ command_words c ++ field (codes " by=") local ++ field (codes ",") remote
+rule_words (ClsUnknown c) = codes "cls-unknown " ++ command_words c
+rule_words (ClsAgain c) = codes "cls-again " ++ command_words c
+rule_words (TextOut c link) = codes "text-out " ++ command_words c ++ field (codes " link=") link
 
 abbrev pub finding_line : ℕ → ℕ → Finding → List ℕ
 finding_line number at finding = decimal number ++ field (codes " at=") at ++ who_words finding.who ++ codes " " ++ rule_words finding.rule ++ codes "\n"
@@ -97,6 +111,20 @@ is_standard RrpUnasked = true
 is_standard (Unquiet reply link) = false
 is_standard RrpFirst = false
 is_standard MissingRrp = false
+is_standard (Missing c) = false
+is_standard (Skipped c) = false
+is_standard (EcoAgain byte) = false
+is_standard (ErpUnasked byte) = true
+is_standard (ErrUnjust code bytes) = true
+is_standard (Sex c) = true
+is_standard (LinkRange c) = true
+is_standard (SizeZero c) = true
+is_standard (AskedAgain c) = true
+is_standard (Unended c) = true
+is_standard (LinkUsed c local remote) = false
+is_standard (ClsUnknown c) = true
+is_standard (ClsAgain c) = true
+is_standard (TextOut c link) = false
 
 -- a finding is told, unless the rules of the standard alone are asked for and it is none
 unfoldable pub is_told : Bool → Finding → Bool

@@ -1,3 +1,4 @@
+pub mod NumberedFields
 pub mod FindingLines
 pub mod Audited
 pub mod AuditSteps

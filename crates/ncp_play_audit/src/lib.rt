@@ -7,6 +7,7 @@
 #![tactic(auto)]
 
 mod auditing;
+mod command_words;
 mod finding_line;
 mod rule_words;
 mod rules;

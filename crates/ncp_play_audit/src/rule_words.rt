@@ -1,15 +1,17 @@
 //! The words of a rule that was broken.
 ghost use Rattle.std.specs.Prelude.{◌≡◌, ◌+◌, ◌≤◌, ◌++◌, length, codes};
 ghost use Rattle.ncp_play_page.specs.Lines.{field};
+ghost use Rattle.ncp_play_files.specs.Lines.{command_words};
 ghost use Rattle.ncp_play_audit.specs.FindingLines.{thing_word, why_word, one_where, coming_word, unquiet_word, rule_words, is_standard};
 
+use crate::command_words::{LONGEST_COMMAND, push_command, push_error};
 use ncp_leader::MessageFault;
 use ncp_play_page::{PAGE_SIZE, Page, push_field};
-use ncp_terms::CommandFault;
+use ncp_terms::{Command, CommandFault};
 use ncp_umpire::{Rule, Thing, Unsent};
 
 /// How many bytes the words of a rule have at most.
-pub(crate) const LONGEST_RULE: usize = 80;
+pub(crate) const LONGEST_RULE: usize = 100;
 
 // The name of what comes early.
 fn thing_word(thing: Thing) -> &'static [u8]
@@ -174,7 +176,7 @@ fn push_unquiet(page: &mut Page, reply: bool, link: u8)
 
 // Appends a name and its only number.
 fn push_one(page: &mut Page, name: &[u8], number: u8)
-    requires name { length name.now ≤ 20 }
+    requires name { length name.now ≤ 21 }
     requires room { length page.old + LONGEST_RULE ≤ PAGE_SIZE }
     ensures bytes { page.new ≡ page.old ++ field name.now number }
     ensures len { length page.new ≤ length page.old + LONGEST_RULE }
@@ -190,6 +192,38 @@ fn push_kind_and_link(page: &mut Page, name: &[u8], kind: u8, link: u8)
     ensures len { length page.new ≤ length page.old + LONGEST_RULE }
 {
     push_field(page, name, u32::from(kind));
+    push_field(page, b" link=", u32::from(link));
+}
+
+// Appends the name of a rule, and the command that breaks it.
+fn push_named(page: &mut Page, name: &[u8], command: &Command)
+    requires name { length name.now ≤ 12 }
+    requires room { length page.old + LONGEST_RULE ≤ PAGE_SIZE }
+    ensures bytes { page.new ≡ page.old ++ (name.now ++ command_words command.now) }
+    ensures len { length page.new ≤ length page.old + 12 + LONGEST_COMMAND }
+{
+    page.push_text(name);
+    push_command(page, command);
+}
+
+// Appends the words of an RTS with a link that another connection has.
+fn push_link_used(page: &mut Page, command: &Command, local: u32, remote: u32)
+    requires { length page.old + LONGEST_RULE ≤ PAGE_SIZE }
+    ensures bytes { page.new ≡ page.old ++ rule_words (Rule.LinkUsed command.now local remote) }
+    ensures len { length page.new ≤ length page.old + LONGEST_RULE }
+{
+    push_named(page, b"link-used ", command);
+    push_field(page, b" by=", local);
+    push_field(page, b",", remote);
+}
+
+// Appends the words of a CLS while a text is out on a link.
+fn push_text_out(page: &mut Page, command: &Command, link: u8)
+    requires { length page.old + LONGEST_RULE ≤ PAGE_SIZE }
+    ensures bytes { page.new ≡ page.old ++ rule_words (Rule.TextOut command.now link) }
+    ensures len { length page.new ≤ length page.old + LONGEST_RULE }
+{
+    push_named(page, b"text-out ", command);
     push_field(page, b" link=", u32::from(link));
 }
 
@@ -234,6 +268,26 @@ pub(crate) fn push_rule(page: &mut Page, rule: &Rule)
         Rule::Unquiet { reply, link } => push_unquiet(page, reply, link),
         Rule::RrpFirst => page.push_text(b"rrp-first"),
         Rule::MissingRrp => page.push_text(b"missing RRP"),
+        Rule::Missing { ref command } => push_named(page, b"missing ", command),
+        Rule::Skipped { ref command } => push_named(page, b"skipped ", command),
+        Rule::EcoAgain { byte } => push_one(page, b"eco-again ECO data=", byte),
+        Rule::ErpUnasked { byte } => push_one(page, b"erp-unasked ERP data=", byte),
+        Rule::ErrUnjust { code, ref bytes } => {
+            push_error(page, b"err-unjust ERR code=", code, bytes)
+        }
+        Rule::Sex { ref command } => push_named(page, b"sex ", command),
+        Rule::LinkRange { ref command } => push_named(page, b"link-range ", command),
+        Rule::SizeZero { ref command } => push_named(page, b"size-zero ", command),
+        Rule::AskedAgain { ref command } => push_named(page, b"asked-again ", command),
+        Rule::Unended { ref command } => push_named(page, b"unended ", command),
+        Rule::LinkUsed {
+            ref command,
+            local,
+            remote,
+        } => push_link_used(page, command, local, remote),
+        Rule::ClsUnknown { ref command } => push_named(page, b"cls-unknown ", command),
+        Rule::ClsAgain { ref command } => push_named(page, b"cls-again ", command),
+        Rule::TextOut { ref command, link } => push_text_out(page, command, link),
     }
 }
 
@@ -251,7 +305,16 @@ pub(crate) fn is_standard(rule: &Rule) -> bool
         | Rule::Unsent { .. }
         | Rule::FalseAnswer { .. }
         | Rule::Bad { .. }
-        | Rule::RrpUnasked => true,
+        | Rule::RrpUnasked
+        | Rule::ErpUnasked { .. }
+        | Rule::ErrUnjust { .. }
+        | Rule::Sex { .. }
+        | Rule::LinkRange { .. }
+        | Rule::SizeZero { .. }
+        | Rule::AskedAgain { .. }
+        | Rule::Unended { .. }
+        | Rule::ClsUnknown { .. }
+        | Rule::ClsAgain { .. } => true,
         Rule::Early { began, owes, .. } => began || owes,
         Rule::OwnHost { .. }
         | Rule::Kind { .. }
@@ -260,6 +323,11 @@ pub(crate) fn is_standard(rule: &Rule) -> bool
         | Rule::RstAgain
         | Rule::Unquiet { .. }
         | Rule::RrpFirst
-        | Rule::MissingRrp => false,
+        | Rule::MissingRrp
+        | Rule::Missing { .. }
+        | Rule::Skipped { .. }
+        | Rule::EcoAgain { .. }
+        | Rule::LinkUsed { .. }
+        | Rule::TextOut { .. } => false,
     }
 }

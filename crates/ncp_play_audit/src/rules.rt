@@ -80,7 +80,59 @@ pub const RULES: &[(&str, &str)] = &[
     ),
     (
         "missing",
-        "What a host has to send is not left out of a control message that has room for it: here the RRP that it owes, while no data link is busy. This project's. Look at the last RST that came.",
+        "What a host has to send is not left out of a control message that has room for it: the RRP that it owes, while no data link is busy; a reply that it owes; and its own CLS where the other's came, while no text of it is out and no text came to it. This project's. Look at what the command that is named answers.",
+    ),
+    (
+        "skipped",
+        "Replies come in the order of what they answer. This project's. The command that is named was due before the one that came.",
+    ),
+    (
+        "eco-again",
+        "A host that waits for an ERP sends no second ECO. This project's. Look at its last ECO.",
+    ),
+    (
+        "erp-unasked",
+        "An ERP has the byte of an ECO that it answers. The standard's (NIC 8246). Look at the ECOs that came before.",
+    ),
+    (
+        "err-unjust",
+        "An ERR is about a command that its receiver sent and that breaks a rule; its data are the first bytes of that command. The standard's (NIC 8246), its codes and data this project's. Look for that command before it. An ERR about ALL, GVB, RET, INR, INS or a text is not judged.",
+    ),
+    (
+        "sex",
+        "The receiver's socket of a request is even and the sender's is odd, and of a CLS one is even and one is odd. The standard's (NIC 8246).",
+    ),
+    (
+        "link-range",
+        "An RTS names a link from 2 to 71. The standard's (NIC 8246).",
+    ),
+    (
+        "size-zero",
+        "The byte size of an STR is not 0. The standard's (NIC 8246).",
+    ),
+    (
+        "asked-again",
+        "Each side asks once for a connection, the receiver by an RTS, the sender by an STR. The standard's (NIC 8246). Look at its last request for these sockets.",
+    ),
+    (
+        "unended",
+        "A side that sent its CLS asks for no connection of the same sockets before the CLS of the other. The standard's (NIC 8246). Look at its CLS.",
+    ),
+    (
+        "link-used",
+        "A link serves one connection of a receiver at a time. This project's. The sockets behind 'by' have the link: that of the host at whose interface it is seen, and that of the other.",
+    ),
+    (
+        "cls-unknown",
+        "A CLS ends a connection, or a request, of its two sockets. The standard's (NIC 8246). Look whether a request came before.",
+    ),
+    (
+        "cls-again",
+        "A side sends one CLS for a connection. The standard's (NIC 8246). Look at its last CLS.",
+    ),
+    (
+        "text-out",
+        "A host that sends closes after its last text is answered. This project's. Look at the link that is named.",
     ),
 ];
 

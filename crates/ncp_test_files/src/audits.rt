@@ -3,3 +3,5 @@
 mod audited;
 mod captures;
 mod refused;
+mod said;
+mod told;

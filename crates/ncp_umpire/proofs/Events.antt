@@ -14,6 +14,7 @@ use Rattle.ncp_umpire.specs.declared.kept.Kept.{Kept}
 use Rattle.ncp_umpire.specs.declared.view.View.{View}
 use Rattle.ncp_umpire.specs.declared.views.TheConstants.{HOSTS, VIEWS}
 use Rattle.ncp_umpire.specs.Views.{new_view}
+use Rattle.ncp_umpire.specs.Lives.{SeenBooks, no_books}
 use Rattle.ncp_umpire.specs.Phases.{broken_by}
 use Rattle.ncp_umpire.specs.Messages.{rule_of_message}
 use Rattle.ncp_umpire.specs.Judged.{new_umpire, out_finding, fresh_out, umpire_after_out, unsent_finding, after_in, turn_at, regular_findings, said_findings, message_findings, after_message, event_findings, after_event}
@@ -66,9 +67,10 @@ in_found umpire now way at peer link bits turn was first new v t w a n =
     ∙ ap (λ x. own ++ message_findings x at peer (turn_at x at peer peer false) true link bits) v
 
 -- nothing was seen
-pub made_new : (part : Bool) (seen : List Bool) (views : List View) (kept : List Kept) → seen ≡ replicate HOSTS false → views ≡ replicate VIEWS (new_view part) → kept ≡ []
-    → ◌≡◌ {A = Umpire} (record { part = part; full = false; seen = seen; views = views; kept = kept }) (new_umpire part)
-made_new part seen views kept s v k =
-    ap (λ (x : List Bool). record { part = part; full = false; seen = x; views = views; kept = kept }) s
-    ∙ ap (λ (x : List View). record { part = part; full = false; seen = replicate HOSTS false; views = x; kept = kept }) v
-    ∙ ap (λ (x : List Kept). record { part = part; full = false; seen = replicate HOSTS false; views = replicate VIEWS (new_view part); kept = x }) k
+pub made_new : (part : Bool) (seen : List Bool) (views : List View) (kept : List Kept) (books : SeenBooks) → seen ≡ replicate HOSTS false → views ≡ replicate VIEWS (new_view part) → kept ≡ [] → books ≡ no_books
+    → ◌≡◌ {A = Umpire} (record { part = part; full = false; seen = seen; views = views; kept = kept; books = books }) (new_umpire part)
+made_new part seen views kept books s v k b =
+    ap (λ (x : List Bool). record { part = part; full = false; seen = x; views = views; kept = kept; books = books }) s
+    ∙ ap (λ (x : List View). record { part = part; full = false; seen = replicate HOSTS false; views = x; kept = kept; books = books }) v
+    ∙ ap (λ (x : List Kept). record { part = part; full = false; seen = replicate HOSTS false; views = replicate VIEWS (new_view part); kept = x; books = books }) k
+    ∙ ap (λ (x : SeenBooks). record { part = part; full = false; seen = replicate HOSTS false; views = replicate VIEWS (new_view part); kept = []; books = x }) b

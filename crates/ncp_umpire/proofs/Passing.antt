@@ -1,6 +1,7 @@
 -- Findings that all pass a test, part by part: of what a message says, of the message by itself, and of a record.
 use Rattle.std.proofs.Common.{◌≡◌, ℕ, ◌==◌, Bool, true, false, not, ◌&&◌, ◌||◌, if◌then◌else◌, List, [], ◌∷◌, ◌++◌, length, Option, None, Some, Result, Ok, Err, option_map, option_to_list, is_some, refl, sym, ap, ◌∙◌, subst}
-use Rattle.std.specs.List.{list_all}
+use Rattle.std.specs.Prelude.{nat_le}
+use Rattle.std.specs.List.{list_all, list_any}
 use Rattle.std.proofs.lemmas.Bool.{and_parts}
 use Rattle.ncp_leader.specs.declared.fault.MessageFault.{MessageFault}
 use Rattle.ncp_leader.specs.Message.{Message, message_in}
@@ -8,7 +9,16 @@ use Rattle.ncp_leader.specs.declared.leader.Leader.{Leader}
 use Rattle.ncp_leader.specs.declared.leader.Short.{Short}
 use Rattle.ncp_leader.specs.Leader.{leader_in}
 use Rattle.ncp_terms.specs.declared.command.Command.{Command}
+use Rattle.ncp_terms.specs.declared.command.Command.TheVariants as commands
 use Rattle.ncp_terms.specs.declared.fault.CommandFault.{CommandFault}
+use Rattle.ncp_umpire.specs.declared.kept.Kept.{Kept}
+use Rattle.ncp_umpire.specs.declared.life.Life.{Life}
+use Rattle.ncp_umpire.specs.declared.life.Request.{Request}
+use Rattle.ncp_umpire.specs.declared.life.Request.TheVariants.{Link, Size}
+use Rattle.ncp_umpire.specs.declared.life.Topic.TheVariants as topic
+use Rattle.ncp_umpire.specs.declared.talk.Talk.{Talk}
+use Rattle.ncp_umpire.specs.declared.talk.Verdict.{Verdict}
+use Rattle.ncp_umpire.specs.declared.talk.Verdict.TheVariants.{Right, Refused, Unclear}
 use Rattle.ncp_umpire.specs.declared.finding.Finding.{Finding}
 use Rattle.ncp_umpire.specs.declared.finding.Rule.{Rule}
 use Rattle.ncp_umpire.specs.declared.finding.Rule.TheVariants as rule
@@ -27,7 +37,12 @@ use Rattle.ncp_umpire.specs.declared.umpire.Umpire.{Umpire}
 use Rattle.ncp_umpire.specs.declared.view.View.{View}
 use Rattle.ncp_umpire.specs.Acts.{act_of}
 use Rattle.ncp_umpire.specs.Views.{awaits_reply}
-use Rattle.ncp_umpire.specs.Phases.{broken_by, sender, is_early, early_rule, early_finding, hears_reset, again_finding, unquiet_finding, first_finding, reset_findings, unasked_finding, reply_findings, bad_finding, act_findings, item_findings, items_findings, after_item, after_items, missing_finding}
+use Rattle.ncp_umpire.specs.Phases.{broken_by, sender, is_early, early_rule, early_finding, hears_reset, again_finding, unquiet_finding, first_finding, reset_findings, unasked_finding, reply_findings, bad_finding, act_findings, item_findings, after_item, after_items, missing_finding}
+use Rattle.ncp_umpire.specs.Lives.{SeenBooks, is_senders, has_sent_cls, has_sent_request, life_of, user_of, is_marked}
+use Rattle.ncp_umpire.specs.Replies.{is_own, is_wanted, skipped, is_about_link}
+use Rattle.ncp_umpire.specs.Requests.{broken, is_of_sexes, range_rule, link_rests, used_verdict, link_verdict, life_verdict, ranged_verdict, request_verdict, left_verdict, cls_verdict, is_busy_on, link_out_rule, text_out_rule, cls_rule}
+use Rattle.ncp_umpire.specs.Speaking.{here_of, there_of, closing_verdict, is_asking, reply_rule, command_rule, spoken_rule, reply_left_out, cls_left_out}
+use Rattle.ncp_umpire.specs.Talked.{talk_of, act_reaches, talk_finding, after_talk, all_findings, talked_findings, after_talked, missing, tells_left_out, missing_reply, missing_cls, left_out_findings}
 use Rattle.ncp_umpire.specs.Messages.{rule_of_message, judged_reading}
 use Rattle.ncp_umpire.specs.Events.{is_answer, event_behind, event_of}
 use Rattle.ncp_umpire.specs.Judged.{by_host, by_imp, view_of, is_roomy, items_said, control_findings, read_findings, said_findings, message_findings, sees, sees_both, is_crowded, judges_coming, slot_of_link, out_finding, fresh_out, umpire_after_out, false_rule, false_finding, stray_rule, stray_finding, answer_findings, unsent_at, unsent_finding, after_in, turn_at, event_findings, record_findings}
@@ -76,16 +91,37 @@ mapped_where P false g o h = refl
 
 -- ---- what a message says
 
--- the rules of what is said
+-- the rules of resets, and of control texts by themselves
+abbrev pub is_of_reset : Rule → Bool
+is_of_reset (rule.Bad fault) = true
+is_of_reset (rule.Early what began waits owes) = true
+is_of_reset rule.RstAgain = true
+is_of_reset rule.RrpUnasked = true
+is_of_reset (rule.Unquiet reply link) = true
+is_of_reset rule.RrpFirst = true
+is_of_reset rule.MissingRrp = true
+is_of_reset other = false
+
+-- the rules of what is said while two hosts are up
+abbrev pub is_of_talk : Rule → Bool
+is_of_talk (rule.Missing c) = true
+is_of_talk (rule.Skipped c) = true
+is_of_talk (rule.EcoAgain byte) = true
+is_of_talk (rule.ErpUnasked byte) = true
+is_of_talk (rule.ErrUnjust code bytes) = true
+is_of_talk (rule.Sex c) = true
+is_of_talk (rule.LinkRange c) = true
+is_of_talk (rule.SizeZero c) = true
+is_of_talk (rule.AskedAgain c) = true
+is_of_talk (rule.Unended c) = true
+is_of_talk (rule.LinkUsed c local remote) = true
+is_of_talk (rule.ClsUnknown c) = true
+is_of_talk (rule.ClsAgain c) = true
+is_of_talk (rule.TextOut c link) = true
+is_of_talk other = false
+
 abbrev pub is_said : Rule → Bool
-is_said (rule.Bad fault) = true
-is_said (rule.Early what began waits owes) = true
-is_said rule.RstAgain = true
-is_said rule.RrpUnasked = true
-is_said (rule.Unquiet reply link) = true
-is_said rule.RrpFirst = true
-is_said rule.MissingRrp = true
-is_said other = false
+is_said r = is_of_reset r || is_of_talk r
 
 abbrev pub Says : (Finding → Bool) → Turn → Type 0
 Says P turn = (r : Rule) → is_said r ≡ true → P (broken_by turn r) ≡ true
@@ -119,27 +155,198 @@ bad : (P : Finding → Bool) (turn : Turn) → Says P turn → (item : Result Co
 bad P turn s (Ok command) = refl
 bad P turn s (Err fault) = one P (broken_by turn (rule.Bad fault)) (s (rule.Bad fault) refl)
 
-pub items : (P : Finding → Bool) (turn : Turn) → Says P turn → (said : List (Result Command CommandFault)) (view : View) → Pass P (items_findings turn said view)
-items P turn s [] view = refl
-items P turn s (item ∷ said) view =
-    both P (item_findings turn item view) (items_findings turn said (after_item turn item view))
+-- ---- what is said while two hosts are up
+
+-- it is a rule of what is said, if one is broken
+
+abbrev told : Option Rule → Bool
+told None = true
+told (Some r) = is_of_talk r
+
+abbrev pub SaysTalk : (Finding → Bool) → Turn → Type 0
+SaysTalk P turn = (r : Rule) → is_of_talk r ≡ true → P (broken_by turn r) ≡ true
+
+of_all : (P : Finding → Bool) (turn : Turn) → Says P turn → SaysTalk P turn
+of_all P turn s r k = s r (go (is_of_reset r) (is_of_talk r) k)
+  where
+    go : (a b : Bool) → b ≡ true → (a || b) ≡ true
+    go true b k = refl
+    go false b k = k
+
+told_pass : (P : Finding → Bool) (turn : Turn) → SaysTalk P turn → (b : Bool) (o : Option Rule) → told o ≡ true → Pass P (option_to_list (if b then option_map (broken_by turn) o else None))
+told_pass P turn s false o k = refl
+told_pass P turn s true None k = refl
+told_pass P turn s true (Some r) k = one P (broken_by turn r) (s r k)
+
+-- case by case
+
+where_told : (b : Bool) (r : Rule) → is_of_talk r ≡ true → told (if b then Some r else None) ≡ true
+where_told true r k = k
+where_told false r k = refl
+
+used_told : (talk : Talk) (c : Command) (user : Option Life) → told (broken (used_verdict talk c user)) ≡ true
+used_told talk c None = refl
+used_told talk c (Some user) = go (has_sent_cls user talk.sent)
+  where
+    used : Rule
+    used = rule.LinkUsed c user.local user.remote
+
+    go : (b : Bool) → told (broken (if b then Unclear (Some used) else Refused used)) ≡ true
+    go true = refl
+    go false = refl
+
+link_told : (talk : Talk) (c : Command) (request : Request) (books : SeenBooks) → told (broken (link_verdict talk c request books)) ≡ true
+link_told talk c (Link link) books = used_told talk c (user_of talk.at talk.peer talk.sent link books.lives)
+link_told talk c (Size size) books = refl
+
+life_told : (talk : Talk) (c : Command) (request : Request) (books : SeenBooks) (life : Option Life) → told (broken (life_verdict talk c request books life)) ≡ true
+life_told talk c request books None = link_told talk c request books
+life_told talk c request books (Some life) = go life.rests (has_sent_cls life talk.sent) (has_sent_request life request)
+  where
+    go : (rests left asked : Bool)
+        → told (broken (if rests then Unclear None else if left then Unclear (Some (rule.Unended c)) else if asked then Refused (rule.AskedAgain c) else link_verdict talk c request books)) ≡ true
+    go true left asked = refl
+    go false true asked = refl
+    go false false true = refl
+    go false false false = link_told talk c request books
+
+range_told : (c : Command) (request : Request) → told (range_rule c request) ≡ true
+range_told c (Link link) = go (nat_le 2 link && nat_le link 71)
+  where
+    go : (b : Bool) → told (if b then None else Some (rule.LinkRange c)) ≡ true
+    go true = refl
+    go false = refl
+range_told c (Size size) = where_told (size == 0) (rule.SizeZero c) refl
+
+ranged_told : (talk : Talk) (c : Command) (local remote : ℕ) (request : Request) (books : SeenBooks) (range : Option Rule) → told range ≡ true → told (broken (ranged_verdict talk c local remote request books range)) ≡ true
+ranged_told talk c local remote request books (Some wrong) k = k
+ranged_told talk c local remote request books None k = go (link_rests talk request books)
+  where
+    go : (b : Bool) → told (broken (if b then Unclear None else life_verdict talk c request books (life_of talk.at talk.peer local remote books.lives))) ≡ true
+    go true = refl
+    go false = life_told talk c request books (life_of talk.at talk.peer local remote books.lives)
+
+request_told : (talk : Talk) (c : Command) (local remote : ℕ) (right : Bool) (request : Request) (books : SeenBooks) → told (broken (request_verdict talk c local remote right request books)) ≡ true
+request_told talk c local remote false request books = refl
+request_told talk c local remote true request books = ranged_told talk c local remote request books (range_rule c request) (range_told c request)
+
+left_told : (talk : Talk) (c : Command) (life : Option Life) → told (broken (left_verdict talk c life)) ≡ true
+left_told talk c None = refl
+left_told talk c (Some life) = go life.rests (has_sent_cls life talk.sent)
+  where
+    go : (rests left : Bool) → told (broken (if rests then Unclear None else if left then Unclear (Some (rule.ClsAgain c)) else Right)) ≡ true
+    go true left = refl
+    go false true = refl
+    go false false = refl
+
+cls_told : (talk : Talk) (c : Command) (local remote : ℕ) (books : SeenBooks) → told (broken (cls_verdict talk c local remote books)) ≡ true
+cls_told talk c local remote books = go (is_of_sexes local remote || is_of_sexes remote local)
+  where
+    go : (b : Bool) → told (broken (if b then left_verdict talk c (life_of talk.at talk.peer local remote books.lives) else Refused (rule.Sex c))) ≡ true
+    go true = left_told talk c (life_of talk.at talk.peer local remote books.lives)
+    go false = refl
+
+out_told : (talk : Talk) (c : Command) (kept : List Kept) (books : SeenBooks) (life : Option Life) → told (text_out_rule talk c kept books life) ≡ true
+out_told talk c kept books None = refl
+out_told talk c kept books (Some life) = go (talk.sent && is_senders life.local) life.link
+  where
+    go : (b : Bool) (link : Option ℕ) → told (if b then link_out_rule talk c kept books link else None) ≡ true
+    go false link = refl
+    go true None = refl
+    go true (Some link) = where_told (list_any (is_busy_on talk.at talk.peer link) kept && not (is_marked talk.at talk.peer (topic.LinkRests false link) books)) (rule.TextOut c link) refl
+
+closing_told : (talk : Talk) (c : Command) (local remote : ℕ) (kept : List Kept) (books : SeenBooks) (verdict : Verdict) → told (broken verdict) ≡ true → told (cls_rule talk c local remote kept books verdict) ≡ true
+closing_told talk c local remote kept books Right k = out_told talk c kept books (life_of talk.at talk.peer local remote books.lives)
+closing_told talk c local remote kept books (Refused wrong) k = k
+closing_told talk c local remote kept books (Unclear wrong) k = k
+
+reply_told : (talk : Talk) (c : Command) (unasked : Rule) (books : SeenBooks) → is_of_talk unasked ≡ true → told (reply_rule talk c unasked books) ≡ true
+reply_told talk c unasked books k = go (is_wanted (is_own talk) c books.dues) (skipped (is_own talk) c books.dues)
+  where
+    go : (b : Bool) (o : Option Command) → told (if b then option_map (λ d. rule.Skipped d) o else Some unasked) ≡ true
+    go true None = refl
+    go true (Some d) = refl
+    go false o = k
+
+error_told : (talk : Talk) (code : ℕ) (bytes : List ℕ) (books : SeenBooks) (b : Bool) → told (if b then None else reply_rule talk (commands.Err code bytes) (rule.ErrUnjust code bytes) books) ≡ true
+error_told talk code bytes books true = refl
+error_told talk code bytes books false = reply_told talk (commands.Err code bytes) (rule.ErrUnjust code bytes) books refl
+
+command_told : (talk : Talk) (kept : List Kept) (c : Command) (books : SeenBooks) → told (command_rule talk kept c books) ≡ true
+command_told talk kept (commands.Rts receive send link) books =
+    request_told talk (commands.Rts receive send link) (here_of talk receive send) (there_of talk receive send) (is_of_sexes receive send) (Link link) books
+command_told talk kept (commands.Str send receive size) books =
+    request_told talk (commands.Str send receive size) (here_of talk send receive) (there_of talk send receive) (is_of_sexes receive send) (Size size) books
+command_told talk kept (commands.Cls my your) books =
+    closing_told talk (commands.Cls my your) (here_of talk my your) (there_of talk my your) kept books (closing_verdict talk (commands.Cls my your) my your books)
+    (cls_told talk (commands.Cls my your) (here_of talk my your) (there_of talk my your) books)
+command_told talk kept (commands.Eco byte) books = where_told (is_asking talk books) (rule.EcoAgain byte) refl
+command_told talk kept (commands.Erp byte) books = reply_told talk (commands.Erp byte) (rule.ErpUnasked byte) books refl
+command_told talk kept (commands.Err code bytes) books = error_told talk code bytes books (is_about_link code bytes)
+command_told talk kept commands.Nop books = refl
+command_told talk kept (commands.All link messages bits) books = refl
+command_told talk kept (commands.Gvb link fm fb) books = refl
+command_told talk kept (commands.Ret link messages bits) books = refl
+command_told talk kept (commands.Inr link) books = refl
+command_told talk kept (commands.Ins link) books = refl
+command_told talk kept commands.Rst books = refl
+command_told talk kept commands.Rrp books = refl
+
+spoken_told : (talk : Talk) (kept : List Kept) (item : Result Command CommandFault) (books : SeenBooks) → told (spoken_rule talk kept item books) ≡ true
+spoken_told talk kept (Err fault) books = refl
+spoken_told talk kept (Ok c) books = go books.full
+  where
+    go : (b : Bool) → told (if b then None else command_rule talk kept c books) ≡ true
+    go true = refl
+    go false = command_told talk kept c books
+
+pub talk_pass : (P : Finding → Bool) (turn : Turn) → SaysTalk P turn → (talk : Talk) (kept : List Kept) (item : Result Command CommandFault) (view : View) (books : SeenBooks) → Pass P (option_to_list (talk_finding turn talk kept item view books))
+talk_pass P turn s talk kept item view books = told_pass P turn s (act_reaches turn (act_of item) view) (spoken_rule talk kept item books) (spoken_told talk kept item books)
+
+pub items : (P : Finding → Bool) (turn : Turn) → Says P turn → (talk : Talk) (kept : List Kept) (said : List (Result Command CommandFault)) (view : View) (books : SeenBooks) → Pass P (talked_findings turn talk kept said view books)
+items P turn s talk kept [] view books = refl
+items P turn s talk kept (item ∷ said) view books =
+    let next = after_item turn item view in
+    let now = after_talk turn talk item view books in
+    both P (all_findings turn talk kept item view books) (talked_findings turn talk kept said next now)
+    (both P (item_findings turn item view) (option_to_list (talk_finding turn talk kept item view books))
     (both P (option_to_list (bad_finding turn item)) (act_findings turn (act_of item) view) (bad P turn s item) (act P turn s (act_of item) view))
-    (items P turn s said (after_item turn item view))
+    (talk_pass P turn (of_all P turn s) talk kept item view books))
+    (items P turn s talk kept said next now)
 
-control : (P : Finding → Bool) (turn : Turn) → Says P turn → (text : List Bool) (view : View) → Pass P (control_findings turn text view)
-control P turn s text view =
+left_out : (P : Finding → Bool) (turn : Turn) → SaysTalk P turn → (o : Option Command) → (b : Bool) → Pass P (option_to_list (if b then missing turn o else None))
+left_out P turn s o false = refl
+left_out P turn s None true = refl
+left_out P turn s (Some c) true = one P (broken_by turn (rule.Missing c)) (s (rule.Missing c) refl)
+
+pub left_out_pass : (P : Finding → Bool) (turn : Turn) → SaysTalk P turn → (talk : Talk) (kept : List Kept) (room : Bool) (view : View) (books : SeenBooks) → Pass P (left_out_findings turn talk kept room view books)
+left_out_pass P turn s talk kept room view books =
+    let tells = tells_left_out turn room view books in
+    both P (option_to_list (missing_reply turn talk room view books)) (option_to_list (missing_cls turn talk kept room view books))
+    (left_out P turn s (reply_left_out talk.at talk.peer books) tells)
+    (left_out P turn s (cls_left_out talk.at talk.peer kept books) tells)
+
+control : (P : Finding → Bool) (turn : Turn) → Says P turn → (talk : Talk) (kept : List Kept) (text : List Bool) (view : View) (books : SeenBooks) → Pass P (control_findings turn talk kept text view books)
+control P turn s talk kept text view books =
     let after = after_items turn (items_said text) view in
-    both P (items_findings turn (items_said text) view) (option_to_list (missing_finding turn (is_roomy text) after)) (items P turn s (items_said text) view)
-    (where_so P (turn.sent && is_roomy text && after.told && after.owes && not after.rests && not (is_some turn.busy)) (broken_by turn rule.MissingRrp) (s rule.MissingRrp refl))
+    let now = after_talked turn talk (items_said text) view books in
+    let room = is_roomy text in
+    both P (talked_findings turn talk kept (items_said text) view books ++ option_to_list (missing_finding turn room after)) (left_out_findings turn talk kept room after now)
+    (both P (talked_findings turn talk kept (items_said text) view books) (option_to_list (missing_finding turn room after)) (items P turn s talk kept (items_said text) view books)
+    (where_so P (turn.sent && room && after.told && after.owes && not after.rests && not (is_some turn.busy)) (broken_by turn rule.MissingRrp) (s rule.MissingRrp refl)))
+    (left_out_pass P turn (of_all P turn s) talk kept room after now)
 
-read : (P : Finding → Bool) (turn : Turn) → Says P turn → (reading : Reading) (text : List Bool) (view : View) → Pass P (read_findings reading turn text view)
-read P turn s Stop text view = refl
-read P turn s Text text view = early P turn s thing.Text view
-read P turn s Control text view = control P turn s text view
+read : (P : Finding → Bool) (turn : Turn) → Says P turn → (reading : Reading) (talk : Talk) (kept : List Kept) (text : List Bool) (view : View) (books : SeenBooks) → Pass P (read_findings reading turn talk kept text view books)
+read P turn s Stop talk kept text view books = refl
+read P turn s Text talk kept text view books = early P turn s thing.Text view
+read P turn s Control talk kept text view books = control P turn s talk kept text view books
 
 said : (P : Finding → Bool) (turn : Turn) → Says P turn → (umpire : Umpire) (at peer : ℕ) (fresh : Bool) (r : Result Message MessageFault) → Pass P (said_findings umpire at peer turn fresh r)
 said P turn s umpire at peer fresh (Err fault) = refl
-said P turn s umpire at peer fresh (Ok message) = all_where P fresh (read_findings (judged_reading message) turn message.text (view_of umpire at peer)) (read P turn s (judged_reading message) message.text (view_of umpire at peer))
+said P turn s umpire at peer fresh (Ok message) =
+    let talk = talk_of at peer turn in
+    all_where P fresh (read_findings (judged_reading message) turn talk umpire.kept message.text (view_of umpire at peer) umpire.books)
+    (read P turn s (judged_reading message) talk umpire.kept message.text (view_of umpire at peer) umpire.books)
 
 -- ---- a message
 

@@ -32,13 +32,16 @@ use Rattle.ncp_umpire.specs.declared.umpire.Umpire.{Umpire}
 use Rattle.ncp_umpire.specs.Views.{new_view}
 use Rattle.ncp_umpire.specs.Tables.{view_in, with_view}
 use Rattle.ncp_umpire.specs.Slots.{place_of, kept_slot, same_at, same_but_host_at, busy_link, gone_out, has_room, with_out, with_kept_slot, with_answered, kept_at, is_unknown}
-use Rattle.ncp_umpire.specs.Phases.{broken_by, early_finding, after_thing, items_findings, after_items, after_room, missing_finding}
+use Rattle.ncp_umpire.specs.Phases.{broken_by, early_finding, after_thing, after_items, after_room, missing_finding}
+use Rattle.ncp_umpire.specs.declared.talk.Talk.{Talk}
+use Rattle.ncp_umpire.specs.Lives.{SeenBooks, no_books}
+use Rattle.ncp_umpire.specs.Talked.{talk_of, talked_findings, after_talked, left_out_findings, after_left_out, after_talked_text}
 use Rattle.ncp_umpire.specs.Events.{event_of}
 use Rattle.ncp_umpire.specs.Messages.{rule_of_message, judged_reading}
 
 -- nothing was seen
 abbrev pub new_umpire : Bool → Umpire
-new_umpire part = record { part = part; full = false; seen = replicate HOSTS false; views = replicate VIEWS (new_view part); kept = [] }
+new_umpire part = record { part = part; full = false; seen = replicate HOSTS false; views = replicate VIEWS (new_view part); kept = []; books = no_books }
 
 -- there was a record at the interface of a host
 abbrev pub has_seen : Umpire → ℕ → Bool
@@ -221,30 +224,44 @@ is_roomy text = nat_le (length text) 864
 abbrev pub items_said : List Bool → List (Result Command CommandFault)
 items_said text = items_of (commands_in (bytes_of text)) (fault_in (bytes_of text))
 
-abbrev pub control_findings : Turn → List Bool → View → List Finding
-control_findings turn text view =
-    items_findings turn (items_said text) view
-    ++ option_to_list (missing_finding turn (is_roomy text) (after_items turn (items_said text) view))
+abbrev pub control_findings : Turn → Talk → List Kept → List Bool → View → SeenBooks → List Finding
+control_findings turn talk kept text view books =
+    let items = items_said text in
+    talked_findings turn talk kept items view books
+    ++ option_to_list (missing_finding turn (is_roomy text) (after_items turn items view))
+    ++ left_out_findings turn talk kept (is_roomy text) (after_items turn items view) (after_talked turn talk items view books)
 
--- the findings of what is read on of a message, and the view after it
-abbrev pub read_findings : Reading → Turn → List Bool → View → List Finding
-read_findings Stop turn text view = []
-read_findings Text turn text view = option_to_list (early_finding turn thing.Text view)
-read_findings Control turn text view = control_findings turn text view
+abbrev pub after_control : Turn → Talk → List Bool → View → SeenBooks → SeenBooks
+after_control turn talk text view books =
+    let items = items_said text in after_left_out turn talk (is_roomy text) (after_items turn items view) (after_talked turn talk items view books)
+
+-- the findings of what is read on of a message, and what is known after it
+abbrev pub read_findings : Reading → Turn → Talk → List Kept → List Bool → View → SeenBooks → List Finding
+read_findings Stop turn talk kept text view books = []
+read_findings Text turn talk kept text view books = option_to_list (early_finding turn thing.Text view)
+read_findings Control turn talk kept text view books = control_findings turn talk kept text view books
 
 abbrev pub after_read : Reading → Turn → List Bool → View → View
 after_read Stop turn text view = view
 after_read Text turn text view = after_thing turn thing.Text view
 after_read Control turn text view = after_room turn (is_roomy text) (after_items turn (items_said text) view)
 
+abbrev pub books_after_read : Reading → Turn → Talk → ℕ → List Bool → View → SeenBooks → SeenBooks
+books_after_read Stop turn talk link text view books = books
+books_after_read Text turn talk link text view books = after_talked_text turn talk link view books
+books_after_read Control turn talk link text view books = after_control turn talk text view books
+
 -- a message that goes out again says nothing new
 abbrev pub regular_findings : Umpire → ℕ → ℕ → Turn → Bool → Message → List Finding
 regular_findings umpire at peer turn fresh message =
-    if fresh then read_findings (judged_reading message) turn message.text (view_of umpire at peer) else []
+    if fresh then read_findings (judged_reading message) turn (talk_of at peer turn) umpire.kept message.text (view_of umpire at peer) umpire.books else []
 
 abbrev pub after_regular : Umpire → ℕ → ℕ → Turn → Bool → Message → Umpire
 after_regular umpire at peer turn fresh message =
-    if fresh then record umpire { views = with_view umpire.views at peer (after_read (judged_reading message) turn message.text (view_of umpire at peer)) }
+    if fresh then record umpire {
+      views = with_view umpire.views at peer (after_read (judged_reading message) turn message.text (view_of umpire at peer));
+      books = books_after_read (judged_reading message) turn (talk_of at peer turn) message.leader.link message.text (view_of umpire at peer) umpire.books;
+    }
     else umpire
 
 abbrev pub said_findings : Umpire → ℕ → ℕ → Turn → Bool → Result Message MessageFault → List Finding

@@ -6,4 +6,10 @@ pub mod Tables
 pub mod Events
 pub mod Messages
 pub mod Judged
+pub mod Lives
+pub mod Replies
+pub mod Requests
+pub mod Speaking
+pub mod Talked
+pub mod Scenes
 pub mod Examples

@@ -7,9 +7,12 @@ use ncp_terms::{Command, CommandFault};
 
 /// What an item of a control text is to the phase: an RST, an RRP, or another thing.
 #[derive(Clone, Copy, Drop)]
-pub(crate) enum Act {
+pub enum Act {
+    /// An RST.
     Reset,
+    /// An RRP.
     Reply,
+    /// Another command, or a fault.
     Other(Thing),
 }
 

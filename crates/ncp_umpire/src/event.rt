@@ -8,7 +8,7 @@ use ncp_leader::{DESTINATION_DEAD, INCOMPLETE, Leader, REGULAR, RFNM, read_leade
 
 /// What a record is at the interface of its host.
 #[derive(Clone, Copy, Drop)]
-pub(crate) enum Event {
+pub enum Event {
     /// It has no leader.
     Short,
     /// No rule is about it.

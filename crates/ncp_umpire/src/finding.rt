@@ -1,6 +1,6 @@
 //! `Finding`: a rule that was broken, and who broke it.
 use ncp_leader::MessageFault;
-use ncp_terms::CommandFault;
+use ncp_terms::{Command, CommandFault, ERROR_DATA};
 
 /// Who broke a rule.
 #[derive(Clone, Copy, Debug, Drop, PartialEq, Eq)]
@@ -128,6 +128,66 @@ pub enum Rule {
     RrpFirst,
     /// The RRP that is owed was left out (this profile).
     MissingRrp,
+    /// A reply or a CLS that is due was left out (this profile).
+    Missing {
+        command: Command,
+    },
+    /// A reply passes over one that is due before it (this profile).
+    Skipped {
+        command: Command,
+    },
+    /// A second ECO before the ERP (this profile).
+    EcoAgain {
+        byte: u8,
+    },
+    /// An ERP for which no ECO asked (NIC 8246).
+    ErpUnasked {
+        byte: u8,
+    },
+    /// An ERR about what broke no rule (NIC 8246; its codes and data are this profile's).
+    ErrUnjust {
+        code: u8,
+        bytes: [u8; ERROR_DATA],
+    },
+    /// A socket of a request is not of the sex that its place asks for, or both of a CLS are of one (NIC 8246).
+    Sex {
+        command: Command,
+    },
+    /// An RTS with a link below 2 or over 71 (NIC 8246).
+    LinkRange {
+        command: Command,
+    },
+    /// An STR with byte size 0 (NIC 8246).
+    SizeZero {
+        command: Command,
+    },
+    /// A second request of a side for one connection (NIC 8246).
+    AskedAgain {
+        command: Command,
+    },
+    /// A request of a side that sent its CLS, before the one of the other (NIC 8246).
+    Unended {
+        command: Command,
+    },
+    /// An RTS with a link that another connection of the same receiver has (this profile).
+    LinkUsed {
+        command: Command,
+        local: u32,
+        remote: u32,
+    },
+    /// A CLS where neither side asked (NIC 8246).
+    ClsUnknown {
+        command: Command,
+    },
+    /// A second CLS of a side (NIC 8246).
+    ClsAgain {
+        command: Command,
+    },
+    /// A CLS of a sender while a text of it is out (this profile).
+    TextOut {
+        command: Command,
+        link: u8,
+    },
 }
 
 /// A rule that was broken, and who broke it.

@@ -6,8 +6,8 @@ use crate::finding::Finding;
 use std::alloc::{AllocError, Global};
 use std::marker::Model;
 
-/// How many findings there is room for: four for each byte of the longest message, and a few more.
-pub const MAX_FINDINGS: usize = 4160;
+/// How many findings there is room for: five for each byte of the longest message, and a few more.
+pub const MAX_FINDINGS: usize = 5200;
 
 /// The findings of one record, in order. Their room is made at once.
 #[derive(Drop)]

@@ -1,5 +1,6 @@
 //! `Slot`, and `Kept`: a message that went out.
 ghost use Rattle.std.specs.Prelude.{◌≡◌};
+ghost use Rattle.ncp_umpire.specs.Requests.{is_busy_on};
 ghost use Rattle.ncp_umpire.specs.Slots.{is_slot_empty, is_of, makes_link_busy, same_bits, same_but_host};
 
 use ncp_bits::Bits;
@@ -64,6 +65,13 @@ impl Kept {
         ensures { result ≡ makes_link_busy from to self.now }
     {
         self.from == from && self.to == to && self.link != 0 && self.slot != Slot::Empty
+    }
+
+    /// Whether it makes this link from one host to another busy.
+    pub(crate) fn is_busy_on(&self, from: u8, to: u8, link: u8) -> bool
+        ensures { result ≡ is_busy_on from to link self.now }
+    {
+        self.is_of(from, to, link) && self.slot != Slot::Empty
     }
 
     /// Whether it has these bits.

@@ -6,7 +6,10 @@ ghost use Rattle.ncp_umpire.specs.declared.finding.Unsent.TheVariants as why;
 ghost use Rattle.ncp_umpire.specs.Phases.{broken_by, items_findings, early_finding};
 ghost use Rattle.ncp_umpire.specs.Views.{new_view};
 ghost use Rattle.ncp_umpire.specs.Judged.{by_imp, unsent_finding, false_finding};
-ghost use Rattle.ncp_umpire.specs.Examples.{out_turn, while_busy, in_turn, nop, rst, rrp, view_sends, view_hears, answered_twice, in_the_middle, one_out, one_message, two_out, one_came_two_out};
+ghost use Rattle.ncp_terms.specs.declared.command.Command.TheVariants.{Rts, Str, Cls, Eco, Erp, Err};
+ghost use Rattle.ncp_umpire.specs.Lives.{no_books};
+ghost use Rattle.ncp_umpire.specs.Speaking.{command_rule, left_out};
+ghost use Rattle.ncp_umpire.specs.Examples.{host_says, peer_says, open_books, host_closed, peer_closed, none_closed, cls_shown, over_books, one_echo, text_behind_cls, two_echoes, out_turn, while_busy, in_turn, nop, rst, rrp, view_sends, view_hears, answered_twice, in_the_middle, one_out, one_message, two_out, one_came_two_out};
 
 /// Worked phases at the interface of host 1: what each side may say before a reset, while it waits for the reply, and while
 /// it owes one.
@@ -47,4 +50,36 @@ pub fn messages_out_at_once_are_not_followed()
     ensures comes { unsent_finding two_out 1 0 2 one_message ≡ None }
     ensures unanswered { false_finding one_out 5 0 1 2 ≡ Some (by_imp (rule.FalseAnswer 5 1 2 false)) }
     ensures answered { false_finding one_came_two_out 5 0 1 2 ≡ None }
+{}
+
+/// Worked requests: each side asks once, a link serves one connection, and after both CLSs all may be asked again.
+pub fn requests_are_judged_so()
+    ensures right { command_rule host_says [] (Rts 2 3 2) no_books ≡ None }
+    ensures again { command_rule host_says [] (Rts 2 3 4) open_books ≡ Some (rule.AskedAgain (Rts 2 3 4)) }
+    ensures used { command_rule host_says [] (Rts 4 5 2) open_books ≡ Some (rule.LinkUsed (Rts 4 5 2) 2 3) }
+    ensures unended { command_rule host_says [] (Rts 2 3 2) host_closed ≡ Some (rule.Unended (Rts 2 3 2)) }
+    ensures over { over_books ≡ no_books }
+    ensures sex { command_rule peer_says [] (Rts 3 2 2) open_books ≡ Some (rule.Sex (Rts 3 2 2)) }
+    ensures range { command_rule peer_says [] (Rts 4 5 72) open_books ≡ Some (rule.LinkRange (Rts 4 5 72)) }
+    ensures size { command_rule peer_says [] (Str 5 4 0) open_books ≡ Some (rule.SizeZero (Str 5 4 0)) }
+{}
+
+/// Worked CLSs: of what nobody asked for, a second one, and one that is left out where the other closed.
+pub fn closes_are_judged_so()
+    ensures unknown { command_rule peer_says [] (Cls 5 4) open_books ≡ Some (rule.ClsUnknown (Cls 5 4)) }
+    ensures again { command_rule peer_says [] (Cls 3 2) peer_closed ≡ Some (rule.ClsAgain (Cls 3 2)) }
+    ensures missing { left_out 1 2 [] peer_closed ≡ Cls 2 3 ∷ [] }
+    ensures given { left_out 1 2 [] over_books ≡ [] }
+    ensures passing { left_out 1 2 [] text_behind_cls ≡ [] }
+{}
+
+/// Worked replies: in the order of what they answer, and none that nothing asked for.
+pub fn replies_are_judged_so()
+    ensures right { command_rule host_says [] (Erp 1) two_echoes ≡ None }
+    ensures skipped { command_rule host_says [] (Erp 2) two_echoes ≡ Some (rule.Skipped (Erp 1)) }
+    ensures unasked { command_rule host_says [] (Erp 1) no_books ≡ Some (rule.ErpUnasked 1) }
+    ensures missing { left_out 1 2 [] two_echoes ≡ Erp 1 ∷ [] }
+    ensures twice { command_rule peer_says [] (Eco 2) one_echo ≡ Some (rule.EcoAgain 2) }
+    ensures unjust { command_rule host_says [] (Err 4 cls_shown) no_books ≡ Some (rule.ErrUnjust 4 cls_shown) }
+    ensures just { command_rule host_says [] (Err 4 cls_shown) none_closed ≡ None }
 {}

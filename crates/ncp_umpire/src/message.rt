@@ -12,7 +12,7 @@ const MAX_CONTROL_BITS: usize = 960;
 
 /// What is read on of a message.
 #[derive(Clone, Copy, Drop)]
-pub(crate) enum Reading {
+pub enum Reading {
     /// Nothing.
     Stop,
     /// A text of a connection.

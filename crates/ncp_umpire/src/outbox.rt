@@ -1,6 +1,7 @@
 //! `Outbox`: the messages that are out or are to go out again.
 ghost use Rattle.std.specs.Prelude.{◌≡◌, ◌<◌, ◌≤◌, ◌||◌, [], length, IfOk, IfSome};
-ghost use Rattle.std.specs.List.{position};
+ghost use Rattle.std.specs.List.{position, list_any};
+ghost use Rattle.ncp_umpire.specs.Requests.{is_busy_on};
 ghost use Rattle.ncp_umpire.specs.Slots.{is_of, makes_link_busy, same_bits, same_but_host, place_of, kept_at, busy_link, gone_out, has_room, with_out, with_kept_slot, with_answered};
 
 use crate::kept::{Kept, Slot};
@@ -47,6 +48,13 @@ fn busy_in(kept: &[Kept], from: u8, to: u8) -> Option<usize>
     kept.iter().position(|one| one.is_busy(from, to))
 }
 
+// Whether a message that makes a link busy is kept.
+fn is_link_busy_in(kept: &[Kept], from: u8, to: u8, link: u8) -> bool
+    ensures { result ≡ list_any (is_busy_on from to link) kept.now }
+{
+    kept.iter().any(|one| one.is_busy_on(from, to, link))
+}
+
 impl Outbox {
     /// Nothing is kept. It alone takes memory, once.
     pub(crate) fn new(alloc: Global) -> Result<Outbox, AllocError>
@@ -73,6 +81,13 @@ impl Outbox {
             Some(place) => Some(self.all[place].link),
             None => None,
         }
+    }
+
+    /// Whether a message on this link has no answer yet, or is to go out again.
+    pub(crate) fn is_link_busy(&self, from: u8, to: u8, link: u8) -> bool
+        ensures { result ≡ list_any (is_busy_on from to link) self.now }
+    {
+        is_link_busy_in(self.all.as_slice(), from, to, link)
     }
 
     /// What became of the message at a place.

@@ -13,7 +13,7 @@ use ncp_terms::{Command, CommandFault};
 
 /// A message whose items are judged: who sent it, and what is seen of the links then.
 #[derive(Clone, Copy, Drop)]
-pub(crate) struct Turn {
+pub struct Turn {
     /// The number of the host that sent it.
     pub by: u8,
     /// Whether that is the host at whose interface it is seen.
@@ -45,8 +45,8 @@ impl Turn {
 
 // ---- what is neither RST nor RRP
 
-// Whether a command, a fault or a text comes before the reset is over.
-fn is_early(turn: &Turn, thing: Thing, view: View) -> bool
+/// Whether a command, a fault or a text comes before the reset is over.
+pub(crate) fn is_early(turn: &Turn, thing: Thing, view: View) -> bool
     ensures { result ≡ is_early turn.now thing view }
 {
     let side = turn.sender(view);
@@ -97,8 +97,8 @@ pub(crate) fn judge_thing(turn: &Turn, thing: Thing, view: View, found: &mut Fin
 
 // ---- RST
 
-// Whether the phase is told from an RST on, if it was not before.
-fn hears_reset(turn: &Turn, view: View) -> bool
+/// Whether the phase is told from an RST on, if it was not before.
+pub(crate) fn hears_reset(turn: &Turn, view: View) -> bool
     ensures { result ≡ hears_reset turn.now view }
 {
     view.told || (turn.zero && !view.host.wait.is_answered())

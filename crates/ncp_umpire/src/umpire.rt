@@ -1,15 +1,16 @@
 //! `Umpire`.
-ghost use Rattle.std.specs.Prelude.{◌≡◌, ◌<◌, ◌≤◌, ◌+◌, ◌%◌, ◌++◌, [], not, false, length, replicate, option_map, IfOk, IfSome};
-ghost use Rattle.std.specs.Option.{option_to_list};
+ghost use Rattle.std.specs.Prelude.{◌≡◌, ◌<◌, ◌≤◌, ◌+◌, ◌%◌, ◌++◌, [], false, length, replicate, option_map, IfOk, IfSome};
 ghost use Rattle.ncp_umpire.specs.declared.findings.TheConstants.{MAX_FINDINGS};
-ghost use Rattle.ncp_umpire.specs.Slots.{kept_slot, same_at, same_but_host_at, gone_out, has_room, with_out};
-ghost use Rattle.ncp_umpire.specs.Phases.{broken_by, items_findings, after_items, after_room};
-ghost use Rattle.ncp_umpire.specs.Tables.{with_view};
+ghost use Rattle.ncp_umpire.specs.Slots.{kept_slot, same_at, same_but_host_at, gone_out};
+ghost use Rattle.ncp_umpire.specs.Phases.{broken_by, after_item, after_items};
+ghost use Rattle.ncp_umpire.specs.Talked.{after_talk, after_talked};
 ghost use Rattle.ncp_umpire.specs.declared.views.TheConstants.{HOSTS};
 ghost use Rattle.ncp_bits.specs.declared.bits.TheConstants.{MAX_BITS};
 ghost use Rattle.ncp_umpire.specs.Messages.{rule_of_message, judged_reading};
-ghost use Rattle.ncp_umpire.specs.Judged.{new_umpire, view_of, knows_zero, blamed_for, out_rule, is_fresh, changes_slot, by_host, by_imp, out_finding, fresh_out, is_slot_out, view_after_out, umpire_after_out, false_rule, stray_rule, sees_both, is_crowded, judges_coming, answer_findings, with_answer, umpire_after_answer, unsent_why, unsent_finding, with_coming, after_in, turn_at, items_said, is_roomy, control_findings, read_findings, after_read, regular_findings, after_regular, message_findings, after_message, event_findings, after_event, record_findings, after_record};
+ghost use Rattle.ncp_umpire.specs.Scenes.{found_of_item, found_of_items, view_after_control, found_of_control, found_of_reading, books_after_scene, found_going_out, found_coming, after_keeping, found_of_regular, after_regular_heard, found_of_message, after_message_heard};
+ghost use Rattle.ncp_umpire.specs.Judged.{new_umpire, view_of, knows_zero, blamed_for, out_rule, is_fresh, changes_slot, by_host, by_imp, fresh_out, is_slot_out, view_after_out, umpire_after_out, false_rule, stray_rule, sees_both, is_crowded, judges_coming, answer_findings, with_answer, umpire_after_answer, unsent_why, with_coming, after_in, turn_at, items_said, after_control, after_read, event_findings, after_event, record_findings, after_record};
 
+use crate::books::Books;
 use crate::event::{Event, event_of};
 use crate::finding::{Finding, Rule, Thing, Unsent, Who};
 use crate::findings::Findings;
@@ -17,12 +18,17 @@ use crate::kept::{Kept, Slot};
 use crate::message::{Reading, reading_of, rule_of_message};
 use crate::outbox::Outbox;
 use crate::phase::{Turn, after_room, judge_item, judge_thing, missing_finding};
+use crate::talked::{
+    Scene, after_left_out, after_talk, after_talked_text, missing_cls, missing_reply, talk_finding,
+    talk_of,
+};
 use crate::view::View;
 use crate::views::{HOSTS, Views};
 use crate::way::Way;
 use ncp_bits::{Bits, Part};
 use ncp_control::Commands;
 use ncp_leader::{MessageFault, RFNM, Regular, read_regular};
+use ncp_terms::{Command, CommandFault};
 use std::alloc::{AllocError, Global};
 
 // How many bits a control text has at most that has room for one more command (NIC 8246: 120 bytes, and the longest
@@ -42,6 +48,39 @@ pub struct Umpire {
     views: Views,
     /// The messages that are out or are to go out again.
     kept: Outbox,
+    /// The connections, and the replies that are owed or admitted.
+    books: Books,
+}
+
+/// How a message passes the interface of a host.
+#[derive(Clone, Copy, Drop)]
+struct Passing {
+    /// Which way.
+    way: Way,
+    /// The host.
+    at: u8,
+}
+
+/// A link between two hosts, as it is seen at the interface of one.
+#[derive(Clone, Copy, Drop)]
+struct Line {
+    /// The host at whose interface it is seen.
+    at: u8,
+    /// The other.
+    peer: u8,
+    /// The link.
+    link: u8,
+}
+
+/// A message of which it is judged what it says.
+#[derive(Clone, Copy, Drop)]
+struct Heard {
+    /// The link that it is on.
+    line: Line,
+    /// Who sent it, and what is seen of the links then.
+    turn: Turn,
+    /// Whether it says something new: it comes, or goes out for the first time.
+    fresh: bool,
 }
 
 // Who is blamed for what a message is that goes out of a host, or comes to it.
@@ -188,45 +227,92 @@ fn view_after_out(view: View, slot: Slot, same: bool) -> View
     }
 }
 
+// Judges an item of a control text by both kinds of rules, and gives the view after it.
+fn judge_said(
+    scene: Scene<'_>,
+    item: &Result<Command, CommandFault>,
+    view: View,
+    books: &mut Books,
+    found: &mut Findings,
+) -> View
+    requires { length found.old + 5 ≤ MAX_FINDINGS }
+    ensures view { result ≡ after_item scene.entry.turn item.now view }
+    ensures books { books.new ≡ after_talk scene.entry.turn scene.entry.talk item.now view books.old }
+    ensures found { found.new ≡ found.old ++ found_of_item scene.entry item.now view books.old }
+    ensures len { length found.new ≤ length found.old + 5 }
+{
+    let after = judge_item(&scene.turn, item, view, found);
+    found.push_some(talk_finding(scene, item, view, books));
+    after_talk(&scene.turn, scene.talk, item, view, books);
+    after
+}
+
 // Judges the items of a control text, and gives the view after them.
-fn judge_items(turn: &Turn, text: Part<'_>, view: View, found: &mut Findings) -> View
+fn judge_items(
+    scene: Scene<'_>,
+    text: Part<'_>,
+    view: View,
+    books: &mut Books,
+    found: &mut Findings,
+) -> View
     requires whole { length text % 8 ≡ 0 }
     requires few { length found.old ≤ 8 }
-    ensures view { result ≡ after_items turn.now (items_said text.entry) view }
-    ensures found { found.new ≡ found.old ++ items_findings turn.now (items_said text.entry) view }
-    ensures len { length found.new < MAX_FINDINGS }
+    ensures view { result ≡ after_items scene.entry.turn (items_said text.entry) view }
+    ensures books { books.new ≡ after_talked scene.entry.turn scene.entry.talk (items_said text.entry) view books.old }
+    ensures found { found.new ≡ found.old ++ found_of_items scene.entry text.entry view books.old }
+    ensures len { length found.new + 4 ≤ MAX_FINDINGS }
 {
     let _bits = text.len();
     let mut view = view;
     for item in Commands::new(text) {
-        view = judge_item(turn, &item, view, found);
+        view = judge_said(scene, &item, view, books, found);
     }
     view
 }
 
 // Judges a control text, and gives the view after it.
-fn judge_control(turn: &Turn, text: Part<'_>, view: View, found: &mut Findings) -> View
+fn judge_control(
+    scene: Scene<'_>,
+    text: Part<'_>,
+    view: View,
+    books: &mut Books,
+    found: &mut Findings,
+) -> View
     requires whole { length text % 8 ≡ 0 }
     requires few { length found.old ≤ 8 }
-    ensures view { result ≡ after_room turn.now (is_roomy text.entry) (after_items turn.now (items_said text.entry) view) }
-    ensures found { found.new ≡ found.old ++ control_findings turn.now text.entry view }
+    ensures view { result ≡ view_after_control scene.entry text.entry view }
+    ensures books { books.new ≡ after_control scene.entry.turn scene.entry.talk text.entry view books.old }
+    ensures found { found.new ≡ found.old ++ found_of_control scene.entry text.entry view books.old }
 {
     let room = text.len() <= ROOMY_BITS;
-    let after = judge_items(turn, text, view, found);
-    found.push_some(missing_finding(turn, room, after));
-    after_room(turn, room, after)
+    let after = judge_items(scene, text, view, books, found);
+    found.push_some(missing_finding(&scene.turn, room, after));
+    found.push_some(missing_reply(&scene.turn, scene.talk, room, after, books));
+    found.push_some(missing_cls(scene, room, after, books));
+    after_left_out(&scene.turn, scene.talk, room, after, books);
+    after_room(&scene.turn, room, after)
 }
 
 // Judges what is read on of a message, and gives the view after it.
-fn judge_read(turn: &Turn, regular: &Regular<'_>, view: View, found: &mut Findings) -> View
+fn judge_read(
+    scene: Scene<'_>,
+    regular: &Regular<'_>,
+    view: View,
+    books: &mut Books,
+    found: &mut Findings,
+) -> View
     requires few { length found.old ≤ 8 }
-    ensures view { result ≡ after_read (judged_reading regular.now) turn.now regular.now.text view }
-    ensures found { found.new ≡ found.old ++ read_findings (judged_reading regular.now) turn.now regular.now.text view }
+    ensures view { result ≡ after_read (judged_reading regular.now) scene.entry.turn regular.now.text view }
+    ensures books { books.new ≡ books_after_scene scene.entry regular.now view books.old }
+    ensures found { found.new ≡ found.old ++ found_of_reading scene.entry regular.now view books.old }
 {
     match reading_of(regular) {
         Reading::Stop => view,
-        Reading::Text => judge_thing(turn, Thing::Text, view, found),
-        Reading::Control => judge_control(turn, regular.text(), view, found),
+        Reading::Text => {
+            after_talked_text(&scene.turn, scene.talk, regular.leader().link, view, books);
+            judge_thing(&scene.turn, Thing::Text, view, found)
+        }
+        Reading::Control => judge_control(scene, regular.text(), view, books, found),
     }
 }
 
@@ -260,12 +346,14 @@ impl Umpire {
     {
         let views = Views::new(alloc, part)?;
         let kept = Outbox::new(alloc)?;
+        let books = Books::new(alloc)?;
         Ok(Umpire {
             part,
             full: false,
             seen: none_seen(),
             views,
             kept,
+            books,
         })
     }
 
@@ -355,23 +443,17 @@ impl Umpire {
     }
 
     // A message goes out: judges its link, and answers whether it goes out for the first time.
-    fn judge_out(
-        &mut self,
-        at: u8,
-        peer: u8,
-        link: u8,
-        message: &Bits,
-        found: &mut Findings,
-    ) -> bool
+    fn judge_out(&mut self, line: Line, message: &Bits, found: &mut Findings) -> bool
         requires { length found.old ≤ 4 }
-        ensures fresh { result ≡ fresh_out self.old at peer link message.now }
-        ensures after { self.new ≡ umpire_after_out self.old at peer link message.now }
-        ensures found { found.new ≡ found.old ++ option_to_list (out_finding self.old at peer link message.now) }
+        ensures fresh { result ≡ fresh_out self.old line.at line.peer line.link message.now }
+        ensures after { self.new ≡ umpire_after_out self.old line.at line.peer line.link message.now }
+        ensures found { found.new ≡ found.old ++ found_going_out self.old line message.now }
         ensures len { length found.new ≤ length found.old + 1 }
     {
         if self.full {
             return true;
         }
+        let Line { at, peer, link } = line;
         let view = self.views.of(at, peer);
         let place = self.kept.place_of(at, peer, link);
         let slot = self.slot_at(view.known, place);
@@ -379,34 +461,30 @@ impl Umpire {
         if let Some(rule) = out_rule(slot, same, link) {
             found.push(by_host(at, rule));
         }
-        self.keep(
-            at,
-            peer,
-            view_after_out(view, slot, same),
-            place,
-            gone_out(at, peer, link, message),
-        );
+        let after = view_after_out(view, slot, same);
+        self.keep(after, place, gone_out(at, peer, link, message));
         is_fresh(slot, same)
     }
 
     // Keeps a message that went out, and the view after it.
-    fn keep(&mut self, at: u8, peer: u8, view: View, place: Option<usize>, new: Kept)
+    fn keep(&mut self, view: View, place: Option<usize>, new: Kept)
         requires { IfSome place (λ p. p < length self.old.kept) }
-        ensures { self.new ≡ record self.old { full = not (has_room self.old.kept place); views = with_view self.old.views at peer view; kept = with_out self.old.kept place new } }
+        ensures { self.new ≡ after_keeping self.old view place new }
     {
-        self.views.set(at, peer, view);
+        self.views.set(new.from, new.to, view);
         self.full = !self.kept.put(place, new);
     }
 
     // An answer comes: judges it.
-    fn judge_answer(&mut self, kind: u8, at: u8, peer: u8, link: u8, found: &mut Findings)
+    fn judge_answer(&mut self, kind: u8, line: Line, found: &mut Findings)
         requires { length found.old ≤ 4 }
-        ensures after { self.new ≡ umpire_after_answer self.old kind at peer link }
-        ensures found { found.new ≡ found.old ++ answer_findings self.old kind at peer link }
+        ensures after { self.new ≡ umpire_after_answer self.old kind line.at line.peer line.link }
+        ensures found { found.new ≡ found.old ++ answer_findings self.old kind line.at line.peer line.link }
     {
         if self.full {
             return;
         }
+        let Line { at, peer, link } = line;
         let known = self.views.of(at, peer).known;
         let place = self.kept.place_of(at, peer, link);
         let slot = self.slot_at(known, place);
@@ -440,12 +518,13 @@ impl Umpire {
     }
 
     // A message comes: judges whether it was sent so.
-    fn judge_in(&mut self, at: u8, peer: u8, link: u8, message: &Bits, found: &mut Findings)
+    fn judge_in(&mut self, line: Line, message: &Bits, found: &mut Findings)
         requires { length found.old ≤ 4 }
-        ensures after { self.new ≡ after_in self.old at peer link }
-        ensures found { found.new ≡ found.old ++ option_to_list (unsent_finding self.old at peer link message.now) }
+        ensures after { self.new ≡ after_in self.old line.at line.peer line.link }
+        ensures found { found.new ≡ found.old ++ found_coming self.old line message.now }
         ensures len { length found.new ≤ length found.old + 1 }
     {
+        let Line { at, peer, link } = line;
         if !self.judges_coming(at, peer) {
             return;
         }
@@ -476,55 +555,45 @@ impl Umpire {
     }
 
     // Judges what a regular message says.
-    fn judge_regular(
-        &mut self,
-        at: u8,
-        peer: u8,
-        turn: &Turn,
-        fresh: bool,
-        regular: &Regular<'_>,
-        found: &mut Findings,
-    )
+    fn judge_regular(&mut self, heard: Heard, regular: &Regular<'_>, found: &mut Findings)
         requires { length found.old ≤ 8 }
-        ensures after { self.new ≡ after_regular self.old at peer turn.now fresh regular.now }
-        ensures found { found.new ≡ found.old ++ regular_findings self.old at peer turn.now fresh regular.now }
+        ensures after { self.new ≡ after_regular_heard self.old heard regular.now }
+        ensures found { found.new ≡ found.old ++ found_of_regular self.old heard regular.now }
     {
-        if !fresh {
+        if !heard.fresh {
             return;
         }
+        let Line { at, peer, .. } = heard.line;
         let view = self.view_of(at, peer);
-        let after = judge_read(turn, regular, view, found);
+        let scene = Scene {
+            turn: heard.turn,
+            talk: talk_of(at, peer, &heard.turn),
+            kept: &self.kept,
+        };
+        let after = judge_read(scene, regular, view, &mut self.books, found);
         self.views.set(at, peer, after);
     }
 
     // Judges a message by itself, and then what it says.
-    fn judge_message(
-        &mut self,
-        at: u8,
-        peer: u8,
-        turn: &Turn,
-        fresh: bool,
-        link: u8,
-        message: &Bits,
-        found: &mut Findings,
-    )
+    fn judge_message(&mut self, heard: Heard, message: &Bits, found: &mut Findings)
         requires { length found.old ≤ 5 }
-        ensures after { self.new ≡ after_message self.old at peer turn.now fresh message.now }
-        ensures found { found.new ≡ found.old ++ message_findings self.old at peer turn.now fresh link message.now }
+        ensures after { self.new ≡ after_message_heard self.old heard message.now }
+        ensures found { found.new ≡ found.old ++ found_of_message self.old heard message.now }
     {
         let read = read_regular(message);
-        found.push_some(message_finding(turn, &read, link, message.len()));
+        found.push_some(message_finding(&heard.turn, &read, heard.line.link, message.len()));
         if let Ok(regular) = &read {
-            self.judge_regular(at, peer, turn, fresh, regular, found);
+            self.judge_regular(heard, regular, found);
         }
     }
 
     // Judges what a record is.
-    fn judge_event(&mut self, way: Way, at: u8, event: Event, message: &Bits, found: &mut Findings)
+    fn judge_event(&mut self, passing: Passing, event: Event, message: &Bits, found: &mut Findings)
         requires { found.old ≡ [] }
-        ensures after { self.new ≡ after_event self.old at message.now event }
-        ensures found { found.new ≡ event_findings self.old way at message.now event }
+        ensures after { self.new ≡ after_event self.old passing.at message.now event }
+        ensures found { found.new ≡ event_findings self.old passing.way passing.at message.now event }
     {
+        let Passing { way, at } = passing;
         match event {
             Event::Short => found.push(Finding {
                 who: sender_of(way, at),
@@ -539,15 +608,20 @@ impl Umpire {
             }),
             Event::Other { kind } => found.push(by_host(at, Rule::Kind { kind })),
             Event::Out { peer, link } => {
-                let fresh = self.judge_out(at, peer, link, message, found);
+                let line = Line { at, peer, link };
+                let fresh = self.judge_out(line, message, found);
                 let turn = self.turn_at(at, peer, at, true);
-                self.judge_message(at, peer, &turn, fresh, link, message, found);
+                self.judge_message(Heard { line, turn, fresh }, message, found);
             }
-            Event::Answer { kind, peer, link } => self.judge_answer(kind, at, peer, link, found),
+            Event::Answer { kind, peer, link } => {
+                self.judge_answer(kind, Line { at, peer, link }, found);
+            }
             Event::In { peer, link } => {
-                self.judge_in(at, peer, link, message, found);
+                let line = Line { at, peer, link };
+                self.judge_in(line, message, found);
                 let turn = self.turn_at(at, peer, peer, false);
-                self.judge_message(at, peer, &turn, true, link, message, found);
+                let fresh = true;
+                self.judge_message(Heard { line, turn, fresh }, message, found);
             }
         }
     }
@@ -561,6 +635,7 @@ impl Umpire {
     {
         found.clear();
         self.seen[usize::from(at)] = true;
-        self.judge_event(way, at, event_of(way, at, message), message, found);
+        let event = event_of(way, at, message);
+        self.judge_event(Passing { way, at }, event, message, found);
     }
 }

@@ -3,7 +3,7 @@ use Rattle.std.proofs.Math.Bool.{or-false}
 use Rattle.std.proofs.lemmas.Result.{err_from_is_err_and}
 use Rattle.ncp_play_page.specs.Lines.{number_after}
 use Rattle.ncp_umpire.specs.declared.umpire.Umpire.{Umpire}
-use Rattle.ncp_play_audit.specs.Audited.{umpire_after, finding_lines}
+use Rattle.ncp_play_audit.specs.Audited.{finding_lines}
 use Rattle.ncp_play_audit.specs.AuditSteps.{AuditsFrom}
 use Rattle.ncp_play_audit.proofs.Findings.{from_end, from_more}
 use Rattle.ncp_play_audit.proofs.auditing.audit_records.Goals as goal

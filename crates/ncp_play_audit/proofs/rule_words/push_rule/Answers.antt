@@ -17,3 +17,12 @@ returns-in-RrpUnasked-clause-bytes c = rw c.in-RrpUnasked.is c.push_text-in-RrpU
 
 pub returns-in-MissingRrp-clause-bytes : goal.returns-in-MissingRrp-clause-bytes
 returns-in-MissingRrp-clause-bytes c = rw c.in-MissingRrp.is c.push_text-in-MissingRrp.ensures.bytes
+
+pub returns-in-ErrUnjust-clause-bytes : goal.returns-in-ErrUnjust-clause-bytes
+returns-in-ErrUnjust-clause-bytes c = rw c.in-ErrUnjust.is c.push_error.ensures.bytes
+
+pub returns-in-LinkRange-clause-bytes : goal.returns-in-LinkRange-clause-bytes
+returns-in-LinkRange-clause-bytes c = rw c.in-LinkRange.is c.push_named-in-LinkRange.ensures.bytes
+
+pub returns-in-AskedAgain-clause-bytes : goal.returns-in-AskedAgain-clause-bytes
+returns-in-AskedAgain-clause-bytes c = rw c.in-AskedAgain.is c.push_named-in-AskedAgain.ensures.bytes

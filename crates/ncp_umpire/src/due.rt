@@ -1,0 +1,81 @@
+//! `Due`: a reply that a side owes, or may give.
+ghost use Rattle.std.specs.Prelude.{◌≡◌};
+ghost use Rattle.ncp_umpire.specs.Replies.{says_wanted, reply_wanted, is_due_of, is_own};
+
+use crate::talk::Talk;
+use ncp_terms::{Command, ERROR_DATA};
+
+/// What a reply has to say.
+#[derive(Clone, Copy, Debug, Drop, PartialEq, Eq)]
+pub enum Wanted {
+    /// An ERP with this byte.
+    Echo(u8),
+    /// An ERR with one of two codes, about these bytes.
+    Error {
+        code: u8,
+        or: u8,
+        bytes: [u8; ERROR_DATA],
+    },
+}
+
+/// A reply of a side to the other, as it is seen at the interface of a host.
+#[derive(Clone, Copy, Debug, Drop, PartialEq, Eq)]
+pub struct Due {
+    /// The host at whose interface it is seen.
+    pub at: u8,
+    /// The other.
+    pub peer: u8,
+    /// Whether the host replies.
+    pub host: bool,
+    /// What it has to say.
+    pub wanted: Wanted,
+    /// Whether it is owed, and not only admitted.
+    pub sure: bool,
+}
+
+impl Wanted {
+    /// Whether a reply says this.
+    pub(crate) fn fits(&self, reply: &Command) -> bool
+        ensures { result ≡ says_wanted self.now reply.now }
+    {
+        match *self {
+            Wanted::Echo(byte) => match *reply {
+                Command::Erp { byte: other } => other == byte,
+                _ => false,
+            },
+            Wanted::Error { code, or, bytes } => match *reply {
+                Command::Err {
+                    code: other,
+                    bytes: shown,
+                } => (other == code || other == or) && shown == bytes,
+                _ => false,
+            },
+        }
+    }
+
+    /// The reply as a command: where two codes fit, that with the first.
+    pub(crate) fn reply(&self) -> Command
+        ensures { result ≡ reply_wanted self.now }
+    {
+        match *self {
+            Wanted::Echo(byte) => Command::Erp { byte },
+            Wanted::Error { code, bytes, .. } => Command::Err { code, bytes },
+        }
+    }
+}
+
+impl Due {
+    /// Whether it is a reply of the host, or of the other.
+    pub(crate) fn is_of(&self, at: u8, peer: u8, host: bool) -> bool
+        ensures { result ≡ is_due_of at peer host self.now }
+    {
+        self.at == at && self.peer == peer && self.host == host
+    }
+
+    /// Whether it is one of the one who speaks.
+    pub(crate) fn is_own(&self, talk: Talk) -> bool
+        ensures { result ≡ is_own talk self.now }
+    {
+        self.is_of(talk.at, talk.peer, talk.sent)
+    }
+}

@@ -1,0 +1,170 @@
+//! `Life`: a connection, or a request for one, and `Mark`: what is known between two hosts.
+ghost use Rattle.std.specs.Prelude.{◌≡◌};
+ghost use Rattle.ncp_umpire.specs.Lives.{unasked_life, is_of_sockets, is_senders, is_number_given, has_link, has_sent_cls, with_cls_sent, has_sent_request, with_request_sent, is_topic};
+
+/// What a side of a connection asks for: the receiver by an RTS, with the link that it chooses; the sender by an STR, with
+/// the byte size that it chooses.
+#[derive(Clone, Copy, Debug, Drop, PartialEq, Eq)]
+pub enum Request {
+    Link(u8),
+    Size(u8),
+}
+
+/// A connection between two sockets, or a request for one, as it is seen at the interface of a host.
+#[derive(Clone, Copy, Debug, Drop, PartialEq, Eq)]
+pub struct Life {
+    /// The host at whose interface it is seen.
+    pub at: u8,
+    /// The other.
+    pub peer: u8,
+    /// The socket of the host.
+    pub local: u32,
+    /// The socket of the other.
+    pub remote: u32,
+    /// The link, once the receiver asked.
+    pub link: Option<u8>,
+    /// The byte size, once the sender asked.
+    pub size: Option<u8>,
+    /// Whether the host sent its CLS.
+    pub host_left: bool,
+    /// Whether the other did.
+    pub peer_left: bool,
+    /// Whether a text came on its link.
+    pub came: bool,
+    /// Whether nothing is judged of it: the host may have acted on a command that was not seen.
+    pub rests: bool,
+}
+
+/// What may be known between two hosts.
+#[derive(Clone, Copy, Debug, Drop, PartialEq, Eq)]
+pub enum Topic {
+    /// Nothing is judged of a link on which the host receives, or the other does: it may have been given to a connection
+    /// that was not seen.
+    LinkRests { host: bool, link: u8 },
+    /// Nothing is judged of the echoes for which the host, or the other, asks: an ERP may have answered one that was not
+    /// seen.
+    EchoesRest { host: bool },
+    /// An ECO of the host, or of the other, has had no ERP.
+    Asks { host: bool },
+}
+
+/// What is known between two hosts, as it is seen at the interface of one.
+#[derive(Clone, Copy, Debug, Drop, PartialEq, Eq)]
+pub struct Mark {
+    /// The host at whose interface it is seen.
+    pub at: u8,
+    /// The other.
+    pub peer: u8,
+    /// What is known.
+    pub topic: Topic,
+}
+
+/// Whether a socket is a sender's.
+pub(crate) fn sends(socket: u32) -> bool
+    ensures { result ≡ is_senders socket }
+{
+    socket % 2 == 1
+}
+
+// Whether a number is the one that was given.
+fn is_given(given: Option<u8>, number: u8) -> bool
+    ensures { result ≡ is_number_given given number }
+{
+    match given {
+        Some(given) => given == number,
+        None => false,
+    }
+}
+
+impl Life {
+    /// Nobody asked.
+    pub(crate) fn new(at: u8, peer: u8, local: u32, remote: u32) -> Life
+        ensures { result ≡ unasked_life at peer local remote }
+    {
+        Life {
+            at,
+            peer,
+            local,
+            remote,
+            link: None,
+            size: None,
+            host_left: false,
+            peer_left: false,
+            came: false,
+            rests: false,
+        }
+    }
+
+    /// Whether it is of these sockets.
+    pub(crate) fn is_pair(&self, at: u8, peer: u8, local: u32, remote: u32) -> bool
+        ensures { result ≡ is_of_sockets at peer local remote self.now }
+    {
+        self.at == at && self.peer == peer && self.local == local && self.remote == remote
+    }
+
+    /// Whether the host, or the other, receives on this link.
+    pub(crate) fn is_used(&self, at: u8, peer: u8, host: bool, link: u8) -> bool
+        ensures { result ≡ has_link at peer host link self.now }
+    {
+        self.at == at && self.peer == peer && sends(self.local) != host && is_given(self.link, link)
+    }
+
+    /// Whether the host, or the other, sent its CLS.
+    pub(crate) fn has_left(&self, sent: bool) -> bool
+        ensures { result ≡ has_sent_cls self.now sent }
+    {
+        if sent { self.host_left } else { self.peer_left }
+    }
+
+    /// After the CLS of the host, or of the other.
+    pub(crate) fn with_left(self, sent: bool) -> Life
+        ensures { result ≡ with_cls_sent self sent }
+    {
+        if sent {
+            Life {
+                host_left: true,
+                ..self
+            }
+        } else {
+            Life {
+                peer_left: true,
+                ..self
+            }
+        }
+    }
+
+    /// Whether the side asked that makes such a request.
+    pub(crate) fn has_asked(&self, request: Request) -> bool
+        ensures { result ≡ has_sent_request self.now request }
+    {
+        match request {
+            Request::Link(_) => self.link.is_some(),
+            Request::Size(_) => self.size.is_some(),
+        }
+    }
+
+    /// After a request.
+    pub(crate) fn with_request(self, request: Request) -> Life
+        ensures { result ≡ with_request_sent self request }
+    {
+        match request {
+            Request::Link(link) => Life {
+                link: Some(link),
+                ..self
+            },
+            Request::Size(size) => Life {
+                size: Some(size),
+                ..self
+            },
+        }
+    }
+}
+
+impl Mark {
+    /// Whether it is of these hosts and about this.
+    pub(crate) fn is_topic(&self, at: u8, peer: u8, topic: Topic) -> bool
+        ensures { result ≡ is_topic at peer topic self.now }
+    {
+        self.at == at && self.peer == peer && self.topic == topic
+    }
+}
