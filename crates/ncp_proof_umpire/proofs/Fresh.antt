@@ -1,11 +1,11 @@
 -- A message that goes out is new where nothing was kept of its link, and what is kept of the data links shows whether
 -- they are quiet.
-use Rattle.std.proofs.Common.{◌≡◌, ◌≢◌, ◌⊎◌, inl, inr, ℕ, ◌≤◌, ◌==◌, Bool, true, false, cond, not, ◌&&◌, ◌||◌, nat_le, if◌then◌else◌, List, [], ◌∷◌, ◌++◌, length, Option, None, Some, is_some, position, filter, refl, sym, ap, ◌∙◌, subst, arith}
+use Rattle.std.proofs.Common.{◌≡◌, ◌⊎◌, inl, inr, ℕ, ◌≤◌, ◌==◌, Bool, true, false, cond, not, ◌&&◌, ◌||◌, nat_le, List, [], ◌∷◌, ◌++◌, length, Option, None, Some, is_some, position, filter, refl, sym, ap, ◌∙◌, subst, arith}
 use Rattle.std.specs.List.{list_all}
 use Rattle.std.proofs.lemmas.Bool.{eqb-true, and_parts}
 use Rattle.ncp_slot.specs.declared.slot.Slot.TheVariants.{Empty}
 use Rattle.ncp_slot.specs.Slot.{is_empty}
-use Rattle.ncp_slot.specs.Slots.{LinkSlot, LinkSlots, is_quiet, slot_at}
+use Rattle.ncp_slot.specs.Slots.{LinkSlot, is_quiet, slot_at}
 use Rattle.ncp_slot.proofs.Places.{is_quiet-tells}
 use Rattle.ncp_model.specs.Peers.{Peer}
 use Rattle.ncp_host.specs.PeerState.{PeerState}

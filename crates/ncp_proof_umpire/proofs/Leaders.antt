@@ -68,6 +68,20 @@ unsaid Rule.RrpUnasked e = refl
 unsaid (Rule.Unquiet reply link) e = refl
 unsaid Rule.RrpFirst e = refl
 unsaid Rule.MissingRrp e = refl
+unsaid (Rule.Missing c) e = refl
+unsaid (Rule.Skipped c) e = refl
+unsaid (Rule.EcoAgain byte) e = refl
+unsaid (Rule.ErpUnasked byte) e = refl
+unsaid (Rule.ErrUnjust code bytes) e = refl
+unsaid (Rule.Sex c) e = refl
+unsaid (Rule.LinkRange c) e = refl
+unsaid (Rule.SizeZero c) e = refl
+unsaid (Rule.AskedAgain c) e = refl
+unsaid (Rule.Unended c) e = refl
+unsaid (Rule.LinkUsed c local remote) e = refl
+unsaid (Rule.ClsUnknown c) e = refl
+unsaid (Rule.ClsAgain c) e = refl
+unsaid (Rule.TextOut c link) e = refl
 
 leads : (ns : List ℕ) (me : ℕ) (h : Host) (umpire : Umpire) (message : List Bool) → Holds ns h → is_one_of me ns ≡ false → next_output h ≡ Some message
     → Pass (spares is_of_leader me) (record_findings umpire ToImp me message)

@@ -1,3 +1,4 @@
+pub mod Talking
 pub mod Spared
 pub mod Steps
 pub mod Goes

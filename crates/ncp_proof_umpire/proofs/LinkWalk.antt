@@ -50,6 +50,20 @@ unsaid Rule.RrpUnasked e = refl
 unsaid (Rule.Unquiet reply link) e = refl
 unsaid Rule.RrpFirst e = refl
 unsaid Rule.MissingRrp e = refl
+unsaid (Rule.Missing c) e = refl
+unsaid (Rule.Skipped c) e = refl
+unsaid (Rule.EcoAgain byte) e = refl
+unsaid (Rule.ErpUnasked byte) e = refl
+unsaid (Rule.ErrUnjust code bytes) e = refl
+unsaid (Rule.Sex c) e = refl
+unsaid (Rule.LinkRange c) e = refl
+unsaid (Rule.SizeZero c) e = refl
+unsaid (Rule.AskedAgain c) e = refl
+unsaid (Rule.Unended c) e = refl
+unsaid (Rule.LinkUsed c local remote) e = refl
+unsaid (Rule.ClsUnknown c) e = refl
+unsaid (Rule.ClsAgain c) e = refl
+unsaid (Rule.TextOut c link) e = refl
 
 -- what goes out on a link may
 free : (me n : ℕ) (h : Host) (umpire : Umpire) (s : PeerState) (message : List Bool) (is : IsOut n message s) → state_of h n ≡ Some s → Follows me h umpire

@@ -1,5 +1,5 @@
 -- Records at other interfaces leave what is known of a host: what is kept of its links, and what is seen of its phases.
-use Rattle.std.proofs.Common.{◌≡◌, ◌≢◌, inl, inr, ℕ, ◌+◌, ◌*◌, ◌<◌, ◌==◌, Bool, true, false, not, ◌&&◌, ◌||◌, nat_lt, if◌then◌else◌, List, length, Option, None, Some, Result, Ok, Err, get_or-set_other, filter, refl, sym, ap, ◌∙◌, subst, arith}
+use Rattle.std.proofs.Common.{◌≡◌, ℕ, ◌<◌, ◌==◌, Bool, true, false, not, nat_lt, if◌then◌else◌, List, length, Some, Result, Ok, Err, get_or-set_other, filter, refl, sym, ap, ◌∙◌, subst, arith}
 use Rattle.std.proofs.lemmas.Bool.{eqb-true}
 use Rattle.ncp_leader.specs.declared.fault.MessageFault.{MessageFault}
 use Rattle.ncp_leader.specs.declared.leader.Leader.{Leader}
@@ -13,7 +13,6 @@ use Rattle.ncp_host.specs.Host.{Host, state_of}
 use Rattle.ncp_umpire.specs.declared.kept.Kept.{Kept}
 use Rattle.ncp_umpire.specs.declared.umpire.Umpire.{Umpire}
 use Rattle.ncp_umpire.specs.declared.view.View.{View}
-use Rattle.ncp_umpire.specs.declared.views.TheConstants.{VIEWS}
 use Rattle.ncp_umpire.specs.declared.way.Way.{Way}
 use Rattle.ncp_umpire.specs.declared.way.Way.TheVariants.{ToImp, FromImp}
 use Rattle.ncp_umpire.specs.Events.{is_answer, event_behind}
@@ -22,7 +21,7 @@ use Rattle.ncp_umpire.specs.Tables.{index_of, view_in, with_view}
 use Rattle.ncp_umpire.specs.Views.{new_view}
 use Rattle.ncp_umpire.specs.Messages.{judged_reading}
 use Rattle.ncp_umpire.specs.Judged.{sees, view_of, slot_of_link, same_of, view_after_out, fresh_out, umpire_after_out, with_answer, umpire_after_answer, judges_coming, with_coming, after_in, turn_at, after_read, after_said, after_event, after_record}
-use Rattle.ncp_proof_umpire.proofs.KeptOne.{Apart, Placed, placed, put_out}
+use Rattle.ncp_proof_umpire.proofs.KeptOne.{Apart, placed, put_out}
 use Rattle.ncp_proof_umpire.proofs.Shown.{Shows, of_itself, after_answering, after_coming}
 use Rattle.ncp_proof_umpire.proofs.Linked.{Known, keyed, apart_known}
 use Rattle.ncp_proof_umpire.proofs.PhaseSeen.{view_length, Seen}

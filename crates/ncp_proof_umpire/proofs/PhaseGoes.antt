@@ -1,5 +1,5 @@
 -- The commands of a control message that goes out: by what waited at the host before it, they break no rule.
-use Rattle.std.proofs.Common.{◌≡◌, ℕ, suc, ◌+◌, ◌-◌, ◌*◌, ◌≤◌, ◌<◌, Bool, true, false, not, ◌&&◌, ◌||◌, nat_le, if◌then◌else◌, List, [], ◌∷◌, ◌++◌, length, drop, All, Option, None, Some, Ok, is_some, option_to_list, refl, sym, ap, ◌∙◌, subst, arith}
+use Rattle.std.proofs.Common.{◌≡◌, ℕ, suc, ◌+◌, ◌-◌, ◌*◌, ◌≤◌, Bool, true, false, ◌||◌, nat_le, if◌then◌else◌, List, [], ◌∷◌, ◌++◌, length, drop, All, Option, None, Ok, option_to_list, refl, ap, ◌∙◌, arith}
 use Rattle.std.proofs.lemmas.List.{length-append}
 use Rattle.ncp_numbers.specs.Bytes.{bits_of_bytes}
 use Rattle.ncp_numbers.proofs.Bytes.{length-bits_of_bytes}
@@ -10,11 +10,10 @@ use Rattle.ncp_control.proofs.Reading.{spelling_short}
 use Rattle.ncp_model.specs.declared.limits.TheConstants.{MAX_CONTROL}
 use Rattle.ncp_model.specs.Phase.{Phase, up, is_rst, is_rrp, is_other}
 use Rattle.ncp_model.specs.Sending.{fitting, next_commands}
-use Rattle.ncp_model.proofs.ResetLists.{rsts, rrps}
 use Rattle.ncp_umpire.specs.declared.finding.Finding.{Finding}
 use Rattle.ncp_umpire.specs.declared.finding.Thing.{Thing}
 use Rattle.ncp_umpire.specs.declared.view.View.{View}
-use Rattle.ncp_umpire.specs.Phases.{is_text, early_finding, after_thing, item_findings, after_item, items_findings, after_items, view_after_reply, missing_finding}
+use Rattle.ncp_umpire.specs.Phases.{is_text, early_finding, after_thing, item_findings, after_item, items_findings, after_items, missing_finding}
 use Rattle.ncp_umpire.specs.Judged.{is_roomy}
 use Rattle.ncp_proof_umpire.proofs.Phased.{Phased, Settled, Sees, rst_goes, rst_keeps_rest, rrp_goes, rrp_keeps_rest, other_goes}
 

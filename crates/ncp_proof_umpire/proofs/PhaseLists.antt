@@ -1,9 +1,9 @@
 -- Of the commands that wait: the RST and the RRP stand before all others, and which of the two leads.
-use Rattle.std.proofs.Common.{◌≡◌, ℕ, zero, suc, ◌+◌, ◌<◌, ◌≤◌, ◌==◌, nat_le, get_or, replicate, Bool, true, false, not, ◌||◌, if◌then◌else◌, List, [], ◌∷◌, ◌++◌, refl, sym, ap, ◌∙◌, arith}
+use Rattle.std.proofs.Common.{◌≡◌, ℕ, zero, suc, ◌+◌, ◌<◌, ◌≤◌, ◌==◌, nat_le, get_or, replicate, Bool, true, false, if◌then◌else◌, List, [], ◌∷◌, ◌++◌, refl, arith}
 use Rattle.std.proofs.lemmas.Bool.{leb-true}
 use Rattle.ncp_terms.specs.declared.command.Command.{Command}
-use Rattle.ncp_model.specs.Phase.{is_rst, is_rrp, is_reset, is_other}
-use Rattle.ncp_model.proofs.ResetLists.{bit, rsts, rrps, others, purged, rsts-append, rrps-append, others-append, rsts-purged, rrps-purged, others-purged, purged_none}
+use Rattle.ncp_model.specs.Phase.{is_rst, is_other}
+use Rattle.ncp_model.proofs.ResetLists.{rsts, rrps, others, purged, rsts-append, rrps-append, others-append, others-purged, purged_none}
 
 -- ---- numbers and rows
 

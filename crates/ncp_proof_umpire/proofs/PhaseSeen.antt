@@ -1,5 +1,5 @@
 -- What is seen at a host of its phase with a peer, through what goes out and what comes.
-use Rattle.std.proofs.Common.{◌≡◌, ◌≢◌, ◌⊎◌, inl, inr, ℕ, ◌+◌, ◌*◌, ◌≤◌, ◌<◌, ◌==◌, Bool, true, false, not, ◌&&◌, ◌||◌, if◌then◌else◌, List, [], ◌∷◌, ◌++◌, length, drop, take, All, Option, None, Some, Result, Ok, Err, is_some, option_to_list, get_or-set_same, get_or-set_other, length-set, refl, sym, ap, ◌∙◌, subst, arith}
+use Rattle.std.proofs.Common.{◌≡◌, ◌≢◌, inl, inr, ℕ, ◌+◌, ◌≤◌, ◌<◌, ◌==◌, Bool, true, false, if◌then◌else◌, List, [], ◌∷◌, length, drop, take, All, Option, None, Some, Result, Ok, Err, option_to_list, get_or-set_same, get_or-set_other, length-set, refl, sym, ap, ◌∙◌, subst, arith}
 use Rattle.std.proofs.lemmas.Bool.Decides.{eqb_tells}
 use Rattle.ncp_numbers.specs.Bytes.{bytes_of, bits_of_bytes}
 use Rattle.ncp_numbers.proofs.Packing.{bytes_of-bits_of_bytes}
@@ -16,7 +16,7 @@ use Rattle.ncp_control.specs.Reading.{commands_in, fault_in}
 use Rattle.ncp_control.proofs.Reading.{spellings_small, spelled_alone}
 use Rattle.ncp_slot.specs.declared.slot.Slot.{Slot}
 use Rattle.ncp_slot.specs.Slot.{is_empty, is_travelling, answered, woken}
-use Rattle.ncp_slot.specs.Slots.{LinkSlot, LinkSlots, slot_at, with_slot, all_woken, is_quiet, IsQuiet}
+use Rattle.ncp_slot.specs.Slots.{LinkSlot, LinkSlots, slot_at, with_slot, all_woken, is_quiet}
 use Rattle.ncp_slot.proofs.Places.{slot_at-with_slot_same, slot_at-with_slot_other, is_quiet-tells, same_test}
 use Rattle.ncp_slot.proofs.Waking.{slot_at-all_woken}
 use Rattle.ncp_model.specs.declared.pair.Pair.{Pair}
@@ -32,16 +32,15 @@ use Rattle.ncp_model.proofs.LinksLead.{led}
 use Rattle.ncp_model.proofs.ResetLists.{rrps, rrps-append}
 use Rattle.ncp_proof_machine.proofs.EndsGood.{Good}
 use Rattle.ncp_host.specs.Counting.{one_more}
-use Rattle.ncp_host.specs.PeerState.{PeerState, control_link, frees_on, is_answered, answer_taken, answer_comes}
-use Rattle.ncp_host.specs.Hearing.{state_hears, state_hears_text, is_wrong_link, state_after_control, state_after_text, message_after}
-use Rattle.ncp_host.specs.Output.{leader_to, links, text_message}
+use Rattle.ncp_host.specs.PeerState.{PeerState, control_link, is_answered, answer_taken, answer_comes}
+use Rattle.ncp_host.specs.Hearing.{state_hears, state_hears_text, message_after}
+use Rattle.ncp_host.specs.Output.{leader_to, links}
 use Rattle.ncp_host.specs.Host.{is_one_of}
 use Rattle.ncp_host.specs.Calls.{sockets}
 use Rattle.ncp_transcript.specs.declared.call.Call.{Call}
 use Rattle.ncp_transcript.specs.declared.note.HostNote.{HostNote}
 use Rattle.ncp_proof_runs.specs.Peers.{called_for, note_for}
 use Rattle.ncp_proof_runs.proofs.MadeOfRuns.{next-first}
-use Rattle.ncp_umpire.specs.declared.finding.Finding.{Finding}
 use Rattle.ncp_umpire.specs.declared.finding.Thing.{Thing}
 use Rattle.ncp_umpire.specs.declared.umpire.Umpire.{Umpire}
 use Rattle.ncp_umpire.specs.declared.view.View.{View}
@@ -51,13 +50,14 @@ use Rattle.ncp_umpire.specs.Tables.{index_of, view_in, with_view}
 use Rattle.ncp_umpire.specs.Views.{new_view}
 use Rattle.ncp_umpire.specs.Messages.{is_unused, judged_reading}
 use Rattle.ncp_umpire.specs.Phases.{early_finding, after_thing, items_findings, after_item, after_items, after_room, missing_finding}
-use Rattle.ncp_umpire.specs.Judged.{view_of, knows_zero, turn_at, is_roomy, items_said, read_findings, after_read, said_findings, after_said}
+use Rattle.ncp_umpire.specs.Judged.{view_of, knows_zero, turn_at, is_roomy, items_said, after_read, said_findings, after_said}
+use Rattle.ncp_proof_umpire.proofs.Talking.{empty_pass, control_parted, Parts, text_found}
 use Rattle.ncp_proof_umpire.proofs.HostSlots.{is_of_call}
 use Rattle.ncp_proof_umpire.proofs.Goes.{used}
 use Rattle.ncp_proof_umpire.proofs.Laid.{fitting_all}
 use Rattle.ncp_proof_umpire.proofs.PhaseLists.{none_of}
 use Rattle.ncp_proof_umpire.proofs.Fresh.{OnLinks, not_quiet}
-use Rattle.ncp_proof_umpire.proofs.Phased.{Phased, Settled, Sees, unquieted, up_settled, quieted, text_goes}
+use Rattle.ncp_proof_umpire.proofs.Phased.{Phased, Sees, unquieted, up_settled, quieted, text_goes}
 use Rattle.ncp_proof_umpire.proofs.PhaseGoes.{rests_more, AllWent, all_went, roomy_left, none_missing}
 use Rattle.ncp_proof_umpire.proofs.PhaseSteps.{Stands, Unheard, none_heard, stands_if, no_reply, settling, calls_stand, echo_stands, reset_stands, command_stands, fault_stands, text_stands, makes_stand}
 
@@ -265,15 +265,15 @@ answer_seen on how s v a k = go (is_answered on s) refl
 
 -- ---- a message that goes out
 
--- what is found in a message that is read, and what is known after it
+-- what is found in a message that is read is of what it says alone, and what is known after it
 pub record Out (A : Umpire) (me n : ℕ) (fresh : Bool) (r : Result Message MessageFault) (p : Peer) (q : Bool) : Type 0 where
-  pub none : said_findings A me n (turn_at A me n me true) fresh r ≡ []
+  pub none : Parts A me n me true fresh r
   pub stands : Stands p q (view_in (after_said A me n (turn_at A me n me true) fresh r).views me n)
 
 -- again
 pub again_out : (A : Umpire) (me n : ℕ) (r : Result Message MessageFault) (p : Peer) (q : Bool) → Stands p q (view_in A.views me n) → Out A me n false r p q
-again_out A me n (Ok m) p q k = record { none = refl; stands = k }
-again_out A me n (Err fault) p q k = record { none = refl; stands = k }
+again_out A me n (Ok m) p q k = record { none = λ P t. refl; stands = k }
+again_out A me n (Err fault) p q k = record { none = λ P t. refl; stands = k }
 
 told_room : (me : ℕ) (busy : Option ℕ) (zero room : Bool) (v : View) → v.told ≡ true → after_room (record { by = me; sent = true; busy = busy; zero = zero }) room v ≡ v
 told_room me busy zero true v t = grind arith
@@ -283,9 +283,7 @@ told_room me busy zero false v t = refl
 pub commands_out : (A : Umpire) (me n : ℕ) (p : Peer) (q : Bool) → length A.views ≡ VIEWS → me < 256 → n < 256 → All IsCommand p.phase.waiting → Sees q (busy_link me n A.kept) → Stands p q (view_of A me n)
     → Out A me n true (Ok (message_with (leader_to n 0) 8 (bits_of_bytes (spellings (next_commands p.phase.waiting))))) (peer_sends p) q
 commands_out A me n p q l a b c busy k = record {
-  none =
-      ap found items ∙ ap (λ (xs : List Finding). xs ++ option_to_list (missing_finding (record { by = me; sent = true; busy = busy_link me n A.kept; zero = knows_zero A me n }) (is_roomy text) after)) w.none
-      ∙ ap option_to_list (none_missing me (busy_link me n A.kept) (knows_zero A me n) (is_roomy text) rest p.phase q after busy k.settled w.phased (roomy_left p.phase.waiting c));
+  none = λ P t. control_parted P A me n me true text none_found none_left t;
   stands = subst (λ (x : View). Stands (peer_sends p) q x) (sym is) stands_after;
 }
   where
@@ -318,10 +316,13 @@ commands_out A me n p q l a b c busy k = record {
         ap (λ (bs : List ℕ). items_of (commands_in bs) (fault_in bs)) spelled
         ∙ ap (λ (ds : List Command). items_of ds (fault_in (spellings cs))) alone.0 ∙ ap (items_of cs) alone.1
 
-    found : List (Result Command CommandFault) → List Finding
-    found said =
-        items_findings (record { by = me; sent = true; busy = busy_link me n A.kept; zero = knows_zero A me n }) said v
-        ++ option_to_list (missing_finding (record { by = me; sent = true; busy = busy_link me n A.kept; zero = knows_zero A me n }) (is_roomy text) (after_items (record { by = me; sent = true; busy = busy_link me n A.kept; zero = knows_zero A me n }) said v))
+    none_found : items_findings (record { by = me; sent = true; busy = busy_link me n A.kept; zero = knows_zero A me n }) (items_said text) v ≡ []
+    none_found = ap (λ (said : List (Result Command CommandFault)). items_findings (record { by = me; sent = true; busy = busy_link me n A.kept; zero = knows_zero A me n }) said v) items ∙ w.none
+
+    none_left : missing_finding (record { by = me; sent = true; busy = busy_link me n A.kept; zero = knows_zero A me n }) (is_roomy text) (after_items (record { by = me; sent = true; busy = busy_link me n A.kept; zero = knows_zero A me n }) (items_said text) v) ≡ None
+    none_left =
+        ap (λ (said : List (Result Command CommandFault)). missing_finding (record { by = me; sent = true; busy = busy_link me n A.kept; zero = knows_zero A me n }) (is_roomy text) (after_items (record { by = me; sent = true; busy = busy_link me n A.kept; zero = knows_zero A me n }) said v)) items
+        ∙ none_missing me (busy_link me n A.kept) (knows_zero A me n) (is_roomy text) rest p.phase q after busy k.settled w.phased (roomy_left p.phase.waiting c)
 
     read : List (Result Command CommandFault) → View
     read said = after_room (record { by = me; sent = true; busy = busy_link me n A.kept; zero = knows_zero A me n }) (is_roomy text) (after_items (record { by = me; sent = true; busy = busy_link me n A.kept; zero = knows_zero A me n }) said v)
@@ -349,16 +350,13 @@ heard_some m on t u e = go (sender_on on m) refl e
         let nay : true ≡ false = sym l.1 ∙ u on x.0 in
         absurd (cc)
 
-text_found : (me : ℕ) (busy : Option ℕ) (zero : Bool) (m : Message) (v : View) → is_unused m.leader.link ≡ false → (m.leader.link == 0) ≡ false → read_findings (judged_reading m) (record { by = me; sent = true; busy = busy; zero = zero }) m.text v ≡ option_to_list (early_finding (record { by = me; sent = true; busy = busy; zero = zero }) Thing.Text v)
-text_found me busy zero m v x y = rw (x, y) refl
-
 text_view : (me : ℕ) (busy : Option ℕ) (zero : Bool) (m : Message) (v : View) → is_unused m.leader.link ≡ false → (m.leader.link == 0) ≡ false → after_read (judged_reading m) (record { by = me; sent = true; busy = busy; zero = zero }) m.text v ≡ after_thing (record { by = me; sent = true; busy = busy; zero = zero }) Thing.Text v
 text_view me busy zero m v x y = rw (x, y) refl
 
 pub text_out : (A : Umpire) (me n on : ℕ) (t : ℕ × List Bool) (p : Peer) (q now : Bool) → length A.views ≡ VIEWS → me < 256 → n < 256 → is_one_of on links ≡ true → (on == 0) ≡ false → answer (cut_in on p.ends) ≡ Some t → Stands p q (view_of A me n)
     → Out A me n true (Ok (message_with (leader_to n on) t.0 t.1)) (cuts on p) now
 text_out A me n on t p q now l me_small n_small u z cut k = record {
-  none = text_found me (busy_link me n A.kept) (knows_zero A me n) m v (used on u) z ∙ ap option_to_list w.0;
+  none = λ P t. empty_pass P (said_findings A me n (turn_at A me n me true) true (Ok m)) (text_found A me n me true m (used on u) z ∙ ap option_to_list w.0);
   stands =
       subst (λ (x : View). Stands (cuts on p) now x)
       (sym (view_same A.views me n (after_read (judged_reading m) (record { by = me; sent = true; busy = busy_link me n A.kept; zero = knows_zero A me n }) m.text v) l me_small n_small ∙ text_view me (busy_link me n A.kept) (knows_zero A me n) m v (used on u) z))

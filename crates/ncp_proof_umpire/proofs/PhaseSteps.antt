@@ -1,29 +1,26 @@
 -- What a host keeps for a peer, beside what is seen of its phase with it: through each call, and all that comes.
-use Rattle.std.proofs.Common.{◌≡◌, ◌≢◌, ◌⊎◌, inl, inr, ℕ, ◌+◌, ◌≤◌, ◌<◌, ◌==◌, Bool, true, false, not, ◌&&◌, ◌||◌, if◌then◌else◌, List, [], ◌∷◌, ◌++◌, Option, None, Some, Result, Ok, Err, is_some, refl, sym, ap, ◌∙◌, subst, arith}
+use Rattle.std.proofs.Common.{◌≡◌, ◌⊎◌, inl, inr, ℕ, ◌<◌, Bool, true, false, ◌&&◌, ◌||◌, if◌then◌else◌, List, [], ◌∷◌, ◌++◌, Option, Ok, Err, refl, sym, ap, ◌∙◌, subst, arith}
 use Rattle.std.specs.List.{list_any}
 use Rattle.std.specs.FinMap.{get, get-empty}
 use Rattle.ncp_terms.specs.declared.command.Command.{Command}
 use Rattle.ncp_terms.specs.declared.fault.CommandFault.{CommandFault}
-use Rattle.ncp_control.specs.Texts.{items_of}
 use Rattle.ncp_model.specs.declared.pair.Pair.{Pair}
 use Rattle.ncp_model.specs.Pairs.{pair_cmp}
-use Rattle.ncp_model.specs.End.{End}
 use Rattle.ncp_model.specs.Act.{answer, made_by_call}
 use Rattle.ncp_model.specs.Echo.{Echoes, echo_answer, echo_asked}
 use Rattle.ncp_model.specs.Ends.{Ends, hears_link, put, receiver_on, pair_of, leads_to, hear, text_in, map_after_at, no_ends}
 use Rattle.ncp_model.specs.Happenings.{Happening, happens}
 use Rattle.ncp_model.specs.Leading.{passes}
-use Rattle.ncp_model.specs.Phase.{Phase, Reaction, up, is_rst, is_rrp, is_reset, is_other, is_resetting, has_place, queued, goes_down, wants_reset, owes_answer, hears_rrp, phase_answers, phase_asks, phase_settles, makes_all, phase_hears, phase_makes, resets}
+use Rattle.ncp_model.specs.Phase.{Phase, Reaction, up, is_rst, is_rrp, is_other, is_resetting, has_place, queued, goes_down, wants_reset, owes_answer, hears_rrp, phase_answers, phase_asks, phase_settles, makes_all, phase_hears, phase_makes, resets}
 use Rattle.ncp_model.specs.Sending.{is_full}
 use Rattle.ncp_model.specs.Texts.{made_by_text}
 use Rattle.ncp_model.specs.Peers.{Peer, PairCall, Ask_to_send, Ask_to_receive, Close, Give, Take, Allocate, Call_back, Interrupt, happened_at, standing, called, calls, calls_echo, calls_reset, calls_up, cleared, echo_called, echoes_after, hears, hears_fault, hears_other, hears_text, makes, reaction, takes_text}
-use Rattle.ncp_model.proofs.ResetLists.{rsts, rrps, rrps-append, rrps-purged}
+use Rattle.ncp_model.proofs.ResetLists.{rrps, rrps-append, rrps-purged}
 use Rattle.ncp_proof_machine.proofs.EndsGood.{Good, same_or, put-changes}
 use Rattle.ncp_proof_watch.proofs.LinksStay.{brings_link, heard-by}
 use Rattle.ncp_umpire.specs.declared.finding.Thing.{Thing}
 use Rattle.ncp_umpire.specs.declared.view.View.{View}
-use Rattle.ncp_umpire.specs.Views.{awaits_reply}
-use Rattle.ncp_umpire.specs.Phases.{after_thing, after_item, after_items, view_after_reset, view_after_reply}
+use Rattle.ncp_umpire.specs.Phases.{after_thing, after_item, view_after_reset, view_after_reply}
 use Rattle.ncp_proof_umpire.proofs.Phased.{Phased, Settled, Sees, falling, queueing, wanting, answering, asking, rst_comes, rrp_comes, rrp_ends_rest, other_comes}
 
 -- ---- the commands that are made

@@ -1,6 +1,6 @@
 -- What is seen of the phases of a host with all its peers, through what goes out and what comes: by no rule is the host
 -- found to be wrong.
-use Rattle.std.proofs.Common.{◌≡◌, ◌≢◌, ◌⊎◌, inl, inr, ℕ, ◌+◌, ◌*◌, ◌≤◌, ◌<◌, ◌==◌, Bool, true, false, not, ◌&&◌, ◌||◌, if◌then◌else◌, List, [], ◌∷◌, ◌++◌, length, take, All, Option, None, Some, Result, Ok, Err, option_map, option_to_list, is_some, filter, refl, sym, ap, ◌∙◌, subst, arith}
+use Rattle.std.proofs.Common.{◌≡◌, ◌≢◌, ◌⊎◌, inl, inr, ℕ, ◌*◌, ◌≤◌, ◌<◌, ◌==◌, Bool, true, false, not, ◌&&◌, ◌||◌, if◌then◌else◌, List, [], ◌∷◌, ◌++◌, length, Option, None, Some, Result, Ok, Err, option_map, option_to_list, filter, refl, sym, ap, ◌∙◌, subst, arith}
 use Rattle.std.proofs.lemmas.Bool.{eqb-true}
 use Rattle.std.proofs.lemmas.List.{length-replicate}
 use Rattle.std.proofs.lemmas.Bool.Decides.{eqb_tells}
@@ -9,7 +9,6 @@ use Rattle.ncp_numbers.proofs.Bytes.{length-bits_of_bytes}
 use Rattle.ncp_leader.specs.declared.fault.MessageFault.{MessageFault}
 use Rattle.ncp_leader.specs.declared.leader.Leader.{Leader}
 use Rattle.ncp_leader.specs.declared.leader.Short.{Short}
-use Rattle.ncp_leader.specs.declared.regular.TheConstants.{FRONT_BITS}
 use Rattle.ncp_leader.specs.Leader.{leader_in}
 use Rattle.ncp_leader.specs.Message.{Message, message_in, message_with}
 use Rattle.ncp_leader.proofs.Messages.{message_leader}
@@ -23,38 +22,30 @@ use Rattle.ncp_control.specs.Reading.{commands_in, fault_in}
 use Rattle.ncp_slot.specs.declared.slot.Slot.{Slot}
 use Rattle.ncp_slot.specs.Slot.{is_empty, answered, woken}
 use Rattle.ncp_slot.specs.Slots.{LinkSlot, LinkSlots, slot_at, with_slot, is_quiet}
-use Rattle.ncp_slot.proofs.Places.{slot_at-with_slot_same, slot_at-with_slot_other, slot_at-no_slots}
+use Rattle.ncp_slot.proofs.Places.{slot_at-with_slot_other, slot_at-no_slots}
 use Rattle.ncp_model.specs.Act.{answer}
 use Rattle.ncp_model.specs.Ends.{cut_in}
-use Rattle.ncp_model.specs.Phase.{Phase}
 use Rattle.ncp_model.specs.Sending.{next_commands}
 use Rattle.ncp_model.specs.declared.limits.TheConstants.{MAX_CONTROL}
-use Rattle.ncp_model.specs.Peers.{Peer, cuts, peer_sends}
+use Rattle.ncp_model.specs.Peers.{cuts, peer_sends}
 use Rattle.ncp_transcript_two.specs.Tie.{IsText}
 use Rattle.ncp_transcript_two.proofs.Well.{cut-written}
 use Rattle.ncp_transcript_two.proofs.Written.{read}
-use Rattle.ncp_host.specs.Counting.{one_more}
 use Rattle.ncp_host.specs.PeerState.{PeerState, new_state, control_link, answer_comes}
 use Rattle.ncp_host.specs.Hearing.{message_after, answer_of}
 use Rattle.ncp_host.specs.Output.{leader_to, message_to, links, control_message, text_message, output_by, after_by, after_output}
 use Rattle.ncp_host.specs.Host.{Host, state_of, is_one_of, new_host}
 use Rattle.ncp_host.specs.Arrivals.{received_in}
-use Rattle.ncp_host.specs.Turns.{next_output}
-use Rattle.ncp_transcript.specs.declared.input.Input.{Input}
 use Rattle.ncp_transcript.specs.declared.note.HostNote.{HostNote}
 use Rattle.ncp_transcript.specs.After.{after_note}
-use Rattle.ncp_transcript.specs.Noting.{answer_in, answer_with, if_peer, note_as, note_of_bits, note_of_message}
-use Rattle.ncp_transcript.specs.Runs.{IsHostSaid, AreHostNotes}
-use Rattle.ncp_transcript.proofs.Saying.{noted_said}
-use Rattle.ncp_transcript_two.specs.Seen.{told_call, NoteFits}
-use Rattle.ncp_transcript_two.proofs.Fitting.{note-fits}
+use Rattle.ncp_transcript.specs.Noting.{answer_with, if_peer, note_as, note_of_bits}
+use Rattle.ncp_transcript.specs.Runs.{IsHostSaid}
 use Rattle.ncp_proof_runs.specs.Peers.{is_this_number, peer_of_leader, names, bits_for, out_for, note_for}
-use Rattle.ncp_proof_runs.proofs.Said.{IsOut, IsSaidOf}
+use Rattle.ncp_proof_runs.proofs.Said.{IsOut}
 use Rattle.ncp_proof_runs.proofs.Ready.{link_small}
 use Rattle.ncp_proof_runs.proofs.States.{done, peer_there}
 use Rattle.ncp_proof_runs.proofs.PeerRuns.{message-slots}
-use Rattle.ncp_proof_runs.proofs.HostRuns.{Holds, some_same, out-turn, out-is, note-state}
-use Rattle.ncp_proof_runs.proofs.EachPeer.{holds-after, new-holds}
+use Rattle.ncp_proof_runs.proofs.HostRuns.{Holds, some_same, note-state}
 use Rattle.ncp_umpire.specs.declared.finding.Finding.{Finding}
 use Rattle.ncp_umpire.specs.declared.finding.Rule.{Rule}
 use Rattle.ncp_umpire.specs.declared.finding.Thing.{Thing}
@@ -62,28 +53,25 @@ use Rattle.ncp_umpire.specs.declared.kept.Kept.{Kept}
 use Rattle.ncp_umpire.specs.declared.umpire.Umpire.{Umpire}
 use Rattle.ncp_umpire.specs.declared.view.View.{View}
 use Rattle.ncp_umpire.specs.declared.views.TheConstants.{VIEWS}
-use Rattle.ncp_umpire.specs.declared.way.Way.{Way}
 use Rattle.ncp_umpire.specs.declared.way.Way.TheVariants.{ToImp, FromImp}
 use Rattle.ncp_umpire.specs.Events.{is_answer}
 use Rattle.ncp_umpire.specs.Tables.{index_of, view_in, with_view}
 use Rattle.ncp_umpire.specs.Views.{new_view}
 use Rattle.ncp_umpire.specs.Slots.{is_of, place_of, kept_slot, same_at, gone_out, has_room, with_out, busy_link}
-use Rattle.ncp_umpire.specs.Messages.{is_unused, judged_reading, rule_of_message}
-use Rattle.ncp_umpire.specs.Phases.{early_finding, after_thing, item_findings, after_item, items_findings, after_items, missing_finding}
-use Rattle.ncp_umpire.specs.Judged.{new_umpire, sees, by_host, view_of, knows_zero, slot_of_link, same_of, is_fresh, changes_slot, out_rule, out_finding, fresh_out, view_after_out, umpire_after_out, with_answer, umpire_after_answer, judges_coming, with_coming, after_in, turn_at, is_roomy, items_said, control_findings, read_findings, after_read, said_findings, after_said, record_findings, after_record}
-use Rattle.ncp_umpire.proofs.Passing.{Pass, both, goes_said}
+use Rattle.ncp_umpire.specs.Messages.{is_unused, judged_reading}
+use Rattle.ncp_umpire.specs.Phases.{early_finding, item_findings, after_item, items_findings, after_items, missing_finding}
+use Rattle.ncp_umpire.specs.Talked.{talk_of}
+use Rattle.ncp_umpire.specs.Judged.{new_umpire, sees, by_host, view_of, knows_zero, slot_of_link, same_of, is_fresh, out_rule, out_finding, fresh_out, view_after_out, umpire_after_out, with_answer, umpire_after_answer, judges_coming, with_coming, after_in, turn_at, is_roomy, items_said, control_findings, after_read, said_findings, after_said, record_findings, after_record}
+use Rattle.ncp_umpire.proofs.Passing.{Pass, goes_said}
+use Rattle.ncp_proof_umpire.proofs.Talking.{empty_pass, control_talk, control_parted, message_talk, Parts}
 use Rattle.ncp_umpire.proofs.Following.{Keeps, said_keeps, out_is, short_is, other_is, own_is, in_is, answer_is}
-use Rattle.ncp_proof_umpire.specs.Recordings.{spares, any_rule}
-use Rattle.ncp_proof_umpire.proofs.Spared.{spared}
-use Rattle.ncp_proof_umpire.proofs.Steps.{noted}
-use Rattle.ncp_proof_umpire.proofs.Leaders.{apart, peers_parts, peer_of_turn}
+use Rattle.ncp_proof_umpire.proofs.Leaders.{apart}
 use Rattle.ncp_proof_umpire.proofs.Shown.{Shows, allowed}
-use Rattle.ncp_proof_umpire.proofs.HostSlots.{is_of_call, call_noted, call_leaves, bits_leave, answer_here, answer_there, was}
-use Rattle.ncp_proof_umpire.proofs.Linked.{Known, Follows, after_call, after_out_of, after_in_of, coming_keeps, no_regular}
-use Rattle.ncp_proof_umpire.proofs.LinkWalk.{follows_begins}
+use Rattle.ncp_proof_umpire.proofs.HostSlots.{is_of_call, call_leaves, answer_here, answer_there, was}
+use Rattle.ncp_proof_umpire.proofs.Linked.{Known, Follows, after_out_of, coming_keeps, no_regular}
 use Rattle.ncp_proof_umpire.proofs.Fine.{Fine}
 use Rattle.ncp_proof_umpire.proofs.Laid.{Whole, out_whole, weighs}
-use Rattle.ncp_proof_umpire.proofs.ReadyPeers.{Ready, AllReady, ready_after, fits_in, fits_out, ready_begins}
+use Rattle.ncp_proof_umpire.proofs.ReadyPeers.{AllReady}
 use Rattle.ncp_proof_umpire.proofs.PhaseLists.{itself, replicated}
 use Rattle.ncp_proof_umpire.proofs.Fresh.{New, is_new, OnLinks, sees_busy}
 use Rattle.ncp_proof_umpire.proofs.Phased.{Sees}
@@ -175,17 +163,17 @@ unread ns me h bits k (Ok leader) e f m s there = ap (λ (r : Result Leader Shor
         absurd (cc)
     by true z false e = ap (λ (b : Bool). if b then message_after leader.link bits (message_in bits) s else s) e
 
-said_long : (A : Umpire) (me n by : ℕ) (sent fresh : Bool) (r : Result Message MessageFault) → length (after_said A me n (turn_at A me n by sent) fresh r).views ≡ length A.views
+pub said_long : (A : Umpire) (me n by : ℕ) (sent fresh : Bool) (r : Result Message MessageFault) → length (after_said A me n (turn_at A me n by sent) fresh r).views ≡ length A.views
 said_long A me n by sent true (Ok m) = view_length A.views me n (after_read (judged_reading m) (turn_at A me n by sent) m.text (view_of A me n))
 said_long A me n by sent false (Ok m) = refl
 said_long A me n by sent fresh (Err fault) = refl
 
-said_other : (A : Umpire) (me n m by : ℕ) (sent fresh : Bool) (r : Result Message MessageFault) → m ≢ n → view_in (after_said A me n (turn_at A me n by sent) fresh r).views me m ≡ view_in A.views me m
+pub said_other : (A : Umpire) (me n m by : ℕ) (sent fresh : Bool) (r : Result Message MessageFault) → m ≢ n → view_in (after_said A me n (turn_at A me n by sent) fresh r).views me m ≡ view_in A.views me m
 said_other A me n m by sent true (Ok x) d = view_other A.views me n m (after_read (judged_reading x) (turn_at A me n by sent) x.text (view_of A me n)) d
 said_other A me n m by sent false (Ok x) d = refl
 said_other A me n m by sent fresh (Err fault) d = refl
 
-not_full : (t f : Bool) → t ≡ true → f ≡ false → (t && not f) ≡ true
+pub not_full : (t f : Bool) → t ≡ true → f ≡ false → (t && not f) ≡ true
 not_full true false t f = refl
 not_full true true t f = absurd (cc)
 not_full false f t g = absurd (cc)
@@ -404,7 +392,7 @@ if_open false x y e = refl
 
 -- what is read of a message of commands, and of a text
 
-control_read : (n : ℕ) (message : List Bool) (cs : List Command) → n < 256 → length (spellings cs) ≤ 120 → control_message n cs ≡ Some message → message_in message ≡ Ok (message_with (leader_to n 0) 8 (bits_of_bytes (spellings cs)))
+pub control_read : (n : ℕ) (message : List Bool) (cs : List Command) → n < 256 → length (spellings cs) ≤ 120 → control_message n cs ≡ Some message → message_in message ≡ Ok (message_with (leader_to n 0) 8 (bits_of_bytes (spellings cs)))
 control_read n message [] l w e = absurd (cc)
 control_read n message (c ∷ cs) l w e =
     let text : List Bool = bits_of_bytes (spellings (c ∷ cs)) in
@@ -413,7 +401,7 @@ control_read n message (c ∷ cs) l w e =
     let is : message_to n 0 8 text ≡ message = cc in
     ap message_in (sym is) ∙ read n 0 8 text l (omega arith) fits
 
-text_read : (n on : ℕ) (message : List Bool) (t : ℕ × List Bool) → n < 256 → is_one_of on links ≡ true → IsText t.0 t.1 → text_message n on (Some t) ≡ Some message → message_in message ≡ Ok (message_with (leader_to n on) t.0 t.1)
+pub text_read : (n on : ℕ) (message : List Bool) (t : ℕ × List Bool) → n < 256 → is_one_of on links ≡ true → IsText t.0 t.1 → text_message n on (Some t) ≡ Some message → message_in message ≡ Ok (message_with (leader_to n on) t.0 t.1)
 text_read n on message t l u fits e = let is : message_to n on t.0 t.1 ≡ message = cc in ap message_in (sym is) ∙ read n on t.0 t.1 l (link_small on u) fits
 
 -- the message that is ready on a link, where what it leaves is seen
@@ -445,7 +433,7 @@ link_out A me n on message s long a b u fine ready busy k1 k2 = by (slot_at s.sl
     by (Slot.Held m) q e = absurd (cc)
 
 -- the umpire after a message that finds room
-out_views : (me n on : ℕ) (umpire : Umpire) (message : List Bool) → umpire.full ≡ false → (umpire_after_out (sees umpire me) me n on message).views ≡ with_view umpire.views me n (view_after_out (view_in umpire.views me n) (slot_of_link (sees umpire me) me n on) (same_of (sees umpire me) me n on message))
+pub out_views : (me n on : ℕ) (umpire : Umpire) (message : List Bool) → umpire.full ≡ false → (umpire_after_out (sees umpire me) me n on message).views ≡ with_view umpire.views me n (view_after_out (view_in umpire.views me n) (slot_of_link (sees umpire me) me n on) (same_of (sees umpire me) me n on message))
 out_views me n on umpire message roomy =
     ap (λ (b : Bool). (if b then sees umpire me else record (sees umpire me) {
       full = not (has_room umpire.kept (place_of me n on umpire.kept));
@@ -453,7 +441,7 @@ out_views me n on umpire message roomy =
       kept = with_out umpire.kept (place_of me n on umpire.kept) (gone_out me n on message);
     }).views) roomy
 
-was_open : (me n on : ℕ) (umpire : Umpire) (message : List Bool) → (umpire_after_out (sees umpire me) me n on message).full ≡ false → umpire.full ≡ false
+pub was_open : (me n on : ℕ) (umpire : Umpire) (message : List Bool) → (umpire_after_out (sees umpire me) me n on message).full ≡ false → umpire.full ≡ false
 was_open me n on umpire message e = by umpire.full refl e
   where
     by : (b : Bool) → umpire.full ≡ b → (if b then sees umpire me else record (sees umpire me) {
@@ -464,7 +452,7 @@ was_open me n on umpire message e = by umpire.full refl e
     by true f e = sym f ∙ e
     by false f e = refl
 
-out_long : (me n on : ℕ) (umpire : Umpire) (message : List Bool) → length (umpire_after_out (sees umpire me) me n on message).views ≡ length umpire.views
+pub out_long : (me n on : ℕ) (umpire : Umpire) (message : List Bool) → length (umpire_after_out (sees umpire me) me n on message).views ≡ length umpire.views
 out_long me n on umpire message = by umpire.full
   where
     view : View
@@ -479,14 +467,20 @@ out_long me n on umpire message = by umpire.full
     by false = view_length umpire.views me n view
 
 -- what goes out to a peer, while all that is out is kept
-record Goes (me n on : ℕ) (message : List Bool) (s : PeerState) (umpire : Umpire) : Type 0 where
-  pub none : said_findings (umpire_after_out (sees umpire me) me n on message) me n (turn_at (umpire_after_out (sees umpire me) me n on message) me n me true) (fresh_out (sees umpire me) me n on message) (message_in message) ≡ []
+pub record Goes (me n on : ℕ) (message : List Bool) (s : PeerState) (umpire : Umpire) : Type 0 where
+  pub none : Parts (umpire_after_out (sees umpire me) me n on message) me n me true (fresh_out (sees umpire me) me n on message) (message_in message)
+  pub fresh : fresh_out (sees umpire me) me n on message ≡ is_empty (slot_at s.slots on)
+  pub before : Stands s.peer (is_quiet s.slots) (view_of (umpire_after_out (sees umpire me) me n on message) me n)
+  pub busy : Sees (is_quiet (with_slot s.slots on (Slot.Travelling message))) (busy_link me n (umpire_after_out (sees umpire me) me n on message).kept)
   pub seen : Seen (after_output on message s) (view_in (after_said (umpire_after_out (sees umpire me) me n on message) me n (turn_at (umpire_after_out (sees umpire me) me n on message) me n me true) (fresh_out (sees umpire me) me n on message) (message_in message)).views me n)
 
-goes_on : (ns : List ℕ) (me n : ℕ) (h : Host) (umpire : Umpire) (message : List Bool) (s : PeerState) (is : IsOut n message s) → Holds ns h → me < 256 → is_one_of me ns ≡ false → IsHostSaid (HostNote.Out message) h → state_of h n ≡ Some s
+pub goes_on : (ns : List ℕ) (me n : ℕ) (h : Host) (umpire : Umpire) (message : List Bool) (s : PeerState) (is : IsOut n message s) → Holds ns h → me < 256 → is_one_of me ns ≡ false → IsHostSaid (HostNote.Out message) h → state_of h n ≡ Some s
     → Follows me h umpire → AllReady h → AllSeen me h umpire → (n == me) ≡ false → (umpire_after_out (sees umpire me) me n is.on message).full ≡ false → Goes me n is.on message s umpire
 goes_on ns me n h umpire message s is k small away p there follows ready seen other full = record {
-  none = ap (λ (b : Bool). said_findings A me n (turn_at A me n me true) b (message_in message)) fresh ∙ went.none;
+  none = subst (λ (b : Bool). Parts A me n me true b (message_in message)) (sym fresh) went.none;
+  fresh = fresh;
+  before = k2;
+  busy = busy;
   seen = record {
     stands = subst (λ (b : Bool). Stands (after_by (slot_at s.slots on) on s.peer) now (view_in (after_said A me n (turn_at A me n me true) b (message_in message)).views me n)) (sym fresh) went.stands;
     used = used_now;
@@ -653,68 +647,89 @@ untold_missing : (me : ℕ) (busy : Option ℕ) (room : Bool) (v : View) → v.t
 untold_missing me busy true v t = grind arith
 untold_missing me busy false v t = refl
 
-untold_control : (me : ℕ) (busy : Option ℕ) (text : List Bool) (v : View) → v.told ≡ false → fault_in (bytes_of text) ≡ None → control_findings (record { by = me; sent = true; busy = busy; zero = false }) text v ≡ []
-untold_control me busy text v t whole =
-    let cs : List Command = commands_in (bytes_of text) in
-    let w = all_untold me busy cs v t in
-    ap (λ (f : Option CommandFault). items_findings (record { by = me; sent = true; busy = busy; zero = false }) (items_of cs f) v
-    ++ option_to_list (missing_finding (record { by = me; sent = true; busy = busy; zero = false }) (is_roomy text) (after_items (record { by = me; sent = true; busy = busy; zero = false }) (items_of cs f) v))) whole
-    ∙ ap (λ (xs : List Finding). xs ++ option_to_list (missing_finding (record { by = me; sent = true; busy = busy; zero = false }) (is_roomy text) (after_items (record { by = me; sent = true; busy = busy; zero = false }) (items_of cs None) v))) w.none
-    ∙ ap option_to_list (untold_missing me busy (is_roomy text) (after_items (record { by = me; sent = true; busy = busy; zero = false }) (items_of cs None) v) w.told)
-
-untold_text : (me : ℕ) (busy : Option ℕ) (v : View) → v.told ≡ false → early_finding (record { by = me; sent = true; busy = busy; zero = false }) Thing.Text v ≡ None
-untold_text me busy v t = grind arith
-
-untold_read : (me : ℕ) (busy : Option ℕ) (m : Message) (v : View) → v.told ≡ false → ((m.leader.link == 0) ≡ true → fault_in (bytes_of m.text) ≡ None) → read_findings (judged_reading m) (record { by = me; sent = true; busy = busy; zero = false }) m.text v ≡ []
-untold_read me busy m v t whole = go (is_unused m.leader.link) (m.leader.link == 0) (m.size == 8) refl refl refl
-  where
-    go : (x y z : Bool) → is_unused m.leader.link ≡ x → (m.leader.link == 0) ≡ y → (m.size == 8) ≡ z → read_findings (judged_reading m) (record { by = me; sent = true; busy = busy; zero = false }) m.text v ≡ []
-    go true y z e f g = rw e refl
-    go false false z e f g = rw (e, f) (ap option_to_list (untold_text me busy v t))
-    go false true true e f g = rw (e, f, g) (untold_control me busy m.text v t (whole f))
-    go false true false e f g = rw (e, f, g) refl
+untold_text : (me : ℕ) (busy : Option ℕ) (zero : Bool) (v : View) → v.told ≡ false → early_finding (record { by = me; sent = true; busy = busy; zero = zero }) Thing.Text v ≡ None
+untold_text me busy zero v t = grind arith
 
 and_not : (b f : Bool) → f ≡ true → (b && not f) ≡ false
 and_not true true e = refl
 and_not false true e = refl
 and_not b false e = absurd (cc)
 
-full_said : (A : Umpire) (me n : ℕ) (fresh : Bool) (r : Result Message MessageFault) → A.full ≡ true → ((m : Message) → r ≡ Ok m → (m.leader.link == 0) ≡ true → fault_in (bytes_of m.text) ≡ None)
-    → said_findings A me n (turn_at A me n me true) fresh r ≡ []
-full_said A me n fresh (Err fault) full whole = refl
-full_said A me n false (Ok m) full whole = refl
-full_said A me n true (Ok m) full whole =
-    ap (λ (z : Bool). read_findings (judged_reading m) (record { by = me; sent = true; busy = busy_link me n A.kept; zero = z }) m.text (view_of A me n)) (zero_none A full)
-    ∙ untold_read me (busy_link me n A.kept) m (view_of A me n) (and_not (view_in A.views me n).told A.full full) (whole m refl)
+zero_none : (A : Umpire) (me n : ℕ) → A.full ≡ true → knows_zero A me n ≡ false
+zero_none A me n full = grind arith
+
+untold_control : (P : Finding → Bool) (A : Umpire) (me n : ℕ) (text : List Bool) → A.full ≡ true → fault_in (bytes_of text) ≡ None → Pass P (control_talk A me n me true text)
+    → Pass P (control_findings (turn_at A me n me true) (talk_of me n (turn_at A me n me true)) A.kept text (view_of A me n) A.books)
+untold_control P A me n text full whole = control_parted P A me n me true text none_found none_left
   where
-    zero_none : (A : Umpire) → A.full ≡ true → knows_zero A me n ≡ false
-    zero_none A full = grind arith
+    busy : Option ℕ
+    busy = busy_link me n A.kept
+
+    cs : List Command
+    cs = commands_in (bytes_of text)
+
+    v : View
+    v = view_of A me n
+
+    w : AllUntold me busy cs v
+    w = all_untold me busy cs v (and_not (view_in A.views me n).told A.full full)
+
+    none_found : items_findings (record { by = me; sent = true; busy = busy; zero = knows_zero A me n }) (items_said text) v ≡ []
+    none_found =
+        ap (λ (z : Bool). items_findings (record { by = me; sent = true; busy = busy; zero = z }) (items_said text) v) (zero_none A me n full)
+        ∙ ap (λ (f : Option CommandFault). items_findings (record { by = me; sent = true; busy = busy; zero = false }) (items_of cs f) v) whole ∙ w.none
+
+    none_left : missing_finding (record { by = me; sent = true; busy = busy; zero = knows_zero A me n }) (is_roomy text) (after_items (record { by = me; sent = true; busy = busy; zero = knows_zero A me n }) (items_said text) v) ≡ None
+    none_left =
+        ap (λ (z : Bool). missing_finding (record { by = me; sent = true; busy = busy; zero = z }) (is_roomy text) (after_items (record { by = me; sent = true; busy = busy; zero = z }) (items_said text) v)) (zero_none A me n full)
+        ∙ ap (λ (f : Option CommandFault). missing_finding (record { by = me; sent = true; busy = busy; zero = false }) (is_roomy text) (after_items (record { by = me; sent = true; busy = busy; zero = false }) (items_of cs f) v)) whole
+        ∙ untold_missing me busy (is_roomy text) (after_items (record { by = me; sent = true; busy = busy; zero = false }) (items_of cs None) v) w.told
+
+untold_read : (P : Finding → Bool) (A : Umpire) (me n : ℕ) (m : Message) → A.full ≡ true → ((m.leader.link == 0) ≡ true → fault_in (bytes_of m.text) ≡ None)
+    → Pass P (message_talk A me n me true true (Ok m)) → Pass P (said_findings A me n (turn_at A me n me true) true (Ok m))
+untold_read P A me n m full whole = go (is_unused m.leader.link) (m.leader.link == 0) (m.size == 8) refl refl refl
+  where
+    early : option_to_list (early_finding (turn_at A me n me true) Thing.Text (view_of A me n)) ≡ []
+    early = ap option_to_list (untold_text me (busy_link me n A.kept) (knows_zero A me n) (view_of A me n) (and_not (view_in A.views me n).told A.full full))
+
+    go : (x y z : Bool) → is_unused m.leader.link ≡ x → (m.leader.link == 0) ≡ y → (m.size == 8) ≡ z
+        → Pass P (message_talk A me n me true true (Ok m)) → Pass P (said_findings A me n (turn_at A me n me true) true (Ok m))
+    go true y z e f g = rw e (λ said. refl)
+    go false false z e f g = rw (e, f) (λ said. empty_pass P (option_to_list (early_finding (turn_at A me n me true) Thing.Text (view_of A me n))) early)
+    go false true true e f g = rw (e, f, g) (untold_control P A me n m.text full (whole f))
+    go false true false e f g = rw (e, f, g) (λ said. refl)
+
+full_said : (A : Umpire) (me n : ℕ) (fresh : Bool) (r : Result Message MessageFault) → A.full ≡ true → ((m : Message) → r ≡ Ok m → (m.leader.link == 0) ≡ true → fault_in (bytes_of m.text) ≡ None)
+    → Parts A me n me true fresh r
+full_said A me n fresh (Err fault) full whole = λ P t. refl
+full_said A me n false (Ok m) full whole = λ P t. refl
+full_said A me n true (Ok m) full whole = λ P. untold_read P A me n m full (whole m refl)
 
 -- ---- a message
 
-as_none : (me : ℕ) (xs : List Finding) → xs ≡ [] → Pass (spares any_rule me) xs
-as_none me xs e = subst (λ (ys : List Finding). Pass (spares any_rule me) ys) (sym e) refl
-
-free : (me n : ℕ) (h : Host) (umpire : Umpire) (s : PeerState) (message : List Bool) (is : IsOut n message s) → state_of h n ≡ Some s → Follows me h umpire
-    → Pass (spares any_rule me) (option_to_list (out_finding umpire me n is.on message))
-free me n h umpire s message is there f = go umpire.full refl
+free : (P : Finding → Bool) (me n : ℕ) (h : Host) (umpire : Umpire) (s : PeerState) (message : List Bool) (is : IsOut n message s) → state_of h n ≡ Some s → Follows me h umpire
+    → Pass P (option_to_list (out_finding umpire me n is.on message))
+free P me n h umpire s message is there f = go umpire.full refl
   where
     rules : Option Rule
     rules = out_rule (slot_of_link umpire me n is.on) (same_of umpire me n is.on message) is.on
 
-    go : (b : Bool) → umpire.full ≡ b → Pass (spares any_rule me) (option_to_list (if b then None else option_map (by_host me) rules))
+    go : (b : Bool) → umpire.full ≡ b → Pass P (option_to_list (if b then None else option_map (by_host me) rules))
     go true full = refl
     go false full =
         let none : rules ≡ None = allowed (is_of me n is.on) (view_in umpire.views me n).known umpire.kept (slot_at s.slots is.on) n is.on s.peer message ((f full).agrees n s there is.on) is.ready in
-        subst (λ (o : Option Rule). Pass (spares any_rule me) (option_to_list (option_map (by_host me) o))) (sym none) refl
+        subst (λ (o : Option Rule). Pass P (option_to_list (option_map (by_host me) o))) (sym none) refl
 
-pub out_spared : (ns : List ℕ) (me n : ℕ) (h : Host) (umpire : Umpire) (message : List Bool) (s : PeerState) (is : IsOut n message s) → Holds ns h → me < 256 → is_one_of me ns ≡ false → IsHostSaid (HostNote.Out message) h → state_of h n ≡ Some s
-    → Follows me h umpire → AllReady h → AllSeen me h umpire → (n == me) ≡ false → Pass (spares any_rule me) (record_findings umpire ToImp me message)
-out_spared ns me n h umpire message s is k small away p there follows ready seen other =
-    goes_said (spares any_rule me) umpire me n on message is.leader other
-    (free me n h (sees umpire me) s message is there follows)
+-- where what it says passes a test, all that is found in it does
+pub out_passes : (P : Finding → Bool) (ns : List ℕ) (me n : ℕ) (h : Host) (umpire : Umpire) (message : List Bool) (s : PeerState) (is : IsOut n message s) → Holds ns h → me < 256 → is_one_of me ns ≡ false → IsHostSaid (HostNote.Out message) h → state_of h n ≡ Some s
+    → Follows me h umpire → AllReady h → AllSeen me h umpire → (n == me) ≡ false
+    → Pass P (message_talk (umpire_after_out (sees umpire me) me n is.on message) me n me true (fresh_out (sees umpire me) me n is.on message) (message_in message))
+    → Pass P (record_findings umpire ToImp me message)
+out_passes P ns me n h umpire message s is k small away p there follows ready seen other talk =
+    goes_said P umpire me n on message is.leader other
+    (free P me n h (sees umpire me) s message is there follows)
     (λ r e. no_rule r (sym whole.0 ∙ e))
-    (as_none me (said_findings A me n (turn_at A me n me true) (fresh_out (sees umpire me) me n on message) (message_in message)) (by A.full refl))
+    ((by A.full refl) P talk)
   where
     on : ℕ
     on = is.on
@@ -725,10 +740,10 @@ out_spared ns me n h umpire message s is k small away p there follows ready seen
     whole : Whole on message
     whole = let r = ready n s there in out_whole n message s is (k.good n s there).0 r.fine r.kept
 
-    no_rule : (r : Rule) → None ≡ Some r → spares any_rule me (by_host me r) ≡ true
+    no_rule : (r : Rule) → None ≡ Some r → P (by_host me r) ≡ true
     no_rule r e = absurd (cc)
 
-    by : (b : Bool) → A.full ≡ b → said_findings A me n (turn_at A me n me true) (fresh_out (sees umpire me) me n on message) (message_in message) ≡ []
+    by : (b : Bool) → A.full ≡ b → Parts A me n me true (fresh_out (sees umpire me) me n on message) (message_in message)
     by true full = full_said A me n (fresh_out (sees umpire me) me n on message) (message_in message) full whole.1
     by false full = (goes_on ns me n h umpire message s is k small away p there follows ready seen other full).none
 

@@ -1,20 +1,18 @@
 -- What is seen of a host's phase with a peer, beside the flags and the commands that wait at the host: all that keeps
 -- the rules of resets, through what the host makes, sends and hears.
-use Rattle.std.proofs.Common.{◌≡◌, ℕ, ◌+◌, ◌-◌, ◌≤◌, ◌<◌, ◌==◌, ◌^◌, min, Bool, true, false, not, ◌&&◌, ◌||◌, if◌then◌else◌, List, [], ◌∷◌, ◌++◌, length, Option, None, Some, is_some, option_map, option_to_list, refl, sym, ap, ◌∙◌, subst, arith}
+use Rattle.std.proofs.Common.{◌≡◌, ℕ, ◌+◌, ◌≤◌, ◌<◌, ◌==◌, Bool, true, false, not, ◌&&◌, ◌||◌, if◌then◌else◌, List, [], ◌∷◌, Option, None, Some, is_some, refl, sym, subst, arith}
 use Rattle.ncp_terms.specs.declared.command.Command.{Command}
 use Rattle.ncp_terms.specs.declared.command.Command.TheVariants.{Rst, Rrp}
-use Rattle.ncp_model.specs.Phase.{Phase, up, is_rst, is_rrp, is_reset, is_other, is_resetting, phase_answers, phase_asks, wants_reset, owes_answer, hears_rrp, goes_down, queued}
-use Rattle.ncp_model.proofs.ResetLists.{bit, rsts, rrps, others, purged, rsts-append, rrps-append, others-append, rsts-purged, rrps-purged, others-purged, purged_calm, any-rsts, any-rrps}
-use Rattle.ncp_umpire.specs.declared.finding.Finding.{Finding}
+use Rattle.ncp_model.specs.Phase.{Phase, up, is_rst, is_rrp, is_other, is_resetting, phase_answers, phase_asks, wants_reset, owes_answer, hears_rrp, goes_down, queued}
+use Rattle.ncp_model.proofs.ResetLists.{bit, rsts, rrps, others, rsts-append, rrps-append, others-append, rsts-purged, rrps-purged, others-purged, any-rsts, any-rrps}
 use Rattle.ncp_umpire.specs.declared.finding.Thing.{Thing}
 use Rattle.ncp_umpire.specs.declared.view.View.{View}
 use Rattle.ncp_umpire.specs.declared.view.Wait.{Wait}
 use Rattle.ncp_umpire.specs.declared.view.Wait.TheVariants.{Answered, Even, Waiting}
-use Rattle.ncp_umpire.specs.Views.{awaits_reply, is_answered_too_often, new_view}
+use Rattle.ncp_umpire.specs.Views.{awaits_reply, is_answered_too_often}
 use Rattle.ncp_umpire.specs.Judged.{by_host}
-use Rattle.ncp_umpire.specs.Views.{more_waiting, one_reset_more}
-use Rattle.ncp_umpire.specs.Phases.{is_text, is_early, early_rule, early_finding, after_thing, reset_findings, view_after_reset, after_reset_of_peer, reply_findings, view_after_reply, after_reply_of_peer}
-use Rattle.ncp_proof_umpire.proofs.PhaseLists.{behind, leads, behind-none, behind-calm, behind-more, behind-reset, behind-purged, leads-some, leads-more, leads-rst, leads-purged}
+use Rattle.ncp_umpire.specs.Phases.{is_text, is_early, early_rule, early_finding, after_thing, reset_findings, view_after_reset, reply_findings, view_after_reply}
+use Rattle.ncp_proof_umpire.proofs.PhaseLists.{behind, leads, behind-none, behind-more, behind-reset, behind-purged, leads-some, leads-more, leads-rst, leads-purged}
 
 abbrev pub Phased : Phase → Bool → View → Type 0
 Phased p quiet v = record {

@@ -1,24 +1,22 @@
 -- What waits for each peer can be written, and what is kept to go out once more is whole, through each note.
-use Rattle.std.proofs.Common.{◌≡◌, ℕ, ◌==◌, Bool, true, false, if◌then◌else◌, List, [], ◌∷◌, ◌++◌, Option, None, Some, refl, sym, ap, ◌∙◌, subst}
+use Rattle.std.proofs.Common.{◌≡◌, ℕ, ◌==◌, Bool, true, false, if◌then◌else◌, List, [], ◌∷◌, Option, None, Some, refl, sym, ap, ◌∙◌, subst}
 use Rattle.std.proofs.lemmas.List.Elements.{All-nil}
 use Rattle.ncp_leader.specs.declared.leader.Leader.{Leader}
 use Rattle.ncp_terms.specs.Spelling.{IsCommand}
 use Rattle.ncp_slot.specs.Slot.{kept_message}
 use Rattle.ncp_slot.proofs.Places.{slot_at-no_slots}
 use Rattle.ncp_host.specs.PeerState.{PeerState, new_state}
-use Rattle.ncp_host.specs.Host.{Host, state_of, is_one_of, new_host}
+use Rattle.ncp_host.specs.Host.{Host, state_of, new_host}
 use Rattle.ncp_host.specs.Arrivals.{received_in}
 use Rattle.ncp_proof_machine.proofs.EndsGood.{none-good}
 use Rattle.ncp_transcript.specs.declared.note.HostNote.{HostNote}
 use Rattle.ncp_transcript.specs.After.{after_note}
-use Rattle.ncp_transcript.specs.Noting.{answer_in, note_as, note_of_message}
-use Rattle.ncp_transcript.specs.Runs.{IsHostSaid, AreHostNotes}
+use Rattle.ncp_transcript.specs.Noting.{note_as, note_of_message}
+use Rattle.ncp_transcript.specs.Runs.{IsHostSaid}
 use Rattle.ncp_transcript_two.specs.Seen.{told_call, NoteFits}
 use Rattle.ncp_transcript_two.proofs.Well.{none-well}
 use Rattle.ncp_proof_runs.specs.Peers.{names, note_for}
-use Rattle.ncp_proof_runs.proofs.Said.{IsOut}
-use Rattle.ncp_proof_runs.proofs.HostRuns.{Holds, out-turn, out-is, note-said}
-use Rattle.ncp_proof_runs.proofs.EachPeer.{holds-after, new-holds}
+use Rattle.ncp_proof_runs.proofs.HostRuns.{Holds, note-said}
 use Rattle.ncp_proof_umpire.proofs.HostSlots.{was}
 use Rattle.ncp_proof_umpire.proofs.Fine.{Fine, note_fine}
 use Rattle.ncp_proof_umpire.proofs.Laid.{AllWhole, note_whole}

@@ -1,12 +1,15 @@
 -- Findings that spare a host: those of others, and of other rules.
-use Rattle.std.proofs.Common.{◌≡◌, ℕ, Bool, true, false, not, ◌&&◌, List, refl, ap, ◌∙◌}
+use Rattle.std.proofs.Common.{◌≡◌, ℕ, Bool, true, false, not, ◌&&◌, List, Result, refl, ap, ◌∙◌}
+use Rattle.ncp_leader.specs.declared.fault.MessageFault.{MessageFault}
+use Rattle.ncp_leader.specs.Message.{Message}
 use Rattle.ncp_umpire.specs.declared.finding.Finding.{Finding}
 use Rattle.ncp_umpire.specs.declared.finding.Rule.{Rule}
 use Rattle.ncp_umpire.specs.declared.umpire.Umpire.{Umpire}
 use Rattle.ncp_umpire.specs.declared.way.Way.TheVariants.{FromImp}
-use Rattle.ncp_umpire.specs.Judged.{record_findings}
-use Rattle.ncp_umpire.proofs.Passing.{Pass, comes}
-use Rattle.ncp_proof_umpire.specs.Recordings.{is_host, spares}
+use Rattle.ncp_umpire.specs.Judged.{by_host, record_findings}
+use Rattle.ncp_umpire.proofs.Passing.{Pass, comes, is_of_talk}
+use Rattle.ncp_proof_umpire.proofs.Talking.{message_talk, message_talk_pass}
+use Rattle.ncp_proof_umpire.specs.Recordings.{is_host, spares, is_of_messages_and_phase, is_of_requests_and_replies}
 
 -- of another rule
 pub rule_spared : (judged : Rule → Bool) (me : ℕ) (f : Finding) → judged f.rule ≡ false → spares judged me f ≡ true
@@ -19,3 +22,86 @@ rule_spared judged me f e = ap (λ (c : Bool). not (is_host me f.who && c)) e �
 -- what comes is never found against the host
 pub spared : (judged : Rule → Bool) (me : ℕ) (umpire : Umpire) (bits : List Bool) → Pass (spares judged me) (record_findings umpire FromImp me bits)
 spared judged me = comes (spares judged me) me (λ r. refl, λ host r e. ap (λ (b : Bool). not (b && judged r)) e)
+
+-- ---- what is said while two hosts are up
+
+-- what the host says is not found against it
+abbrev pub TalkSpared : (Rule → Bool) → ℕ → Type 0
+TalkSpared judged me = (umpire : Umpire) (n : ℕ) (fresh : Bool) (r : Result Message MessageFault) → Pass (spares judged me) (message_talk umpire me n me true fresh r)
+
+-- by rules of which none is of what is said
+pub talk_spared : (judged : Rule → Bool) (me : ℕ) → ((r : Rule) → is_of_talk r ≡ true → judged r ≡ false) → TalkSpared judged me
+talk_spared judged me unsaid umpire n fresh r =
+    message_talk_pass (spares judged me) umpire me n me true fresh r (λ q t. rule_spared judged me (by_host me q) (unsaid q t))
+
+-- none of messages and the phase is
+pub unsaid : (r : Rule) → is_of_talk r ≡ true → is_of_messages_and_phase r ≡ false
+unsaid (Rule.Short bits) e = absurd (cc)
+unsaid (Rule.OwnHost kind link) e = absurd (cc)
+unsaid (Rule.Kind kind) e = absurd (cc)
+unsaid (Rule.Fault fault link) e = absurd (cc)
+unsaid (Rule.WrongLink link) e = absurd (cc)
+unsaid (Rule.WrongSize size) e = absurd (cc)
+unsaid (Rule.Extras flags low text rest) e = absurd (cc)
+unsaid (Rule.Occupied link) e = absurd (cc)
+unsaid (Rule.Changed link) e = absurd (cc)
+unsaid (Rule.Stray kind link) e = absurd (cc)
+unsaid (Rule.Unsent host link why) e = absurd (cc)
+unsaid (Rule.FalseAnswer kind host link came) e = absurd (cc)
+unsaid (Rule.Bad fault) e = absurd (cc)
+unsaid (Rule.Early what began waits owes) e = absurd (cc)
+unsaid Rule.RstAgain e = absurd (cc)
+unsaid Rule.RrpUnasked e = absurd (cc)
+unsaid (Rule.Unquiet reply link) e = absurd (cc)
+unsaid Rule.RrpFirst e = absurd (cc)
+unsaid Rule.MissingRrp e = absurd (cc)
+unsaid (Rule.Missing c) e = refl
+unsaid (Rule.Skipped c) e = refl
+unsaid (Rule.EcoAgain byte) e = refl
+unsaid (Rule.ErpUnasked byte) e = refl
+unsaid (Rule.ErrUnjust code bytes) e = refl
+unsaid (Rule.Sex c) e = refl
+unsaid (Rule.LinkRange c) e = refl
+unsaid (Rule.SizeZero c) e = refl
+unsaid (Rule.AskedAgain c) e = refl
+unsaid (Rule.Unended c) e = refl
+unsaid (Rule.LinkUsed c local remote) e = refl
+unsaid (Rule.ClsUnknown c) e = refl
+unsaid (Rule.ClsAgain c) e = refl
+unsaid (Rule.TextOut c link) e = refl
+
+-- each rule is of one kind
+pub one_kind : (r : Rule) → is_of_messages_and_phase r ≡ not (is_of_requests_and_replies r)
+one_kind (Rule.Short bits) = refl
+one_kind (Rule.OwnHost kind link) = refl
+one_kind (Rule.Kind kind) = refl
+one_kind (Rule.Fault fault link) = refl
+one_kind (Rule.WrongLink link) = refl
+one_kind (Rule.WrongSize size) = refl
+one_kind (Rule.Extras flags low text rest) = refl
+one_kind (Rule.Occupied link) = refl
+one_kind (Rule.Changed link) = refl
+one_kind (Rule.Stray kind link) = refl
+one_kind (Rule.Unsent host link why) = refl
+one_kind (Rule.FalseAnswer kind host link came) = refl
+one_kind (Rule.Bad fault) = refl
+one_kind (Rule.Early what began waits owes) = refl
+one_kind Rule.RstAgain = refl
+one_kind Rule.RrpUnasked = refl
+one_kind (Rule.Unquiet reply link) = refl
+one_kind Rule.RrpFirst = refl
+one_kind Rule.MissingRrp = refl
+one_kind (Rule.Missing c) = refl
+one_kind (Rule.Skipped c) = refl
+one_kind (Rule.EcoAgain byte) = refl
+one_kind (Rule.ErpUnasked byte) = refl
+one_kind (Rule.ErrUnjust code bytes) = refl
+one_kind (Rule.Sex c) = refl
+one_kind (Rule.LinkRange c) = refl
+one_kind (Rule.SizeZero c) = refl
+one_kind (Rule.AskedAgain c) = refl
+one_kind (Rule.Unended c) = refl
+one_kind (Rule.LinkUsed c local remote) = refl
+one_kind (Rule.ClsUnknown c) = refl
+one_kind (Rule.ClsAgain c) = refl
+one_kind (Rule.TextOut c link) = refl

@@ -1,8 +1,8 @@
 -- Two hosts with the subnet between them: the records at the interface of each are its whole recording.
-use Rattle.std.proofs.Common.{◌≡◌, ◌≢◌, ℕ, ◌<◌, ◌==◌, Bool, true, false, ◌||◌, if◌then◌else◌, List, [], ◌∷◌, ◌++◌, Option, None, Some, refl, sym, ap, ◌∙◌, subst, arith}
+use Rattle.std.proofs.Common.{◌≡◌, ℕ, ◌<◌, ◌==◌, Bool, true, false, ◌||◌, if◌then◌else◌, List, [], ◌∷◌, ◌++◌, Option, None, Some, refl, sym, ap, ◌∙◌, subst, arith}
 use Rattle.std.proofs.lemmas.Bool.{ne_eqb, eqb-true}
 use Rattle.std.proofs.lemmas.List.{append_assoc, append-nil}
-use Rattle.ncp_host.specs.Host.{Host, is_one_of, new_host}
+use Rattle.ncp_host.specs.Host.{Host, is_one_of}
 use Rattle.ncp_host.specs.Turns.{next_output}
 use Rattle.ncp_subnet.specs.Transit.{is_accepted}
 use Rattle.ncp_subnet.specs.Messages.{arriving, answer_about}
@@ -25,11 +25,13 @@ use Rattle.ncp_transcript_two.specs.Transcript.{AreNotes, Noted_world, new_world
 use Rattle.ncp_transcript_two.proofs.OneSide.{of_event}
 use Rattle.ncp_umpire.specs.declared.way.Way.{Way}
 use Rattle.ncp_umpire.specs.declared.way.Way.TheVariants.{ToImp, FromImp}
+use Rattle.ncp_umpire.specs.declared.finding.Rule.{Rule}
 use Rattle.ncp_umpire.specs.Judged.{new_umpire}
 use Rattle.ncp_umpire.proofs.Passing.{Pass}
-use Rattle.ncp_proof_umpire.specs.Recordings.{gone_by, passes_with, recording, AreFit, spares, any_rule, at_interface, found_at}
+use Rattle.ncp_proof_umpire.specs.Recordings.{gone_by, passes_with, recording, AreFit, spares, is_of_messages_and_phase, at_interface, found_at}
 use Rattle.ncp_proof_umpire.specs.Worlds.{comes_to, goes_from, passes_between, world_file, NeitherBlamed}
 use Rattle.ncp_proof_umpire.proofs.PhaseLists.{itself}
+use Rattle.ncp_proof_umpire.proofs.Spared.{TalkSpared, talk_spared, unsaid}
 use Rattle.ncp_proof_umpire.proofs.FileWalk.{run_spared}
 
 -- ---- lists
@@ -264,16 +266,17 @@ small_peer n l m e = go (n == m) refl e
     go true f e = let same : n ≡ m = eqb-true n m f in omega (arith, same, l)
     go false f e = absurd (cc)
 
-spares_side : (side : Side) (a b : ℕ) (given : List Input) (noted : List HostNote) (file : List (ℕ × Way × List Bool)) → (a == b) ≡ false → (b == a) ≡ false → a < 256 → b < 256 → AreFit given → AreHostNotes given noted (host_of side (new_hosts a b))
-    → at_interface (side_number side (new_hosts a b)) file ≡ recording given noted → Pass (spares any_rule (side_number side (new_hosts a b))) (found_at (new_umpire false) (side_number side (new_hosts a b)) file)
-spares_side A a b given noted file d e k l f p here = run_spared (b ∷ []) a given noted file refl (one_peer a b e) (small_peer b l) k f p here
-spares_side B a b given noted file d e k l f p here = run_spared (a ∷ []) b given noted file refl (one_peer b a d) (small_peer a k) l f p here
+spares_side : (judged : Rule → Bool) (side : Side) (a b : ℕ) (given : List Input) (noted : List HostNote) (file : List (ℕ × Way × List Bool)) → (a == b) ≡ false → (b == a) ≡ false → a < 256 → b < 256 → AreFit given → AreHostNotes given noted (host_of side (new_hosts a b))
+    → TalkSpared judged (side_number side (new_hosts a b)) → at_interface (side_number side (new_hosts a b)) file ≡ recording given noted → Pass (spares judged (side_number side (new_hosts a b))) (found_at (new_umpire false) (side_number side (new_hosts a b)) file)
+spares_side judged A a b given noted file d e k l f p t here = run_spared judged (b ∷ []) a given noted file refl (one_peer a b e) (small_peer b l) k f p t here
+spares_side judged B a b given noted file d e k l f p t here = run_spared judged (a ∷ []) b given noted file refl (one_peer b a d) (small_peer a k) l f p t here
 
-pub neither_blamed : NeitherBlamed
+pub neither_blamed : NeitherBlamed is_of_messages_and_phase
 neither_blamed a b happened now side differ k l steps =
     let w = steps_noted happened (new_world a b) now steps in
     let d : (a == b) ≡ false = ne_eqb a b differ in
     let e : (b == a) ≡ false = ne_eqb b a (λ x. differ (sym x)) in
     let c = whole side happened w.0 (new_hosts a b) (d, e) w.2 in
-    spares_side side a b c.given (notes_at side w.0) (world_file happened now.notes (new_hosts a b)) d e k l c.fit c.each
+    spares_side is_of_messages_and_phase side a b c.given (notes_at side w.0) (world_file happened now.notes (new_hosts a b)) d e k l c.fit c.each
+    (talk_spared is_of_messages_and_phase (side_number side (new_hosts a b)) unsaid)
     (ap (λ (all : List Note). at_interface (side_number side (new_hosts a b)) (world_file happened all (new_hosts a b))) w.1 ∙ c.here)

@@ -89,10 +89,46 @@ is_of_link (Rule.Occupied link) = true
 is_of_link (Rule.Changed link) = true
 is_of_link other = false
 
--- ---- all rules
+-- of messages and the phase: each rule but those of requests, CLS, replies, ERR and echo
+abbrev pub is_of_messages_and_phase : Rule → Bool
+is_of_messages_and_phase (Rule.Short bits) = true
+is_of_messages_and_phase (Rule.OwnHost kind link) = true
+is_of_messages_and_phase (Rule.Kind kind) = true
+is_of_messages_and_phase (Rule.Fault fault link) = true
+is_of_messages_and_phase (Rule.WrongLink link) = true
+is_of_messages_and_phase (Rule.WrongSize size) = true
+is_of_messages_and_phase (Rule.Extras flags low text rest) = true
+is_of_messages_and_phase (Rule.Occupied link) = true
+is_of_messages_and_phase (Rule.Changed link) = true
+is_of_messages_and_phase (Rule.Stray kind link) = true
+is_of_messages_and_phase (Rule.Unsent host link why) = true
+is_of_messages_and_phase (Rule.FalseAnswer kind host link came) = true
+is_of_messages_and_phase (Rule.Bad fault) = true
+is_of_messages_and_phase (Rule.Early thing began waits owes) = true
+is_of_messages_and_phase Rule.RstAgain = true
+is_of_messages_and_phase Rule.RrpUnasked = true
+is_of_messages_and_phase (Rule.Unquiet reply link) = true
+is_of_messages_and_phase Rule.RrpFirst = true
+is_of_messages_and_phase Rule.MissingRrp = true
+is_of_messages_and_phase other = false
 
-abbrev pub any_rule : Rule → Bool
-any_rule rule = true
+-- of requests, CLS, replies, ERR and echo
+abbrev pub is_of_requests_and_replies : Rule → Bool
+is_of_requests_and_replies (Rule.Missing c) = true
+is_of_requests_and_replies (Rule.Skipped c) = true
+is_of_requests_and_replies (Rule.EcoAgain byte) = true
+is_of_requests_and_replies (Rule.ErpUnasked byte) = true
+is_of_requests_and_replies (Rule.ErrUnjust code bytes) = true
+is_of_requests_and_replies (Rule.Sex c) = true
+is_of_requests_and_replies (Rule.LinkRange c) = true
+is_of_requests_and_replies (Rule.SizeZero c) = true
+is_of_requests_and_replies (Rule.AskedAgain c) = true
+is_of_requests_and_replies (Rule.Unended c) = true
+is_of_requests_and_replies (Rule.LinkUsed c local remote) = true
+is_of_requests_and_replies (Rule.ClsUnknown c) = true
+is_of_requests_and_replies (Rule.ClsAgain c) = true
+is_of_requests_and_replies (Rule.TextOut c link) = true
+is_of_requests_and_replies other = false
 
 -- ---- in a file with records of other interfaces too, each with the number of its host
 
@@ -107,11 +143,11 @@ found_at umpire me [] = []
 found_at umpire me (one ∷ more) = (if one.0 == me then record_findings umpire one.1 one.0 one.2 else []) ++ found_at (after_record umpire one.1 one.0 one.2) me more
 
 -- Where the records at the interface of a host are its whole recording, whatever it is asked for and whatever bits come,
--- nothing is found in them against it, whatever else the file has: the number of the host has a place in a leader, and
--- those of all calls have theirs in commands.
-abbrev pub NobodyBlamed : Type 0
-NobodyBlamed =
+-- by none of these rules is anything found in them against it, whatever else the file has: the number of the host has a
+-- place in a leader, and those of all calls have theirs in commands.
+abbrev pub NobodyBlamed : (Rule → Bool) → Type 0
+NobodyBlamed judged =
     (me : ℕ) (ns : List ℕ) (given : List Input) (now : Alone) (file : List (ℕ × Way × List Bool))
     → are_peers me ns ≡ true → ((n : ℕ) → is_one_of n ns ≡ true → n < 256) → me < 256 → AreFit given → AreHostSteps given (begun_alone me ns) now
     → at_interface me file ≡ recording given now.notes
-    → list_all (spares any_rule me) (found_at (new_umpire false) me file) ≡ true
+    → list_all (spares judged me) (found_at (new_umpire false) me file) ≡ true

@@ -9,10 +9,11 @@ use Rattle.ncp_transcript_two.specs.declared.event.Event.{Event}
 use Rattle.ncp_transcript_two.specs.declared.note.Note.{Note}
 use Rattle.ncp_transcript_two.specs.Between.{Hosts, new_hosts, other, side_number, transit_of, hosts_after_note}
 use Rattle.ncp_transcript_two.specs.Transcript.{Noted_world, new_world, AreSteps}
+use Rattle.ncp_umpire.specs.declared.finding.Rule.{Rule}
 use Rattle.ncp_umpire.specs.declared.way.Way.{Way}
 use Rattle.ncp_umpire.specs.declared.way.Way.TheVariants.{ToImp, FromImp}
 use Rattle.ncp_umpire.specs.Judged.{new_umpire}
-use Rattle.ncp_proof_umpire.specs.Recordings.{spares, any_rule, found_at}
+use Rattle.ncp_proof_umpire.specs.Recordings.{spares, found_at}
 
 -- bits that come to a host, if any do
 abbrev pub comes_to : ℕ → Option (List Bool) → List (ℕ × Way × List Bool)
@@ -44,9 +45,9 @@ world_file (event ∷ more) [] w = []
 world_file (event ∷ more) (note ∷ noted) w = passes_between event note w ++ world_file more noted (hosts_after_note note w)
 
 -- Of two hosts with the subnet between them, whatever calls and whatever the subnet does in whatever order, nothing is found
--- against a host at its own interface.
-abbrev pub NeitherBlamed : Type 0
-NeitherBlamed =
+-- by these rules against a host at its own interface.
+abbrev pub NeitherBlamed : (Rule → Bool) → Type 0
+NeitherBlamed judged =
     (a b : ℕ) (given : List Event) (now : Noted_world) (side : Side)
     → a ≢ b → a < 256 → b < 256 → AreSteps given (new_world a b) now
-    → list_all (spares any_rule (side_number side (new_hosts a b))) (found_at (new_umpire false) (side_number side (new_hosts a b)) (world_file given now.notes (new_hosts a b))) ≡ true
+    → list_all (spares judged (side_number side (new_hosts a b))) (found_at (new_umpire false) (side_number side (new_hosts a b)) (world_file given now.notes (new_hosts a b))) ≡ true

@@ -1,5 +1,5 @@
 //! The rules that no host is found to break at its own interface.
-ghost use Rattle.std.specs.Prelude.{◌≡◌, ◌∷◌, [], true, false, Some};
+ghost use Rattle.std.specs.Prelude.{◌≡◌, ◌∷◌, [], not, true, false, Some};
 ghost use Rattle.std.specs.List.{list_all};
 ghost use Rattle.ncp_transcript_two.specs.Between.{new_hosts};
 ghost use Rattle.ncp_proof_runs.specs.Examples.{message_on_0};
@@ -7,7 +7,7 @@ ghost use Rattle.ncp_umpire.specs.declared.way.Way.TheVariants.{FromImp};
 ghost use Rattle.ncp_umpire.specs.declared.finding.Rule.{Rule};
 ghost use Rattle.ncp_umpire.specs.declared.finding.Thing.{Thing};
 ghost use Rattle.ncp_umpire.specs.Judged.{new_umpire, by_host};
-ghost use Rattle.ncp_proof_umpire.specs.Recordings.{recording, findings_from, spares, at_interface, found_at, NothingComingBlames, NoFalseAlarm, NobodyBlamed, any_rule, is_of_leader, is_of_link};
+ghost use Rattle.ncp_proof_umpire.specs.Recordings.{recording, findings_from, spares, at_interface, found_at, NothingComingBlames, NoFalseAlarm, NobodyBlamed, is_of_leader, is_of_link, is_of_messages_and_phase, is_of_requests_and_replies};
 ghost use Rattle.ncp_proof_umpire.specs.Worlds.{comes_to, world_file, NeitherBlamed};
 ghost use Rattle.ncp_proof_umpire.specs.Examples.{too_short, both_short, no_command, wrong_resets, two_at_once, lost_given, lost_noted, lost_seen, once_more, goes_of_two, noted_of_two, file_of_two};
 
@@ -27,17 +27,23 @@ pub fn no_link_is_blamed()
     ensures { NoFalseAlarm is_of_link }
 {}
 
-/// No host is found to break any rule at its own interface: whatever calls are made, whatever bits come, and whatever is
-/// recorded at other interfaces, an audit finds nothing against it in its whole recording, where its number and those of its
-/// calls have their places.
+/// No host is found to break any rule of messages and the phase at its own interface: whatever calls are made, whatever bits
+/// come, and whatever is recorded at other interfaces, an audit finds nothing by these rules against it in its whole
+/// recording, where its number and those of its calls have their places.
 pub fn no_host_is_blamed()
-    ensures { NobodyBlamed }
+    ensures { NobodyBlamed is_of_messages_and_phase }
 {}
 
-/// Neither of two hosts with the subnet between them is found to break any rule at its own interface, in a file of what passes
-/// both, whatever calls are made and whatever the subnet does, in whatever order.
+/// Neither of two hosts with the subnet between them is found to break any rule of messages and the phase at its own
+/// interface, in a file of what passes both, whatever calls are made and whatever the subnet does, in whatever order.
 pub fn neither_of_two_is_blamed()
-    ensures { NeitherBlamed }
+    ensures { NeitherBlamed is_of_messages_and_phase }
+{}
+
+/// The rules of which these laws speak are all but those of requests, CLS, replies, ERR and echo: each rule is of one of the
+/// two kinds.
+pub fn each_rule_is_of_one_kind()
+    ensures { (rule : Rule) → is_of_messages_and_phase rule ≡ not (is_of_requests_and_replies rule) }
 {}
 
 /// That these laws speak of something: what goes out and what comes is recorded; a message that is no whole leader is found,
@@ -49,9 +55,9 @@ pub fn wrong_hosts_are_blamed()
     ensures short { list_all (spares is_of_leader 1) (findings_from (new_umpire false) 1 too_short) ≡ false }
     ensures here { at_interface 1 both_short ≡ too_short }
     ensures there { found_at (new_umpire false) 1 both_short ≡ by_host 1 (Rule.Short 2) ∷ [] }
-    ensures bad { list_all (spares any_rule 1) (findings_from (new_umpire false) 1 no_command) ≡ false }
+    ensures bad { list_all (spares is_of_messages_and_phase 1) (findings_from (new_umpire false) 1 no_command) ≡ false }
     ensures resets { findings_from (new_umpire false) 1 wrong_resets ≡ by_host 1 Rule.RstAgain ∷ by_host 1 Rule.RrpUnasked ∷ by_host 1 (Rule.Early Thing.Nop true true false) ∷ [] }
-    ensures blamed { list_all (spares any_rule 1) (findings_from (new_umpire false) 1 wrong_resets) ≡ false }
+    ensures blamed { list_all (spares is_of_messages_and_phase 1) (findings_from (new_umpire false) 1 wrong_resets) ≡ false }
     ensures twice { list_all (spares is_of_link 1) (findings_from (new_umpire false) 1 two_at_once) ≡ false }
     ensures passing { world_file goes_of_two noted_of_two (new_hosts 1 2) ≡ file_of_two }
     ensures coming { at_interface 2 (comes_to 2 (Some message_on_0)) ≡ (FromImp, message_on_0) ∷ [] }

@@ -2,8 +2,9 @@
 //! blame it. Each law is the contract of a function that does nothing.
 //!
 //! - *Use:* what `ncp audit` says against a host rests on it.
-//! - *Proved:* the laws of `alarms`: by all rules, in any file, and in that of two hosts with the subnet; and by the rules of
-//!   leaders and of links whatever numbers calls have.
+//! - *Proved:* the laws of `alarms`: by the rules of messages and the phase, in any file, and in that of two hosts with the
+//!   subnet; and by the rules of leaders and of links whatever numbers calls have. By all rules:
+//!   `ncp_proof_umpire_talk`.
 //! - *Tests:* what is found of wrong hosts is in `audits` of `ncp_test_files`.
 #![tactic(auto)]
 

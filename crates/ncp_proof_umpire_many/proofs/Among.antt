@@ -1,5 +1,5 @@
--- In the file of two to eight hosts with the subnet between them nothing is found.
-use Rattle.std.proofs.Common.{◌≡◌, ◌≢◌, ◌⊎◌, inl, inr, ℕ, ◌<◌, Bool, true, false, ◌&&◌, nat_le, List, [], ◌∷◌, ◌++◌, length, refl, sym, ap, ◌∙◌, subst}
+-- In the file of two to eight hosts with the subnet between them nothing is found but of what is said.
+use Rattle.std.proofs.Common.{◌≡◌, ◌≢◌, ◌⊎◌, inl, inr, ℕ, ◌<◌, Bool, true, false, ◌&&◌, nat_le, List, [], ◌∷◌, length, refl, sym, ap, ◌∙◌, subst}
 use Rattle.std.proofs.lemmas.Bool.{and_parts}
 use Rattle.ncp_host.specs.Host.{is_one_of, are_distinct}
 use Rattle.ncp_transcript_two.specs.declared.note.Note.{Note}
@@ -9,22 +9,24 @@ use Rattle.ncp_umpire.specs.declared.finding.Finding.{Finding}
 use Rattle.ncp_umpire.specs.declared.umpire.Umpire.{Umpire}
 use Rattle.ncp_umpire.specs.declared.way.Way.{Way}
 use Rattle.ncp_umpire.specs.Judged.{new_umpire, after_record}
-use Rattle.ncp_umpire.proofs.Passing.{Pass}
+use Rattle.ncp_umpire.proofs.Passing.{Pass, both}
 use Rattle.ncp_transcript_many.specs.declared.limits.TheConstants.{MAX_HOSTS}
 use Rattle.ncp_transcript_many.specs.declared.many_event.ManyEvent.{ManyEvent}
 use Rattle.ncp_transcript_many.specs.declared.many_note.ManyNote.{ManyNote}
 use Rattle.ncp_transcript_many.specs.Crowd.{Crowd, numbers_in, is_there, are_hosts, new_crowd, after_many}
 use Rattle.ncp_transcript_many.specs.ManyHappening.{ManyNoted}
-use Rattle.ncp_transcript_many.specs.ManyTranscript.{IsManyRun}
+use Rattle.ncp_transcript_many.specs.ManyTranscript.{IsManyRun, IsManyTranscript}
 use Rattle.ncp_transcript_many.proofs.Agreeing.{Fine, Agrees}
 use Rattle.ncp_transcript_many.proofs.Crowds.{new-numbers, numbers-after}
 use Rattle.ncp_transcript_many.proofs.EachPair.{a-stays, b-stays}
 use Rattle.ncp_transcript_many.proofs.Starting.{new-fine, new-agrees}
 use Rattle.ncp_transcript_many.proofs.Stepping.{fine-after, paired}
+use Rattle.ncp_proof_umpire.specs.Recordings.{is_of_messages_and_phase}
 use Rattle.ncp_proof_umpire.specs.Worlds.{passes_between}
 use Rattle.ncp_proof_umpire_many.specs.Files.{findings_in}
+use Rattle.ncp_proof_umpire_many.proofs.Quiet.{phase_quiet, none_by}
 use Rattle.ncp_proof_umpire_many.proofs.Walk.{after_file, found_both}
-use Rattle.ncp_proof_umpire_many.proofs.Both.{Both, nothing, each_step, begins, no_pass}
+use Rattle.ncp_proof_umpire_many.proofs.Both.{Both, each_step, begins}
 use Rattle.ncp_proof_umpire_many.specs.ManyFiles.{passing, many_file, AllFit, RecordsFit, NothingFoundAmongMany}
 use Rattle.ncp_proof_umpire_many.proofs.Elsewhere.{IsOfOthers, record_spares, both_spared}
 use Rattle.ncp_proof_umpire_many.proofs.Named.{IsOff, IsOf, which}
@@ -35,7 +37,7 @@ use Rattle.ncp_proof_umpire_many.proofs.Crowded.{Whole, whole_after, new_whole, 
 
 record Went (m : Crowd) (umpire : Umpire) (w : Hosts) (n : ManyNote) : Type 0 where
   two : Note
-  none : findings_in umpire (passing n) ≡ []
+  none : Pass phase_quiet (findings_in umpire (passing n))
   names : AllName w.number_a w.number_b (passing n)
   agrees : Agrees (after_many n m) (hosts_after_note two w)
   both : Both (hosts_after_note two w) (after_file umpire (passing n))
@@ -51,7 +53,7 @@ went m umpire w event n f noted g k of =
     let did = each_step said.0 two w umpire said.1 k in
     record {
       two = two;
-      none = no_pass (findings_in umpire (passing n)) (subst (λ (xs : List (ℕ × Way × List Bool)). Pass nothing (findings_in umpire xs)) is did.0);
+      none = subst (λ (xs : List (ℕ × Way × List Bool)). Pass phase_quiet (findings_in umpire xs)) is did.0;
       names = subst (AllName w.number_a w.number_b) is fits.1;
       agrees = p.1;
       both = subst (λ (xs : List (ℕ × Way × List Bool)). Both (hosts_after_note two w) (after_file umpire xs)) is did.1;
@@ -98,7 +100,7 @@ record Among (m : Crowd) (umpire : Umpire) : Type 0 where
 
 -- what a note shows of the findings, and of others: its records leave each two that it does not name
 record Shown (m : Crowd) (umpire : Umpire) (n : ManyNote) : Type 0 where
-  none : findings_in umpire (passing n) ≡ []
+  none : Pass phase_quiet (findings_in umpire (passing n))
   fit : AllFit (passing n)
   leaves : (w : Hosts) → IsOff w.number_a w.number_b n → Both w umpire → Both w (after_file umpire (passing n))
 
@@ -121,7 +123,7 @@ module _ (m : Crowd) (umpire : Umpire) (event : ManyEvent) (n : ManyNote) (noted
     where
       go : About m n → Shown m umpire n
       go (inl none) = record {
-        none = ap (findings_in umpire) none;
+        none = subst (λ (xs : List (ℕ × Way × List Bool)). Pass phase_quiet (findings_in umpire xs)) (sym none) refl;
         fit = subst AllFit (sym none) tt;
         leaves = λ w off x. subst (λ (xs : List (ℕ × Way × List Bool)). Both w (after_file umpire xs)) (sym none) x;
       }
@@ -170,12 +172,12 @@ module _ (m : Crowd) (umpire : Umpire) (event : ManyEvent) (n : ManyNote) (noted
 
 -- ---- the walk
 
-walk : (notes : List ManyNote) (m : Crowd) (umpire : Umpire) → IsManyRun notes m → Among m umpire → findings_in umpire (many_file notes) ≡ []
+walk : (notes : List ManyNote) (m : Crowd) (umpire : Umpire) → IsManyRun notes m → Among m umpire → Pass phase_quiet (findings_in umpire (many_file notes))
 walk [] m umpire r k = refl
 walk (n ∷ notes) m umpire r k =
-    found_both umpire (passing n) (many_file notes)
-    ∙ ap (λ (xs : List Finding). xs ++ findings_in (after_file umpire (passing n)) (many_file notes)) (shown m umpire r.0.0 n r.0.1 k).none
-    ∙ walk notes (after_many n m) (after_file umpire (passing n)) r.1 (among_after m umpire r.0.0 n r.0.1 k)
+    subst (λ (xs : List Finding). Pass phase_quiet xs) (sym (found_both umpire (passing n) (many_file notes)))
+    (both phase_quiet (findings_in umpire (passing n)) (findings_in (after_file umpire (passing n)) (many_file notes)) (shown m umpire r.0.0 n r.0.1 k).none
+    (walk notes (after_many n m) (after_file umpire (passing n)) r.1 (among_after m umpire r.0.0 n r.0.1 k)))
 
 walk_fits : (notes : List ManyNote) (m : Crowd) (umpire : Umpire) → IsManyRun notes m → Among m umpire → AllFit (many_file notes)
 walk_fits [] m umpire r k = tt
@@ -199,8 +201,11 @@ all_begin ns good fits = record {
       });
 }
 
-pub none_found : NothingFoundAmongMany
-none_found notes now t = walk notes (new_crowd (numbers_in now)) (new_umpire false) t.run (all_begin (numbers_in now) t.hosts t.fits)
+pub all_quiet : (notes : List ManyNote) (now : Crowd) → IsManyTranscript notes now → Pass phase_quiet (findings_in (new_umpire false) (many_file notes))
+all_quiet notes now t = walk notes (new_crowd (numbers_in now)) (new_umpire false) t.run (all_begin (numbers_in now) t.hosts t.fits)
+
+pub none_found : NothingFoundAmongMany is_of_messages_and_phase
+none_found notes now t = none_by is_of_messages_and_phase (findings_in (new_umpire false) (many_file notes)) (all_quiet notes now t)
 
 pub all_fit : RecordsFit
 all_fit notes now t = walk_fits notes (new_crowd (numbers_in now)) (new_umpire false) t.run (all_begin (numbers_in now) t.hosts t.fits)

@@ -1,6 +1,5 @@
 -- A message of one of two hosts as it is read at an interface: of commands, and of a text.
-use Rattle.std.proofs.Common.{◌≡◌, ◌≢◌, ℕ, ◌<◌, ◌==◌, Bool, true, false, not, ◌&&◌, if◌then◌else◌, List, [], ◌∷◌, ◌++◌, length, All, Option, None, Result, Ok, option_to_list, get_or-set_other, refl, sym, ap, ◌∙◌, arith}
-use Rattle.std.proofs.lemmas.List.{append-nil}
+use Rattle.std.proofs.Common.{◌≡◌, ◌≢◌, ℕ, ◌<◌, ◌==◌, Bool, true, false, not, ◌&&◌, if◌then◌else◌, List, [], ◌∷◌, ◌++◌, length, All, Option, None, Result, Ok, get_or-set_other, refl, sym, ap, ◌∙◌, arith}
 use Rattle.ncp_numbers.specs.Numbers.{bits_of}
 use Rattle.ncp_numbers.specs.Bytes.{bits_of_bytes}
 use Rattle.ncp_numbers.proofs.Packing.{bytes_of-bits_of_bytes}
@@ -24,7 +23,9 @@ use Rattle.ncp_umpire.specs.Tables.{index_of, view_in, with_view}
 use Rattle.ncp_umpire.specs.Views.{new_view}
 use Rattle.ncp_umpire.specs.Messages.{is_unused, judged_reading, rule_of_message}
 use Rattle.ncp_umpire.specs.Phases.{early_finding, after_thing, item_findings, after_item, items_findings, after_items}
-use Rattle.ncp_umpire.specs.Judged.{view_of, knows_zero, items_said, read_findings, after_read, after_in, judges_coming, with_coming}
+use Rattle.ncp_umpire.specs.Judged.{view_of, knows_zero, turn_at, items_said, said_findings, after_read, after_in, judges_coming, with_coming}
+use Rattle.ncp_umpire.proofs.Passing.{Pass}
+use Rattle.ncp_proof_umpire.proofs.Talking.{control_parted, message_talk}
 
 -- ---- the text of a control message
 
@@ -37,21 +38,20 @@ items cs k =
 abbrev pub control_of : ℕ → List Command → Message
 control_of n cs = message_with (leader_to n 0) 8 (bits_of_bytes (spellings cs))
 
-pub control_found : (by n : ℕ) (busy : Option ℕ) (zero : Bool) (cs : List Command) (v : View) → All IsCommand cs
-    → read_findings (judged_reading (control_of n cs)) (record { by = by; sent = false; busy = busy; zero = zero }) (control_of n cs).text v ≡ items_findings (record { by = by; sent = false; busy = busy; zero = zero }) (items_of cs None) v
-control_found by n busy zero cs v k =
-    append-nil (items_findings (record { by = by; sent = false; busy = busy; zero = zero }) (items_said (bits_of_bytes (spellings cs))) v)
-    ∙ ap (λ (xs : List (Result Command CommandFault)). items_findings (record { by = by; sent = false; busy = busy; zero = zero }) xs v) (items cs k)
+-- where nothing is found of the phase in what comes, all that is found is of what is said
+pub control_found : (P : Finding → Bool) (umpire : Umpire) (at peer by n : ℕ) (cs : List Command) → All IsCommand cs
+    → items_findings (turn_at umpire at peer by false) (items_of cs None) (view_of umpire at peer) ≡ []
+    → Pass P (message_talk umpire at peer by false true (Ok (control_of n cs)))
+    → Pass P (said_findings umpire at peer (turn_at umpire at peer by false) true (Ok (control_of n cs)))
+control_found P umpire at peer by n cs k none =
+    control_parted P umpire at peer by false (bits_of_bytes (spellings cs))
+    (ap (λ (xs : List (Result Command CommandFault)). items_findings (turn_at umpire at peer by false) xs (view_of umpire at peer)) (items cs k) ∙ none) refl
 
 pub control_view : (by n : ℕ) (busy : Option ℕ) (zero : Bool) (cs : List Command) (v : View) → All IsCommand cs
     → after_read (judged_reading (control_of n cs)) (record { by = by; sent = false; busy = busy; zero = zero }) (control_of n cs).text v ≡ after_items (record { by = by; sent = false; busy = busy; zero = zero }) (items_of cs None) v
 control_view by n busy zero cs v k = ap (λ (xs : List (Result Command CommandFault)). after_items (record { by = by; sent = false; busy = busy; zero = zero }) xs v) (items cs k)
 
 -- ---- a text
-
-pub text_found : (by : ℕ) (busy : Option ℕ) (zero sent : Bool) (m : Message) (v : View) → is_unused m.leader.link ≡ false → (m.leader.link == 0) ≡ false
-    → read_findings (judged_reading m) (record { by = by; sent = sent; busy = busy; zero = zero }) m.text v ≡ option_to_list (early_finding (record { by = by; sent = sent; busy = busy; zero = zero }) Thing.Text v)
-text_found by busy zero sent m v x y = rw (x, y) refl
 
 pub text_view : (by : ℕ) (busy : Option ℕ) (zero sent : Bool) (m : Message) (v : View) → is_unused m.leader.link ≡ false → (m.leader.link == 0) ≡ false
     → after_read (judged_reading m) (record { by = by; sent = sent; busy = busy; zero = zero }) m.text v ≡ after_thing (record { by = by; sent = sent; busy = busy; zero = zero }) Thing.Text v

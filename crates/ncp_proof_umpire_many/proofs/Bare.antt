@@ -6,7 +6,7 @@ use Rattle.ncp_terms.specs.declared.command.Command.{Command}
 use Rattle.ncp_slot.specs.Slots.{is_quiet}
 use Rattle.ncp_model.specs.declared.pair.Pair.{Pair}
 use Rattle.ncp_model.specs.Ends.{Ends, no_ends}
-use Rattle.ncp_model.specs.Phase.{Phase, up, is_resetting, makes_all, resets}
+use Rattle.ncp_model.specs.Phase.{up, is_resetting, makes_all, resets}
 use Rattle.ncp_model.specs.Sending.{is_full}
 use Rattle.ncp_model.specs.Act.{made_by_call}
 use Rattle.ncp_model.specs.Echo.{echo_answer}

@@ -67,8 +67,10 @@ use Rattle.ncp_umpire.specs.Phases.{early_finding, items_findings, after_items}
 use Rattle.ncp_umpire.specs.declared.finding.Thing.{Thing}
 use Rattle.ncp_control.specs.Texts.{items_of}
 use Rattle.ncp_umpire.specs.Judged.{new_umpire, sees, unsent_finding, record_findings, after_record}
-use Rattle.ncp_umpire.proofs.Passing.{Pass}
+use Rattle.ncp_umpire.proofs.Passing.{Pass, both}
+use Rattle.ncp_proof_umpire.specs.Recordings.{is_of_messages_and_phase}
 use Rattle.ncp_proof_umpire.specs.Worlds.{comes_to, goes_from, world_file}
+use Rattle.ncp_proof_umpire.proofs.Talking.{empty_pass}
 use Rattle.ncp_proof_umpire.proofs.Fresh.{not_quiet}
 use Rattle.ncp_proof_umpire.proofs.HostSlots.{is_of_call, call_noted, call_leaves, was}
 use Rattle.ncp_proof_umpire.proofs.Laid.{weighs, fitting_all}
@@ -78,6 +80,7 @@ use Rattle.ncp_proof_umpire.proofs.PhaseSeen.{Seen, quiet_same}
 use Rattle.ncp_proof_umpire.proofs.PhaseSteps.{Unheard, none_heard}
 use Rattle.ncp_proof_umpire.proofs.ReadyPeers.{Ready}
 use Rattle.ncp_proof_umpire_many.specs.Files.{findings_in, NothingFound}
+use Rattle.ncp_proof_umpire_many.proofs.Quiet.{phase_quiet, none_by}
 use Rattle.ncp_proof_umpire_many.proofs.Walk.{Shows, Steps, AllPass, all_pass}
 use Rattle.ncp_proof_umpire_many.proofs.Sides.{OfA, both_sides}
 use Rattle.ncp_proof_umpire_many.proofs.Ways.{Ways, turned_ways, ways_out, Comes_in, ways_in, Told, ways_answer, ways_lost, ways_dead, new_ways}
@@ -115,12 +118,8 @@ turn_both w umpire k = record {
   of_b = k.of_a;
 }
 
--- no finding passes
-abbrev pub nothing : Finding → Bool
-nothing finding = false
-
-as_none : (found : List Finding) → found ≡ [] → Pass nothing (found ++ [])
-as_none found e = subst (λ (xs : List Finding). Pass nothing (xs ++ [])) (sym e) refl
+as_all : (found : List Finding) → Pass phase_quiet found → Pass phase_quiet (found ++ [])
+as_all found p = both phase_quiet found [] p refl
 
 module _ (w : Hosts) (umpire : Umpire) (k : Both w umpire) where
   abbrev pub s : PeerState
@@ -311,14 +310,14 @@ module _ (w : Hosts) (umpire : Umpire) (k : Both w umpire) (m : List Bool) (full
           subst (λ (j : ℕ). leader_in m ≡ Ok (leader_to w.number_b j) → output_by (slot_at (s w umpire k).slots j) w.number_b j (s w umpire k).peer ≡ Some m → Pair w j m theirs now theirs.host.began) (sym (eqb-true l.on 0 z)) zero_pair l.led l.ready
       go false z = other_pair l.on z l.right l.led l.ready
 
-went : (w : Hosts) (umpire : Umpire) → Both w umpire → Shows nothing Both (goes_from w.number_a (note_of_output w.a)) (hosts_after_note (note_of_out A w) w) umpire
+went : (w : Hosts) (umpire : Umpire) → Both w umpire → Shows phase_quiet Both (goes_from w.number_a (note_of_output w.a)) (hosts_after_note (note_of_out A w) w) umpire
 went w umpire k = go (next_output w.a) refl (joined_after (Event.Out A) (note_of_out A w) w refl k.joined)
   where
-    go : (o : Option (List Bool)) → next_output w.a ≡ o → Joined (hosts_after_note (Note.Out A (note_of_message (next_output w.a))) w) → Shows nothing Both (goes_from w.number_a (note_of_message (next_output w.a))) (hosts_after_note (Note.Out A (note_of_message (next_output w.a))) w) umpire
-    go None q j = subst (λ (o : Option (List Bool)). Shows nothing Both (goes_from w.number_a (note_of_message o)) (hosts_after_note (Note.Out A (note_of_message o)) w) umpire) (sym q) (refl, k)
+    go : (o : Option (List Bool)) → next_output w.a ≡ o → Joined (hosts_after_note (Note.Out A (note_of_message (next_output w.a))) w) → Shows phase_quiet Both (goes_from w.number_a (note_of_message (next_output w.a))) (hosts_after_note (Note.Out A (note_of_message (next_output w.a))) w) umpire
+    go None q j = subst (λ (o : Option (List Bool)). Shows phase_quiet Both (goes_from w.number_a (note_of_message o)) (hosts_after_note (Note.Out A (note_of_message o)) w) umpire) (sym q) (refl, k)
     go (Some m) q j =
-        subst (λ (o : Option (List Bool)). Shows nothing Both (goes_from w.number_a (note_of_message o)) (hosts_after_note (Note.Out A (note_of_message o)) w) umpire) (sym q)
-        (as_none (record_findings umpire ToImp w.number_a m) out.none, both)
+        subst (λ (o : Option (List Bool)). Shows phase_quiet Both (goes_from w.number_a (note_of_message o)) (hosts_after_note (Note.Out A (note_of_message o)) w) umpire) (sym q)
+        (as_all (record_findings umpire ToImp w.number_a m) out.none, known)
       where
         l : Leaves w m
         l = leaves w m k.joined q
@@ -335,8 +334,8 @@ went w umpire k = go (next_output w.a) refl (joined_after (Event.Out A) (note_of
         far : view_in (after_record umpire ToImp w.number_a m).views w.number_b w.number_a ≡ view_in umpire.views w.number_b w.number_a
         far = (other_leaves w.number_b w.number_a ToImp m umpire (a_b w umpire k)).views w.number_a k.joined.stand.fits_a
 
-        both : Both (hosts_after_note (Note.Out A (HostNote.Out m)) w) (after_record umpire ToImp w.number_a m)
-        both = record {
+        known : Both (hosts_after_note (Note.Out A (HostNote.Out m)) w) (after_record umpire ToImp w.number_a m)
+        known = record {
           joined = subst (λ (o : Option (List Bool)). Joined (hosts_after_note (Note.Out A (note_of_message o)) w)) q j;
           ways =
               subst (λ (x : Subnet). Ways w.number_a w.number_b x (after_record umpire ToImp w.number_a m)) (sym l.takes)
@@ -355,7 +354,7 @@ went w umpire k = go (next_output w.a) refl (joined_after (Event.Out A) (note_of
 
 -- what is found in it, and the two sides after it
 record Come (w : Hosts) (umpire : Umpire) (on : ℕ) (bits : List Bool) : Type 0 where
-  none : record_findings umpire FromImp w.number_b bits ≡ []
+  none : Pass phase_quiet (record_findings umpire FromImp w.number_b bits)
   of_a : umpire.full ≡ false → Toward (comes_on on (state_after_received bits (had_for w.number_a w.b)) (seen w)) (view_in (after_record umpire FromImp w.number_b bits).views w.number_b w.number_a) (view_in umpire.views w.number_a w.number_b).host.began
   of_b : umpire.full ≡ false → Toward (swap (comes_on on (state_after_received bits (had_for w.number_a w.b)) (seen w))) (view_in umpire.views w.number_a w.number_b) (view_in (after_record umpire FromImp w.number_b bits).views w.number_b w.number_a).host.began
 
@@ -411,7 +410,7 @@ module _ (w : Hosts) (umpire : Umpire) (k : Both w umpire) (m : List Bool) where
           (λ y. calm_all m c.cs (state_after_received (from_host w.number_a m) (had_for w.number_a w.b)) (seen w) to_slots c.slot line_is (nothing_else (seen w) (view_in umpire.views w.number_b w.number_a) mine_now.host.began (counts_now w umpire k) t (ap (λ (p : Side). awaits_reply p.wait) (sym a.peer) ∙ y)))
           (λ y. starts_all m c.cs (state_after_received (from_host w.number_a m) (had_for w.number_a w.b)) (seen w) to_slots c.slot line_is (view_in umpire.views w.number_b w.number_a) mine_now.host.began t (ap (λ (p : Side). p.began) (sym a.peer) ∙ y))
 
-      met : (record_findings umpire FromImp w.number_b (from_host w.number_a m) ≡ []) × (umpire.full ≡ false → HeardSo c.cs (seen w).this.peer.phase (line (seen w).that (seen w).coming) (seen w).this.peer.phase.waiting (view_in umpire.views w.number_b w.number_a) (view_in (after_record umpire FromImp w.number_b (from_host w.number_a m)).views w.number_b w.number_a))
+      met : Pass phase_quiet (record_findings umpire FromImp w.number_b (from_host w.number_a m)) × (umpire.full ≡ false → HeardSo c.cs (seen w).this.peer.phase (line (seen w).that (seen w).coming) (seen w).this.peer.phase.waiting (view_in umpire.views w.number_b w.number_a) (view_in (after_record umpire FromImp w.number_b (from_host w.number_a m)).views w.number_b w.number_a))
       met =
           commands_come w.number_b w.number_a 0 (from_host w.number_a m) (control_of w.number_a c.cs) umpire (a_b w umpire k) k.joined.stand.fits_b k.joined.stand.fits_a k.ways.sound.long led reads laid sent c.cs
           (seen w).this.peer.phase (line (seen w).that (seen w).coming) (seen w).this.peer.phase.waiting c.fits.0 refl (λ f. (k.of_a f).beside.told) heard
@@ -456,7 +455,7 @@ module _ (w : Hosts) (umpire : Umpire) (k : Both w umpire) (m : List Bool) where
           ∙ no_wait on (state_after_received (from_host w.number_a m) (had_for w.number_a w.b)) (seen w) z to_slots (busy f) (view_in umpire.views w.number_b w.number_a) (view_in umpire.views w.number_a w.number_b) mine_now.host.began (counts_now w umpire k)
           (own_seen w umpire k f).stands.phased (k.of_b f).beside (k.of_a f))
 
-      met : (record_findings umpire FromImp w.number_b (from_host w.number_a m) ≡ []) × (umpire.full ≡ false → Alike (view_in umpire.views w.number_b w.number_a) (view_in (after_record umpire FromImp w.number_b (from_host w.number_a m)).views w.number_b w.number_a))
+      met : Pass phase_quiet (record_findings umpire FromImp w.number_b (from_host w.number_a m)) × (umpire.full ≡ false → Alike (view_in umpire.views w.number_b w.number_a) (view_in (after_record umpire FromImp w.number_b (from_host w.number_a m)).views w.number_b w.number_a))
       met =
           text_comes w.number_b w.number_a on (from_host w.number_a m) (message_with (leader_to w.number_a on) c.size c.text) umpire (a_b w umpire k) k.joined.stand.fits_b k.joined.stand.fits_a k.ways.sound.long led reads laid sent
           c.right z (λ f. (k.of_a f).beside.told) early
@@ -482,18 +481,18 @@ module _ (w : Hosts) (umpire : Umpire) (k : Both w umpire) (m : List Bool) where
           (subst (λ (j : ℕ). leader_in (from_host w.number_a m) ≡ Ok (leader_to w.number_a j) → transit_at w.subnet w.number_a w.number_b j ≡ Accepted m → unsent_finding (sees umpire w.number_b) w.number_b w.number_a j (from_host w.number_a m) ≡ None
           → Counts (comes_on j (state_after_received (from_host w.number_a m) (had_for w.number_a w.b)) (seen w)) → Come w umpire j (from_host w.number_a m)) (sym (eqb-true on 0 z)) come_zero) led e sent d
 
-arrived : (w : Hosts) (umpire : Umpire) (link : ℕ) → Both w umpire → Shows nothing Both (comes_to w.number_b (arriving w.number_a (transit_of A link w))) (hosts_after_note (note_of_delivery A link w) w) umpire
+arrived : (w : Hosts) (umpire : Umpire) (link : ℕ) → Both w umpire → Shows phase_quiet Both (comes_to w.number_b (arriving w.number_a (transit_of A link w))) (hosts_after_note (note_of_delivery A link w) w) umpire
 arrived w umpire link k = go (transit_of A link w) refl (joined_after (Event.Deliver A link) (note_of_delivery A link w) w refl k.joined)
   where
     As : OnLink → Type 0
-    As h = Shows nothing Both (comes_to w.number_b (arriving w.number_a h)) (hosts_after_note (note_of_coming A link (arriving w.number_a h) w) w) umpire
+    As h = Shows phase_quiet Both (comes_to w.number_b (arriving w.number_a h)) (hosts_after_note (note_of_coming A link (arriving w.number_a h) w) w) umpire
 
     go : (h : OnLink) → transit_of A link w ≡ h → Joined (hosts_after_note (note_of_delivery A link w) w) → As (transit_of A link w)
     go Free q j = subst As (sym q) (refl, k)
     go Delivered q j = subst As (sym q) (refl, k)
     go Lost q j = subst As (sym q) (refl, k)
     go Dead q j = subst As (sym q) (refl, k)
-    go (Accepted m) q j = subst As (sym q) (as_none (record_findings umpire FromImp w.number_b (from_host w.number_a m)) come.none, both)
+    go (Accepted m) q j = subst As (sym q) (as_all (record_findings umpire FromImp w.number_b (from_host w.number_a m)) come.none, known)
       where
         r : Written w link m
         r = written w link m k.joined q
@@ -521,8 +520,8 @@ arrived w umpire link k = go (transit_of A link w) refl (joined_after (Event.Del
         open_before : (after_record umpire FromImp w.number_b (from_host w.number_a m)).full ≡ false → umpire.full ≡ false
         open_before f = (other_leaves w.number_a w.number_b FromImp (from_host w.number_a m) umpire (b_a w umpire k)).full f
 
-        both : Both (hosts_after_note (Note.Came A link (note_of_bits (from_host w.number_a m) w.b)) w) (after_record umpire FromImp w.number_b (from_host w.number_a m))
-        both = record {
+        known : Both (hosts_after_note (Note.Came A link (note_of_bits (from_host w.number_a m) w.b)) w) (after_record umpire FromImp w.number_b (from_host w.number_a m))
+        known = record {
           joined = joined;
           ways = way.ways;
           at_a = elsewhere w.number_a w.number_b w.number_b FromImp (from_host w.number_a m) w.a umpire (b_a w umpire k) k.at_a;
@@ -625,15 +624,15 @@ told_how w link kind k e = go (transit_at w.subnet w.number_a w.number_b link) r
         let o = dead-out link k.model.0 (seen w) k.model.1 q in
         subst (Told_how w link) is (record { h = Dead; m = o.message; is = q; slot = o.in_slot; same = refl })
 
-told : (w : Hosts) (umpire : Umpire) (link : ℕ) → Both w umpire → Shows nothing Both (comes_to w.number_a (answering w.number_b link (answer_kind (transit_of A link w)))) (hosts_after_note (note_of_answer A link w) w) umpire
+told : (w : Hosts) (umpire : Umpire) (link : ℕ) → Both w umpire → Shows phase_quiet Both (comes_to w.number_a (answering w.number_b link (answer_kind (transit_of A link w)))) (hosts_after_note (note_of_answer A link w) w) umpire
 told w umpire link k = go (answer_kind (transit_of A link w)) refl (joined_after (Event.Answer A link) (note_of_answer A link w) w refl k.joined)
   where
     As : Option ℕ → Type 0
-    As o = Shows nothing Both (comes_to w.number_a (answering w.number_b link o)) (hosts_after_note (note_of_answering A link (answering w.number_b link o) w) w) umpire
+    As o = Shows phase_quiet Both (comes_to w.number_a (answering w.number_b link o)) (hosts_after_note (note_of_answering A link (answering w.number_b link o) w) w) umpire
 
     go : (o : Option ℕ) → answer_kind (transit_of A link w) ≡ o → Joined (hosts_after_note (note_of_answer A link w) w) → As (answer_kind (transit_of A link w))
     go None q j = subst As (sym q) (refl, k)
-    go (Some kind) q j = subst As (sym q) (as_none (record_findings umpire FromImp w.number_a (answer_bits kind w.number_b link)) way.none, both)
+    go (Some kind) q j = subst As (sym q) (as_all (record_findings umpire FromImp w.number_a (answer_bits kind w.number_b link)) (empty_pass phase_quiet (record_findings umpire FromImp w.number_a (answer_bits kind w.number_b link)) way.none), known)
       where
         l : AnswerLed w link kind
         l = answer_leads w link kind k.joined q
@@ -668,8 +667,8 @@ told w umpire link k = go (answer_kind (transit_of A link w)) refl (joined_after
         busy : umpire.full ≡ false → (link == 0) ≡ false → is_quiet (had_for w.number_b w.a).slots ≡ false
         busy f z = not_quiet (had_for w.number_b w.a) link (own_seen w umpire k f).used z (ap is_empty t.slot)
 
-        both : Both (hosts_after_note (Note.Answered A link (note_of_bits (answer_bits kind w.number_b link) w.a)) w) (after_record umpire FromImp w.number_a (answer_bits kind w.number_b link))
-        both = record {
+        known : Both (hosts_after_note (Note.Answered A link (note_of_bits (answer_bits kind w.number_b link) w.a)) w) (after_record umpire FromImp w.number_a (answer_bits kind w.number_b link))
+        known = record {
           joined = joined;
           ways = way.ways;
           at_a = came w.number_a w.number_b w.a umpire (answer_bits kind w.number_b link) (b_a w umpire k) k.joined.stand.fits_a k.at_a;
@@ -687,12 +686,12 @@ told w umpire link k = go (answer_kind (transit_of A link w)) refl (joined_after
               (counts (swap (is_told link (answer_of kind) (seen w))) (subst (λ (x : World). IsOfModel (swap x)) is (turned_joined (hosts_after_note (Note.Answered A link (note_of_bits (answer_bits kind w.number_b link) w.a)) w) joined).model)) (k.of_b (open_before f)))));
         }
 
-sides : OfA nothing Both
+sides : OfA phase_quiet Both
 sides = record { call = called; out = went; deliver = arrived; lose = lost; die = died; answer = told }
 
 -- each event of the two
-pub each_step : Steps nothing Both
-each_step = both_sides nothing Both turn_both sides
+pub each_step : Steps phase_quiet Both
+each_step = both_sides phase_quiet Both turn_both sides
 
 -- ---- the beginning
 
@@ -729,12 +728,8 @@ begins a b d k l = record {
   of_b = λ f. new_toward (swap (seen (new_hosts a b))) (view_in (new_umpire false).views a b) (view_in (new_umpire false).views b a) (new_had a) (new_had b) (new_seen a b) (new_seen b a);
 }
 
-pub no_pass : (found : List Finding) → Pass (λ (f : Finding). false) found → found ≡ []
-no_pass [] p = refl
-no_pass (f ∷ found) p = absurd (cc p)
+all_quiet : AllPass phase_quiet
+all_quiet = all_pass phase_quiet Both each_step begins
 
-none_passes : AllPass nothing
-none_passes = all_pass nothing Both each_step begins
-
-pub none_found : NothingFound
-none_found a b given now differ k l steps = no_pass (findings_in (new_umpire false) (world_file given now.notes (new_hosts a b))) (none_passes a b given now differ k l steps)
+pub none_found : NothingFound is_of_messages_and_phase
+none_found a b given now differ k l steps = none_by is_of_messages_and_phase (findings_in (new_umpire false) (world_file given now.notes (new_hosts a b))) (all_quiet a b given now differ k l steps)

@@ -1,3 +1,4 @@
+pub mod Quiet
 pub mod Walk
 pub mod Tells
 pub mod Near

@@ -1,4 +1,5 @@
--- A message of one of two hosts comes to the other: nothing is found in it, by what was seen of its host before.
+-- A message of one of two hosts comes to the other: by what was seen of its host before, nothing is found in it but of what
+-- is said.
 use Rattle.std.proofs.Common.{◌≡◌, ℕ, ◌<◌, ◌==◌, Bool, true, false, List, [], ◌++◌, length, All, Option, None, Result, Ok, option_map, option_to_list, refl, sym, ap, ◌∙◌, subst}
 use Rattle.ncp_leader.specs.declared.fault.MessageFault.{MessageFault}
 use Rattle.ncp_leader.specs.Leader.{leader_in}
@@ -19,11 +20,14 @@ use Rattle.ncp_umpire.specs.Slots.{busy_link}
 use Rattle.ncp_umpire.specs.Tables.{view_in}
 use Rattle.ncp_umpire.specs.Messages.{is_unused, judged_reading, rule_of_message}
 use Rattle.ncp_umpire.specs.Phases.{early_finding, items_findings, after_items}
-use Rattle.ncp_umpire.specs.Judged.{by_host, sees, view_of, knows_zero, unsent_finding, after_in, turn_at, read_findings, after_read, said_findings, message_findings, after_said, record_findings, after_record}
+use Rattle.ncp_umpire.specs.Judged.{by_host, sees, view_of, knows_zero, unsent_finding, after_in, turn_at, after_read, said_findings, message_findings, after_said, record_findings, after_record}
+use Rattle.ncp_umpire.proofs.Passing.{Pass}
+use Rattle.ncp_proof_umpire.proofs.Talking.{empty_pass, text_found}
 use Rattle.ncp_umpire.proofs.Following.{in_is, said_keeps}
 use Rattle.ncp_proof_umpire.proofs.PhaseSeen.{view_same}
+use Rattle.ncp_proof_umpire_many.proofs.Quiet.{phase_quiet, quiet_talk}
 use Rattle.ncp_proof_umpire_many.proofs.Ways.{in_found}
-use Rattle.ncp_proof_umpire_many.proofs.AsRead.{control_of, control_found, control_view, text_found, text_view, all_untold, untold_text, not_told, zero_none, is_told, in_views, in_full}
+use Rattle.ncp_proof_umpire_many.proofs.AsRead.{control_of, control_found, control_view, text_view, all_untold, untold_text, not_told, zero_none, is_told, in_views, in_full}
 use Rattle.ncp_proof_umpire_many.proofs.PeerSeen.{AllHeard}
 use Rattle.ncp_proof_umpire_many.proofs.OwnOut.{Alike}
 
@@ -54,7 +58,7 @@ module _ (me n on : ℕ) (bits : List Bool) (x : Message) (u : Umpire) (differ :
   full_as : A.full ≡ u.full
   full_as = in_full (sees u me) me n on
 
-  pub found : record_findings u FromImp me bits ≡ read_findings (judged_reading x) (record { by = n; sent = false; busy = busy; zero = knows_zero A me n }) x.text first
+  pub found : record_findings u FromImp me bits ≡ said_findings A me n (turn_at A me n n false) true (Ok x)
   found =
       in_found u me n on bits led differ
       ∙ ap (λ (o : Option Finding). option_to_list o ++ message_findings A me n (turn_at A me n n false) true on bits) sent
@@ -80,8 +84,10 @@ module _ (me n on : ℕ) (bits : List Bool) (x : Message) (u : Umpire) (differ :
   -- commands
   pub commands_found : (cs : List Command) → All IsCommand cs → x ≡ control_of n cs
       → (u.full ≡ false → items_findings (record { by = n; sent = false; busy = busy; zero = knows_zero A me n }) (items_of cs None) first ≡ [])
-      → record_findings u FromImp me bits ≡ []
-  commands_found cs k is none = found ∙ ap (λ (y : Message). read_findings (judged_reading y) (record { by = n; sent = false; busy = busy; zero = knows_zero A me n }) y.text first) is ∙ control_found n n busy (knows_zero A me n) cs first k ∙ go u.full refl
+      → Pass phase_quiet (record_findings u FromImp me bits)
+  commands_found cs k is none =
+      subst (λ (fs : List Finding). Pass phase_quiet fs) (sym (found ∙ ap (λ (y : Message). said_findings A me n (turn_at A me n n false) true (Ok y)) is))
+      (control_found phase_quiet A me n n n cs k (go u.full refl) (quiet_talk A me n n false true (Ok (control_of n cs))))
     where
       go : (b : Bool) → u.full ≡ b → items_findings (record { by = n; sent = false; busy = busy; zero = knows_zero A me n }) (items_of cs None) first ≡ []
       go false f = none f
@@ -94,8 +100,8 @@ module _ (me n on : ℕ) (bits : List Bool) (x : Message) (u : Umpire) (differ :
 
   -- a text
   pub text_none : is_unused x.leader.link ≡ false → (x.leader.link == 0) ≡ false → (u.full ≡ false → early_finding (record { by = n; sent = false; busy = busy; zero = knows_zero A me n }) Thing.Text first ≡ None)
-      → record_findings u FromImp me bits ≡ []
-  text_none right z none = found ∙ text_found n busy (knows_zero A me n) false x first right z ∙ ap option_to_list (go u.full refl)
+      → Pass phase_quiet (record_findings u FromImp me bits)
+  text_none right z none = empty_pass phase_quiet (record_findings u FromImp me bits) (found ∙ text_found A me n n false x right z ∙ ap option_to_list (go u.full refl))
     where
       go : (b : Bool) → u.full ≡ b → early_finding (record { by = n; sent = false; busy = busy; zero = knows_zero A me n }) Thing.Text first ≡ None
       go false f = none f
@@ -108,7 +114,7 @@ module _ (me n on : ℕ) (bits : List Bool) (x : Message) (u : Umpire) (differ :
 
   pub commands_come : (cs : List Command) (h : Phase) (y rest : List Command) → All IsCommand cs → x ≡ control_of n cs → (u.full ≡ false → v.told ≡ true)
       → (u.full ≡ false → (w : View) (b : Option ℕ) (z : Bool) → Alike v w → AllHeard cs h y rest w (after_items (record { by = n; sent = false; busy = b; zero = z }) (items_of cs None) w) (items_findings (record { by = n; sent = false; busy = b; zero = z }) (items_of cs None) w))
-      → (record_findings u FromImp me bits ≡ []) × (u.full ≡ false → HeardSo cs h y rest v (view_in (after_record u FromImp me bits).views me n))
+      → Pass phase_quiet (record_findings u FromImp me bits) × (u.full ≡ false → HeardSo cs h y rest v (view_in (after_record u FromImp me bits).views me n))
   commands_come cs h y rest k is told heard = (
     commands_found cs k is (λ f. (heard f first busy (knows_zero A me n) (alike (told f) f)).none),
     λ f. subst (HeardSo cs h y rest v) (sym (commands_view cs k is)) (record { first = first; alike = alike (told f) f; found = _; all = heard f first busy (knows_zero A me n) (alike (told f) f) }),
@@ -116,7 +122,7 @@ module _ (me n on : ℕ) (bits : List Bool) (x : Message) (u : Umpire) (differ :
 
   pub text_comes : is_unused x.leader.link ≡ false → (x.leader.link == 0) ≡ false → (u.full ≡ false → v.told ≡ true)
       → (u.full ≡ false → (w : View) (b : Option ℕ) (z : Bool) → Alike v w → early_finding (record { by = n; sent = false; busy = b; zero = z }) Thing.Text w ≡ None)
-      → (record_findings u FromImp me bits ≡ []) × (u.full ≡ false → Alike v (view_in (after_record u FromImp me bits).views me n))
+      → Pass phase_quiet (record_findings u FromImp me bits) × (u.full ≡ false → Alike v (view_in (after_record u FromImp me bits).views me n))
   text_comes right z told early = (
     text_none right z (λ f. early f first busy (knows_zero A me n) (alike (told f) f)),
     λ f. text_alike right z (told f) f,

@@ -1,7 +1,7 @@
 -- What is known of each of two hosts at its own interface, through each record of a file of both.
-use Rattle.std.proofs.Common.{◌≡◌, ℕ, ◌<◌, ◌==◌, Bool, true, false, not, ◌&&◌, ◌||◌, List, [], ◌∷◌, Option, Some, refl, ap, subst, arith}
-use Rattle.std.proofs.lemmas.Bool.{eqb-true, and_parts}
-use Rattle.std.specs.List.{list_all}
+use Rattle.std.proofs.Common.{◌≡◌, ℕ, ◌<◌, ◌==◌, Bool, true, false, ◌||◌, List, [], ◌∷◌, Option, Some, refl, ap, subst, arith}
+use Rattle.std.proofs.lemmas.Bool.{eqb-true}
+use Rattle.ncp_leader.specs.Message.{message_in}
 use Rattle.ncp_host.specs.Host.{Host, is_one_of, new_host}
 use Rattle.ncp_host.specs.Turns.{next_output}
 use Rattle.ncp_transcript.specs.declared.input.Input.{Input}
@@ -17,21 +17,19 @@ use Rattle.ncp_proof_runs.proofs.Said.{IsOut}
 use Rattle.ncp_proof_runs.proofs.States.{Turn}
 use Rattle.ncp_proof_runs.proofs.HostRuns.{Holds, out-turn, out-is}
 use Rattle.ncp_proof_runs.proofs.EachPeer.{holds-after, new-holds}
-use Rattle.ncp_umpire.specs.declared.finding.Finding.{Finding}
 use Rattle.ncp_umpire.specs.declared.umpire.Umpire.{Umpire}
 use Rattle.ncp_umpire.specs.declared.way.Way.{Way}
 use Rattle.ncp_umpire.specs.declared.way.Way.TheVariants.{ToImp, FromImp}
-use Rattle.ncp_umpire.specs.Judged.{new_umpire, by_host, sees, slot_of_link, same_of, out_rule, record_findings, after_record}
-use Rattle.ncp_umpire.proofs.Passing.{Pass, mapped_unless, goes}
-use Rattle.ncp_proof_umpire.specs.Recordings.{is_host, spares, any_rule}
+use Rattle.ncp_umpire.specs.Judged.{new_umpire, sees, fresh_out, umpire_after_out, record_findings, after_record}
+use Rattle.ncp_umpire.proofs.Passing.{Pass}
 use Rattle.ncp_proof_umpire.proofs.Leaders.{peer_of_turn}
 use Rattle.ncp_proof_umpire.proofs.HostSlots.{call_noted}
 use Rattle.ncp_proof_umpire.proofs.Linked.{after_call, after_out_of, after_in_of}
 use Rattle.ncp_proof_umpire.proofs.LinkWalk.{follows_begins}
 use Rattle.ncp_proof_umpire.proofs.ReadyPeers.{AllReady, ready_after, fits_in, ready_begins}
-use Rattle.ncp_proof_umpire.proofs.PhaseWalk.{call_all, in_all, out_all, out_spared, seen_begins}
-use Rattle.ncp_proof_umpire.proofs.PhaseLists.{itself}
+use Rattle.ncp_proof_umpire.proofs.PhaseWalk.{call_all, in_all, out_all, out_passes, seen_begins}
 use Rattle.ncp_proof_umpire.proofs.Others.{Watched, watched, other_leaves}
+use Rattle.ncp_proof_umpire_many.proofs.Quiet.{phase_quiet, quiet_talk}
 
 pub record At (me n : ℕ) (h : Host) (umpire : Umpire) : Type 0 where
   pub holds : Holds (n ∷ []) h
@@ -74,28 +72,13 @@ said_out : (h : Host) (m : List Bool) → next_output h ≡ Some m → IsHostSai
 said_out h m q = subst (λ (o : Option (List Bool)). IsHostSaid (note_of_message o) h) q (noted_said Input.Out (note_of_output h) h refl)
 
 pub record Went (me n : ℕ) (h : Host) (m : List Bool) (umpire : Umpire) : Type 0 where
-  pub none : record_findings umpire ToImp me m ≡ []
+  pub none : Pass phase_quiet (record_findings umpire ToImp me m)
   pub at : At me n (after_note (HostNote.Out m) h) (after_record umpire ToImp me m)
-
--- all is said of the host itself, and nothing is said against it
-nothing_left : (me : ℕ) (found : List Finding) → Pass (spares any_rule me) found → Pass (λ (f : Finding). is_host me f.who) found → found ≡ []
-nothing_left me [] p q = refl
-nothing_left me (f ∷ found) p q =
-    let mine = (and_parts (is_host me f.who) (list_all (λ (g : Finding). is_host me g.who) found) q).0 in
-    let other = (and_parts (not (is_host me f.who && true)) (list_all (spares any_rule me) found) p).0 in
-    absurd (clash (is_host me f.who) mine other)
-  where
-    clash : (b : Bool) → b ≡ true → not (b && true) ≡ true → ⊥
-    clash true e g = absurd (cc g)
-    clash false e g = absurd (cc e)
 
 pub went : (me n : ℕ) (h : Host) (umpire : Umpire) (m : List Bool) → (n == me) ≡ false → me < 256 → next_output h ≡ Some m → At me n h umpire → Went me n h m umpire
 went me n h umpire m d l q k = record {
-  none = nothing_left me (record_findings umpire ToImp me m)
-      (out_spared (n ∷ []) me t.n h umpire m t.s is k.holds l (one_peer me n d) said t.found k.watched.follows k.ready k.watched.seen other)
-      (goes (λ (f : Finding). is_host me f.who) umpire me t.n is.on m is.leader other (λ r s. itself me)
-      (let u = sees umpire me in mapped_unless (λ (f : Finding). is_host me f.who) u.full (by_host me) (out_rule (slot_of_link u me t.n is.on) (same_of u me t.n is.on m) is.on) (λ r e. itself me))
-      (λ r e. itself me));
+  none = out_passes phase_quiet (n ∷ []) me t.n h umpire m t.s is k.holds l (one_peer me n d) said t.found k.watched.follows k.ready k.watched.seen other
+      (quiet_talk (umpire_after_out (sees umpire me) me t.n is.on m) me t.n me true (fresh_out (sees umpire me) me t.n is.on m) (message_in m));
   at = record {
     holds = holds-after (n ∷ []) (HostNote.Out m) h k.holds said;
     watched = record {

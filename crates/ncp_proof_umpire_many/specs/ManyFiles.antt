@@ -1,5 +1,5 @@
 -- What passes the interfaces of two to eight hosts with the subnet between them, in one file, as `ncp record` writes it; and
--- that an audit of it finds nothing.
+-- what an audit of it finds.
 use Rattle.std.specs.Prelude.{◌≡◌, ◌≢◌, ◌≤◌, ◌<◌, ℕ, Bool, false, List, [], ◌∷◌, ◌++◌, length, map}
 use Rattle.ncp_bits.specs.declared.bits.TheConstants.{MAX_BITS}
 use Rattle.ncp_leader.specs.declared.kinds.TheConstants.{RFNM, DESTINATION_DEAD, INCOMPLETE}
@@ -13,11 +13,12 @@ use Rattle.ncp_transcript_many.specs.declared.many_note.ManyNote.{ManyNote}
 use Rattle.ncp_transcript_many.specs.Crowd.{Crowd}
 use Rattle.ncp_transcript_many.specs.ManyHappening.{by_numbers}
 use Rattle.ncp_transcript_many.specs.ManyTranscript.{IsManyTranscript}
+use Rattle.ncp_umpire.specs.declared.finding.Rule.{Rule}
 use Rattle.ncp_umpire.specs.declared.way.Way.{Way}
 use Rattle.ncp_umpire.specs.declared.way.Way.TheVariants.{FromImp}
 use Rattle.ncp_umpire.specs.Judged.{new_umpire}
 use Rattle.ncp_proof_umpire.specs.Worlds.{goes_from, world_file}
-use Rattle.ncp_proof_umpire_many.specs.Files.{findings_in}
+use Rattle.ncp_proof_umpire_many.specs.Files.{findings_in, found_by}
 
 -- the type of an answer (BBN 1822, section 3)
 abbrev pub answer_type : Answer → ℕ
@@ -64,6 +65,6 @@ FileOfTwo =
     → many_file (map (by_numbers a b) now.notes) ≡ world_file given now.notes (new_hosts a b)
 
 -- Of two to eight hosts with the subnet between them, whatever calls are made and whatever the subnet does in whatever order,
--- nothing is found in the file of what passes all interfaces: against no host, and not against the subnet.
-abbrev pub NothingFoundAmongMany : Type 0
-NothingFoundAmongMany = (notes : List ManyNote) (now : Crowd) → IsManyTranscript notes now → findings_in (new_umpire false) (many_file notes) ≡ []
+-- nothing is found by these rules in the file of what passes all interfaces: against no host, and not against the subnet.
+abbrev pub NothingFoundAmongMany : (Rule → Bool) → Type 0
+NothingFoundAmongMany judged = (notes : List ManyNote) (now : Crowd) → IsManyTranscript notes now → found_by judged (findings_in (new_umpire false) (many_file notes)) ≡ []

@@ -1,4 +1,4 @@
-//! Nothing is found in the file of two to eight hosts.
+//! Nothing is found by the rules of messages and the phase in the file of two to eight hosts.
 ghost use Rattle.std.specs.Prelude.{◌≡◌, ◌∷◌, [], ℕ, Bool, List};
 ghost use Rattle.ncp_subnet.specs.Messages.{answer_bits};
 ghost use Rattle.ncp_terms.specs.declared.answer.Answer.TheVariants.{Rfnm, Incomplete, Dead};
@@ -7,12 +7,14 @@ ghost use Rattle.ncp_transcript.specs.declared.note.HostNote.{HostNote};
 ghost use Rattle.ncp_umpire.specs.declared.way.Way.TheVariants.{ToImp, FromImp};
 ghost use Rattle.ncp_transcript_many.specs.declared.many_note.ManyNote.{ManyNote};
 ghost use Rattle.ncp_transcript_many.specs.Examples.{rst_with, row_notes};
+ghost use Rattle.ncp_proof_umpire.specs.Recordings.{is_of_messages_and_phase};
 ghost use Rattle.ncp_proof_umpire_many.specs.ManyFiles.{passing, many_file, FileOfTwo, RecordsFit, NothingFoundAmongMany};
 
-/// An audit of the file of two to eight hosts with the subnet between them finds nothing: by no rule, at no interface, against
-/// no host and not against the subnet, whatever calls are made and whatever the subnet does, in whatever order.
+/// An audit of the file of two to eight hosts with the subnet between them finds nothing by the rules of messages and the
+/// phase: at no interface, against no host and not against the subnet, whatever calls are made and whatever the subnet does,
+/// in whatever order.
 pub fn nothing_is_found_among_many()
-    ensures { NothingFoundAmongMany }
+    ensures { NothingFoundAmongMany is_of_messages_and_phase }
 {}
 
 /// What the file has: a message that goes out stands in it at its sender, one that comes at its receiver, and an answer at the

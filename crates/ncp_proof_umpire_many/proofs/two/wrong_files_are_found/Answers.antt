@@ -16,6 +16,10 @@ pub returns-clause-answered : goal.returns-clause-answered
 unfolding number_of
 returns-clause-answered c = refl
 
+pub returns-clause-judged : goal.returns-clause-judged
+unfolding number_of
+returns-clause-judged c = refl
+
 pub returns-clause-come : goal.returns-clause-come
 unfolding number_of byte_of bytes_of command_with command_at commands_within
 returns-clause-come c = refl

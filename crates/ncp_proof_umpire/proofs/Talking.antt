@@ -1,0 +1,86 @@
+-- The findings of a message that is read are those of the phase, and those of what is said while two hosts are up: where all
+-- of either pass a test, all do.
+use Rattle.std.proofs.Common.{◌≡◌, ℕ, ◌==◌, Bool, true, false, not, ◌&&◌, if◌then◌else◌, List, [], ◌++◌, None, Result, Ok, Err, option_to_list, refl, sym, ap, subst}
+use Rattle.ncp_leader.specs.declared.fault.MessageFault.{MessageFault}
+use Rattle.ncp_leader.specs.Message.{Message}
+use Rattle.ncp_umpire.specs.declared.finding.Finding.{Finding}
+use Rattle.ncp_umpire.specs.declared.finding.Thing.{Thing}
+use Rattle.ncp_umpire.specs.declared.umpire.Umpire.{Umpire}
+use Rattle.ncp_umpire.specs.Messages.{is_unused}
+use Rattle.ncp_umpire.specs.Phases.{early_finding, items_findings, after_items, missing_finding}
+use Rattle.ncp_umpire.specs.Talked.{talk_of, talked_findings, after_talked, left_out_findings}
+use Rattle.ncp_umpire.specs.Judged.{view_of, turn_at, is_roomy, items_said, control_findings, said_findings}
+use Rattle.ncp_umpire.proofs.Passing.{Pass, both, SaysTalk, left_out_pass}
+use Rattle.ncp_umpire.proofs.Parted.{pass_parts, parted, said_pass}
+use Rattle.ncp_umpire.proofs.Parted
+
+-- no finding
+pub empty_pass : (P : Finding → Bool) (xs : List Finding) → xs ≡ [] → Pass P xs
+empty_pass P xs e = subst (λ (ys : List Finding). Pass P ys) (sym e) refl
+
+-- ---- of what a control text says: of its items, and of what is left out behind them
+
+abbrev pub control_talk : Umpire → ℕ → ℕ → ℕ → Bool → List Bool → List Finding
+control_talk umpire at peer by sent text =
+    let turn = turn_at umpire at peer by sent in
+    let talk = talk_of at peer turn in
+    let items = items_said text in
+    let view = view_of umpire at peer in
+    Parted.said_findings turn talk umpire.kept items view umpire.books
+    ++ left_out_findings turn talk umpire.kept (is_roomy text) (after_items turn items view) (after_talked turn talk items view umpire.books)
+
+-- where nothing is found of the phase in it, all that is found is of what it says
+pub control_parted : (P : Finding → Bool) (umpire : Umpire) (at peer by : ℕ) (sent : Bool) (text : List Bool)
+    → items_findings (turn_at umpire at peer by sent) (items_said text) (view_of umpire at peer) ≡ []
+    → missing_finding (turn_at umpire at peer by sent) (is_roomy text) (after_items (turn_at umpire at peer by sent) (items_said text) (view_of umpire at peer)) ≡ None
+    → Pass P (control_talk umpire at peer by sent text)
+    → Pass P (control_findings (turn_at umpire at peer by sent) (talk_of at peer (turn_at umpire at peer by sent)) umpire.kept text (view_of umpire at peer) umpire.books)
+control_parted P umpire at peer by sent text i m t =
+    let turn = turn_at umpire at peer by sent in
+    let talk = talk_of at peer turn in
+    let items = items_said text in
+    let view = view_of umpire at peer in
+    let missing = option_to_list (missing_finding turn (is_roomy text) (after_items turn items view)) in
+    let left = left_out_findings turn talk umpire.kept (is_roomy text) (after_items turn items view) (after_talked turn talk items view umpire.books) in
+    let parts = pass_parts P (Parted.said_findings turn talk umpire.kept items view umpire.books) left t in
+    let items_pass = parted P turn talk umpire.kept items view umpire.books (empty_pass P (items_findings turn items view) i) parts.0 in
+    both P (talked_findings turn talk umpire.kept items view umpire.books ++ missing) left
+    (both P (talked_findings turn talk umpire.kept items view umpire.books) missing items_pass (empty_pass P missing (ap option_to_list m))) parts.1
+
+-- ---- of what a message says
+
+-- a control text is read of it
+abbrev pub is_control_text : Message → Bool
+is_control_text message = not (is_unused message.leader.link) && message.leader.link == 0 && message.size == 8
+
+abbrev pub message_talk : Umpire → ℕ → ℕ → ℕ → Bool → Bool → Result Message MessageFault → List Finding
+message_talk umpire at peer by sent fresh (Ok message) = if fresh && is_control_text message then control_talk umpire at peer by sent message.text else []
+message_talk umpire at peer by sent fresh (Err fault) = []
+
+-- where each rule of what is said passes a test, all of it does
+pub message_talk_pass : (P : Finding → Bool) (umpire : Umpire) (at peer by : ℕ) (sent fresh : Bool) (r : Result Message MessageFault) → SaysTalk P (turn_at umpire at peer by sent) → Pass P (message_talk umpire at peer by sent fresh r)
+message_talk_pass P umpire at peer by sent fresh (Err fault) s = refl
+message_talk_pass P umpire at peer by sent fresh (Ok message) s = go (fresh && is_control_text message)
+  where
+    go : (b : Bool) → Pass P (if b then control_talk umpire at peer by sent message.text else [])
+    go false = refl
+    go true =
+        let turn = turn_at umpire at peer by sent in
+        let talk = talk_of at peer turn in
+        let items = items_said message.text in
+        let view = view_of umpire at peer in
+        let room = is_roomy message.text in
+        let after = after_items turn items view in
+        let now = after_talked turn talk items view umpire.books in
+        both P (Parted.said_findings turn talk umpire.kept items view umpire.books) (left_out_findings turn talk umpire.kept room after now)
+        (said_pass P turn s talk umpire.kept items view umpire.books) (left_out_pass P turn s talk umpire.kept room after now)
+
+-- all that is found in a message is of what it says: where that passes a test, all does
+abbrev pub Parts : Umpire → ℕ → ℕ → ℕ → Bool → Bool → Result Message MessageFault → Type 0
+Parts umpire at peer by sent fresh r = (P : Finding → Bool) → Pass P (message_talk umpire at peer by sent fresh r) → Pass P (said_findings umpire at peer (turn_at umpire at peer by sent) fresh r)
+
+-- ---- a text
+
+pub text_found : (umpire : Umpire) (at peer by : ℕ) (sent : Bool) (m : Message) → is_unused m.leader.link ≡ false → (m.leader.link == 0) ≡ false
+    → said_findings umpire at peer (turn_at umpire at peer by sent) true (Ok m) ≡ option_to_list (early_finding (turn_at umpire at peer by sent) Thing.Text (view_of umpire at peer))
+text_found umpire at peer by sent m x y = rw (x, y) refl

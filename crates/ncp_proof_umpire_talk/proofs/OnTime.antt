@@ -1,0 +1,80 @@
+-- A command that goes out first of those that wait, and is neither RST nor RRP, is in time: the host is up.
+use Rattle.std.proofs.Common.{◌≡◌, ℕ, ◌+◌, ◌<◌, Bool, true, false, not, ◌&&◌, ◌||◌, if◌then◌else◌, List, ◌∷◌, Option, refl, arith}
+use Rattle.ncp_terms.specs.declared.command.Command.{Command}
+use Rattle.ncp_model.specs.Phase.{Phase, up, is_rst, is_rrp, is_other}
+use Rattle.ncp_model.proofs.ResetLists.{bit, rsts, rrps}
+use Rattle.ncp_umpire.specs.declared.finding.Thing.{Thing}
+use Rattle.ncp_umpire.specs.declared.view.View.{View}
+use Rattle.ncp_umpire.specs.Views.{awaits_reply}
+use Rattle.ncp_umpire.specs.Phases.{is_text, is_early, after_thing}
+use Rattle.ncp_proof_umpire.proofs.Phased.{Phased}
+
+pub record OnTime (me : ℕ) (busy : Option ℕ) (zero : Bool) (what : Thing) (u : List Command) (p : Phase) (v : View) : Type 0 where
+  pub up_is : up p ≡ true
+  pub even : awaits_reply v.host.wait ≡ false
+  pub early : is_early (record { by = me; sent = true; busy = busy; zero = zero }) what v ≡ false
+  pub same : after_thing (record { by = me; sent = true; busy = busy; zero = zero }) what v ≡ v
+  pub none : 0 < rrps u + bit p.owe → ⊥
+
+up_first : (c : Command) (u : List Command) (p : Phase) (q : Bool) (v : View) → is_other c ≡ true → Phased (record p { waiting = c ∷ u }) q v → up p ≡ true
+up_first c u p q v o k = go (up p) refl
+  where
+    go : (b : Bool) → up p ≡ b → b ≡ true
+    go true e = refl
+    go false e = let none = k.calm e in grind arith
+
+no_more : (c : Command) (u : List Command) (p : Phase) (q : Bool) (v : View) → is_other c ≡ true → Phased (record p { waiting = c ∷ u }) q v → (rsts u ≡ 0) × (rrps u ≡ 0)
+no_more c u p q v o k = let e = k.order in grind arith
+
+has_begun : (c : Command) (u : List Command) (p : Phase) (q : Bool) (v : View) → up p ≡ true → (rsts u ≡ 0) × (rrps u ≡ 0) → is_rst c ≡ false → is_rrp c ≡ false → Phased (record p { waiting = c ∷ u }) q v → v.host.began ≡ true
+has_begun c u p q v up_is none r s k = let e = k.began in grind arith
+
+waits_not : (c : Command) (u : List Command) (p : Phase) (q : Bool) (v : View) → up p ≡ true → Phased (record p { waiting = c ∷ u }) q v → awaits_reply v.host.wait ≡ false
+waits_not c u p q v up_is k = let e = k.waits in grind arith
+
+owes_not : (c : Command) (u : List Command) (p : Phase) (q : Bool) (v : View) → up p ≡ true → (rsts u ≡ 0) × (rrps u ≡ 0) → is_rst c ≡ false → is_rrp c ≡ false → Phased (record p { waiting = c ∷ u }) q v → v.owes ≡ false
+owes_not c u p q v up_is none r s k = let e = k.owes in grind arith
+
+pub on_time : (me : ℕ) (busy : Option ℕ) (zero : Bool) (what : Thing) (c : Command) (u : List Command) (p : Phase) (q : Bool) (v : View) → is_other c ≡ true → is_rst c ≡ false → is_rrp c ≡ false → is_text what ≡ false → Phased (record p { waiting = c ∷ u }) q v
+    → OnTime me busy zero what u p v
+on_time me busy zero what c u p q v o r s t k = record { up_is = up_is; even = even; early = early; same = same; none = none_owed }
+  where
+    up_is : up p ≡ true
+    up_is = up_first c u p q v o k
+
+    none : (rsts u ≡ 0) × (rrps u ≡ 0)
+    none = no_more c u p q v o k
+
+    even : awaits_reply v.host.wait ≡ false
+    even = waits_not c u p q v up_is k
+
+    early : is_early (record { by = me; sent = true; busy = busy; zero = zero }) what v ≡ false
+    early = go v.rests (is_text what) v.host.began (awaits_reply v.host.wait) v.owes t (has_begun c u p q v up_is none r s k) even (owes_not c u p q v up_is none r s k)
+      where
+        go : (rests text began waits owes : Bool) → text ≡ false → began ≡ true → waits ≡ false → owes ≡ false → (if true && rests && text then waits else not began || waits || (true && owes)) ≡ false
+        go true false true false false a b c d = refl
+        go false false true false false a b c d = refl
+        go x true y z w a b c d = absurd (cc a)
+        go x false false z w a b c d = absurd (cc b)
+        go x false true true w a b c d = absurd (cc c)
+        go x false true false true a b c d = absurd (cc d)
+
+    same : after_thing (record { by = me; sent = true; busy = busy; zero = zero }) what v ≡ v
+    same = go v.told v.rests v.spoilt (is_early (record { by = me; sent = true; busy = busy; zero = zero }) what v) early
+      where
+        go : (t r s b : Bool) → b ≡ false → record v { rests = r || ((t && b) && not (awaits_reply v.host.wait)); spoilt = s || ((t && b) && true) } ≡ record v { rests = r; spoilt = s }
+        go t r s true e = absurd (cc e)
+        go true true true false e = refl
+        go true true false false e = refl
+        go true false true false e = refl
+        go true false false false e = refl
+        go false true true false e = refl
+        go false true false false e = refl
+        go false false true false e = refl
+        go false false false false e = refl
+
+    none_owed : 0 < rrps u + bit p.owe → ⊥
+    none_owed z = let e = none.1 in let f = owe p up_is in omega (arith, z, e, f)
+      where
+        owe : (p : Phase) → up p ≡ true → bit p.owe ≡ 0
+        owe p e = grind arith

@@ -1,0 +1,233 @@
+-- What was said meets what the host keeps, through all that the host does by itself, and what names a link and comes.
+use Rattle.std.proofs.Common.{◌≡◌, ℕ, ◌==◌, Bool, true, false, not, ◌&&◌, ◌||◌, if◌then◌else◌, List, [], ◌∷◌, ◌++◌, Option, None, Some, is_some, eq-eqb, Ok, Err, refl, sym, ap, ◌∙◌, arith}
+use Rattle.std.specs.Prelude.{nat_le}
+use Rattle.std.specs.FinMap.{get}
+use Rattle.ncp_terms.specs.declared.command.Command.{Command}
+use Rattle.ncp_terms.specs.declared.command.Command.TheVariants.{Nop, Rts, Str, Cls, Gvb, Ret, Inr, Ins, Eco, Erp, Rst, Rrp}
+use Rattle.ncp_model.specs.declared.pair.Pair.{Pair}
+use Rattle.ncp_model.specs.declared.call_fault.CallFault.{CallFault}
+use Rattle.ncp_model.specs.declared.limits.TheConstants.{MAX_OWN}
+use Rattle.ncp_model.specs.Pairs.{sends, receives, is_proper}
+use Rattle.ncp_model.specs.End.{End, or_new, is_going}
+use Rattle.ncp_model.specs.Act.{Stays, Becomes, answer, made_by_call, is_room}
+use Rattle.ncp_model.specs.Calls.{asked_to_send, asked_to_receive, ask_send, ask_receive}
+use Rattle.ncp_model.specs.Ends.{Ends, any, count, has_asked, uses_link, free_link}
+use Rattle.ncp_model.specs.Texts.{Rfnm, Incomplete, Dead}
+use Rattle.ncp_model.specs.Happenings.{Happening, happens}
+use Rattle.ncp_model.specs.Peers.{PairCall, Ask_to_send, Ask_to_receive, Close, Give, Take, Allocate, Call_back, Interrupt, called}
+use Rattle.ncp_model.proofs.ResetLists.{bit}
+use Rattle.ncp_proof_machine.proofs.EndsGood.{Good, called-fresh}
+use Rattle.ncp_umpire.specs.Lives.{SeenBooks}
+use Rattle.ncp_umpire.proofs.Shapes.{Say, Ask, Leave}
+use Rattle.ncp_umpire.proofs.LinkOrder.{Sockets, Lacks, number_of}
+use Rattle.ncp_proof_umpire_talk.proofs.KeptEnds.{kept}
+use Rattle.ncp_proof_umpire_talk.proofs.OwnMoves.{all_says, sockets_of, is_of_host, moves}
+use Rattle.ncp_proof_umpire_talk.proofs.Changed.{pair_at, kept_of, OneEnd, link_lacks}
+use Rattle.ncp_proof_umpire_talk.proofs.SeenBooks.{receives_at}
+use Rattle.ncp_proof_umpire_talk.proofs.Comes.{host_meets}
+use Rattle.ncp_proof_umpire_talk.proofs.Echoing.{is_eco, ecos, others_wait}
+use Rattle.ncp_proof_umpire_talk.proofs.Unjudged.{none_judged}
+use Rattle.ncp_proof_umpire_talk.proofs.HeldLinks.{host_held}
+use Rattle.ncp_proof_umpire_talk.proofs.Proper.{ProperEnds}
+use Rattle.ncp_proof_umpire_talk.proofs.OwnCame.{is_text_coming, own_came}
+use Rattle.ncp_proof_umpire_talk.proofs.Spoken.{Tells}
+
+-- ---- what is made is no ECO
+
+abbrev pub has_eco : List Command → Bool
+has_eco [] = false
+has_eco (c ∷ cs) = is_eco c || has_eco cs
+
+none_ecos : (cs : List Command) → has_eco cs ≡ false → ecos cs ≡ 0
+none_ecos [] e = refl
+none_ecos (c ∷ cs) e = go (is_eco c) refl e (none_ecos cs)
+  where
+    go : (b : Bool) → is_eco c ≡ b → (b || has_eco cs) ≡ false → (has_eco cs ≡ false → ecos cs ≡ 0) → ecos (c ∷ cs) ≡ 0
+    go true k e rest = absurd (cc e)
+    go false k e rest = let z = rest e in let y = ap bit k in omega (arith, z, y)
+
+none_echoed : (pair : Pair) (what : Happening) (before : Option End) → is_of_host what ≡ true → has_eco (happens pair what before).made ≡ false
+none_echoed pair (Happening.Asks_to_send of_size with_room own full) before h = grind arith
+none_echoed pair (Happening.Asks_to_receive with_room on own full) before h = grind arith
+none_echoed pair (Happening.Closes full) None h = refl
+none_echoed pair (Happening.Closes full) (Some e) h = grind arith
+none_echoed pair (Happening.Gives text) before h = refl
+none_echoed pair (Happening.Takes bytes) None h = refl
+none_echoed pair (Happening.Takes bytes) (Some e) h = grind arith
+none_echoed pair (Happening.Allocates m b full) None h = refl
+none_echoed pair (Happening.Allocates m b full) (Some e) h = grind arith
+none_echoed pair (Happening.Calls_back m b full) None h = refl
+none_echoed pair (Happening.Calls_back m b full) (Some e) h = grind arith
+none_echoed pair (Happening.Interrupts full) None h = refl
+none_echoed pair (Happening.Interrupts full) (Some e) h = grind arith
+none_echoed pair (Happening.All_comes on m b) None h = refl
+none_echoed pair (Happening.All_comes on m b) (Some e) h = grind arith
+none_echoed pair (Happening.Gvb_comes on m b) None h = refl
+none_echoed pair (Happening.Gvb_comes on m b) (Some e) h = grind arith
+none_echoed pair (Happening.Ret_comes on m b) None h = refl
+none_echoed pair (Happening.Ret_comes on m b) (Some e) h = grind arith
+none_echoed pair (Happening.Inr_comes on) None h = refl
+none_echoed pair (Happening.Inr_comes on) (Some e) h = grind arith
+none_echoed pair (Happening.Ins_comes on) None h = refl
+none_echoed pair (Happening.Ins_comes on) (Some e) h = grind arith
+none_echoed pair (Happening.Text_comes head of_size text) None h = refl
+none_echoed pair (Happening.Text_comes head of_size text) (Some e) h = grind arith
+none_echoed pair Happening.Text_goes_out before h = refl
+none_echoed pair (Happening.Is_answered Rfnm) None h = refl
+none_echoed pair (Happening.Is_answered Rfnm) (Some e) h = grind arith
+none_echoed pair (Happening.Is_answered Incomplete) before h = refl
+none_echoed pair (Happening.Is_answered Dead) before h = refl
+none_echoed pair what before h = absurd (cc h)
+
+-- ---- the link of a request is free
+
+-- a receiver that asks has chosen a link that no receiver has
+abbrev pub FreeLink : Happening → Ends → Pair → Type 0
+FreeLink what m pair = (k : ℕ) → all_says (happens pair what (get m pair)).made ≡ (sockets_of pair, Ask k) ∷ [] → receives_at (sockets_of pair) ≡ true → (u : Sockets) → receives_at u ≡ true → Lacks k (kept_of m u)
+
+-- a request
+abbrev pub has_request : List Command → Bool
+has_request [] = false
+has_request (Rts receive send link ∷ cs) = true
+has_request (Str send receive size ∷ cs) = true
+has_request (c ∷ cs) = has_request cs
+
+unasked : (cs : List Command) (u : Sockets) (k : ℕ) (more : List (Sockets × Say)) → has_request cs ≡ false → all_says cs ≡ (u, Ask k) ∷ more → ⊥
+unasked [] u k more h e = cc e
+unasked (Rts x y z ∷ cs) u k more h e = cc h
+unasked (Str x y z ∷ cs) u k more h e = cc h
+unasked (Cls my your ∷ cs) u k more h e =
+    let head : ◌≡◌ {A = Sockets × Say} ((my, your), Leave) (u, Ask k) = cc e in
+    let nay : Leave ≡ Ask k = ap (λ (s : Sockets × Say). s.1) head in cc nay
+unasked (Nop ∷ cs) u k more h e = unasked cs u k more h e
+unasked (Command.All x y z ∷ cs) u k more h e = unasked cs u k more h e
+unasked (Gvb x y z ∷ cs) u k more h e = unasked cs u k more h e
+unasked (Ret x y z ∷ cs) u k more h e = unasked cs u k more h e
+unasked (Inr x ∷ cs) u k more h e = unasked cs u k more h e
+unasked (Ins x ∷ cs) u k more h e = unasked cs u k more h e
+unasked (Eco x ∷ cs) u k more h e = unasked cs u k more h e
+unasked (Erp x ∷ cs) u k more h e = unasked cs u k more h e
+unasked (Command.Err x y ∷ cs) u k more h e = unasked cs u k more h e
+unasked (Rst ∷ cs) u k more h e = unasked cs u k more h e
+unasked (Rrp ∷ cs) u k more h e = unasked cs u k more h e
+
+-- a call by which a host asks
+abbrev pub is_asking : Happening → Bool
+is_asking (Happening.Asks_to_send of_size with_room own full) = true
+is_asking (Happening.Asks_to_receive with_room on own full) = true
+is_asking what = false
+
+none_asked : (pair : Pair) (what : Happening) (before : Option End) → is_of_host what ≡ true → is_asking what ≡ false → has_request (happens pair what before).made ≡ false
+none_asked pair (Happening.Asks_to_send of_size with_room own full) before h a = absurd (cc a)
+none_asked pair (Happening.Asks_to_receive with_room on own full) before h a = absurd (cc a)
+none_asked pair (Happening.Closes full) None h a = refl
+none_asked pair (Happening.Closes full) (Some e) h a = grind arith
+none_asked pair (Happening.Gives text) before h a = refl
+none_asked pair (Happening.Takes bytes) None h a = refl
+none_asked pair (Happening.Takes bytes) (Some e) h a = grind arith
+none_asked pair (Happening.Allocates m b full) None h a = refl
+none_asked pair (Happening.Allocates m b full) (Some e) h a = grind arith
+none_asked pair (Happening.Calls_back m b full) None h a = refl
+none_asked pair (Happening.Calls_back m b full) (Some e) h a = grind arith
+none_asked pair (Happening.Interrupts full) None h a = refl
+none_asked pair (Happening.Interrupts full) (Some e) h a = grind arith
+none_asked pair (Happening.All_comes on m b) None h a = refl
+none_asked pair (Happening.All_comes on m b) (Some e) h a = grind arith
+none_asked pair (Happening.Gvb_comes on m b) None h a = refl
+none_asked pair (Happening.Gvb_comes on m b) (Some e) h a = grind arith
+none_asked pair (Happening.Ret_comes on m b) None h a = refl
+none_asked pair (Happening.Ret_comes on m b) (Some e) h a = grind arith
+none_asked pair (Happening.Inr_comes on) None h a = refl
+none_asked pair (Happening.Inr_comes on) (Some e) h a = grind arith
+none_asked pair (Happening.Ins_comes on) None h a = refl
+none_asked pair (Happening.Ins_comes on) (Some e) h a = grind arith
+none_asked pair (Happening.Text_comes head of_size text) None h a = refl
+none_asked pair (Happening.Text_comes head of_size text) (Some e) h a = grind arith
+none_asked pair Happening.Text_goes_out before h a = refl
+none_asked pair (Happening.Is_answered Rfnm) None h a = refl
+none_asked pair (Happening.Is_answered Rfnm) (Some e) h a = grind arith
+none_asked pair (Happening.Is_answered Incomplete) before h a = refl
+none_asked pair (Happening.Is_answered Dead) before h a = refl
+none_asked pair what before h a = absurd (cc h)
+
+pub unasked_free : (what : Happening) (m : Ends) (pair : Pair) → is_of_host what ≡ true → is_asking what ≡ false → FreeLink what m pair
+unasked_free what m pair h a k e r u s = absurd (unasked (happens pair what (get m pair)).made (sockets_of pair) k [] (none_asked pair what (get m pair) h a) e)
+
+-- no end, no link
+free_lacks : (m : Ends) (k : ℕ) (u : Sockets) → ProperEnds m → any (uses_link k) m ≡ false → receives_at u ≡ true → Lacks k (kept_of m u)
+free_lacks m k u p a r = go (get m (pair_at u)) refl
+  where
+    receiver : is_proper (pair_at u) ≡ true → receives_at u ≡ true → receives (pair_at u) ≡ true
+    receiver x y = grind arith
+
+    go : (o : Option End) → get m (pair_at u) ≡ o → Lacks k (kept_of m u)
+    go None e x = let nay : None ≡ Some k = ap (λ (o : Option End). number_of (kept (sends (pair_at u)) o)) (sym e) ∙ x in cc nay
+    go (Some z) e x = link_lacks m k u a (receiver (p (pair_at u) (ap is_some e)) r) x
+
+sends_free : (pair : Pair) → sends pair ≡ true → receives_at (sockets_of pair) ≡ true → ⊥
+sends_free pair s r = grind arith
+
+made_to_send : (pair : Pair) (of_size room own : ℕ) (full : Bool) (before : Option End) (k : ℕ) → all_says (made_by_call (answer (ask_send pair of_size room own full before))) ≡ (sockets_of pair, Ask k) ∷ [] → sends pair ≡ true
+made_to_send pair of_size room own full before k e = go (sends pair) refl e
+  where
+    go : (s : Bool) → sends pair ≡ s
+        → all_says (made_by_call (answer (if not s then Stays (Err CallFault.BadSex)
+        else if of_size == 0 then Stays (Err CallFault.BadSize)
+        else if not (is_room room) then Stays (Err CallFault.BadRoom)
+        else if (or_new before).asked && not (is_going (or_new before)) then Stays (Err CallFault.AlreadyAsked)
+        else if is_going (or_new before) then Stays (Err CallFault.Closing)
+        else if nat_le MAX_OWN own then Stays (Err CallFault.TableFull)
+        else if full then Stays (Err CallFault.QueueFull)
+        else Becomes (asked_to_send of_size room (or_new before)) (Ok (Str pair.local pair.remote of_size))))) ≡ (sockets_of pair, Ask k) ∷ []
+        → sends pair ≡ true
+    go true s e = s
+    go false s e = absurd (cc e)
+
+made_to_receive : (pair : Pair) (room on own : ℕ) (full : Bool) (before : Option End) (k : ℕ) → all_says (made_by_call (answer (ask_receive pair room on own full before))) ≡ (sockets_of pair, Ask k) ∷ [] → (on ≡ k) × (nat_le MAX_OWN own ≡ false)
+made_to_receive pair room on own full before k e = go (receives pair) (is_room room) ((or_new before).asked && not (is_going (or_new before))) (is_going (or_new before)) (nat_le MAX_OWN own) full refl e
+  where
+    go : (s r a g o f : Bool) → nat_le MAX_OWN own ≡ o
+        → all_says (made_by_call (answer (if not s then Stays (Err CallFault.BadSex)
+        else if not r then Stays (Err CallFault.BadRoom)
+        else if a then Stays (Err CallFault.AlreadyAsked)
+        else if g then Stays (Err CallFault.Closing)
+        else if o then Stays (Err CallFault.TableFull)
+        else if f then Stays (Err CallFault.QueueFull)
+        else Becomes (asked_to_receive on room (or_new before)) (Ok (Rts pair.local pair.remote on))))) ≡ (sockets_of pair, Ask k) ∷ []
+        → (on ≡ k) × (nat_le MAX_OWN own ≡ false)
+    go false r a g o f n e = absurd (cc e)
+    go true false a g o f n e = absurd (cc e)
+    go true true true g o f n e = absurd (cc e)
+    go true true false true o f n e = absurd (cc e)
+    go true true false false true f n e = absurd (cc e)
+    go true true false false false true n e = absurd (cc e)
+    go true true false false false false n e =
+        let head : ◌≡◌ {A = Sockets × Say} ((pair.local, pair.remote), Ask on) (sockets_of pair, Ask k) = cc e in
+        let same : Ask on ≡ Ask k = ap (λ (s : Sockets × Say). s.1) head in (cc same, n)
+
+pub call_free : (call : PairCall) (full : Bool) (m : Ends) (pair : Pair) → ProperEnds m → FreeLink (called call full m) m pair
+call_free (Ask_to_send of_size room) full m pair p k e r u s = absurd (sends_free pair (made_to_send pair of_size room (count has_asked m) full (get m pair) k e) r)
+call_free (Ask_to_receive room) full m pair p k e r u s =
+    let is = made_to_receive pair room (free_link m) (count has_asked m) full (get m pair) k e in
+    free_lacks m k u p ((called-fresh (Ask_to_receive room) full m).asked k (ap (λ (b : Bool). b && not (nat_le MAX_OWN (count has_asked m))) (eq-eqb (free_link m) k is.0) ∙ ap not is.1)) s
+call_free Close full m pair p k e r u s = unasked_free (Happening.Closes full) m pair refl refl k e r u s
+call_free (Give text) full m pair p k e r u s = unasked_free (Happening.Gives text) m pair refl refl k e r u s
+call_free (Take bytes) full m pair p k e r u s = unasked_free (Happening.Takes bytes) m pair refl refl k e r u s
+call_free (Allocate x y) full m pair p k e r u s = unasked_free (Happening.Allocates x y full) m pair refl refl k e r u s
+call_free (Call_back x y) full m pair p k e r u s = unasked_free (Happening.Calls_back x y full) m pair refl refl k e r u s
+call_free Interrupt full m pair p k e r u s = unasked_free (Happening.Interrupts full) m pair refl refl k e r u s
+
+-- ---- what the host does by itself
+
+pub own_tells : (me n : ℕ) (pair : Pair) (what : Happening) (m now : Ends) (awaited : Bool) (w : List Command) (b : SeenBooks) → Good m → is_of_host what ≡ true → is_text_coming what ≡ false
+    → OneEnd m now pair (happens pair what (get m pair)).after → FreeLink what m pair → Tells me n m awaited w b → Tells me n now awaited (w ++ (happens pair what (get m pair)).made) b
+own_tells me n pair what m now awaited w b good h x one free t =
+    let cs = (happens pair what (get m pair)).made in
+    let after = (happens pair what (get m pair)).after in
+    let moved = moves pair what (get m pair) h (good.sound pair) in
+    record {
+      meets = host_meets me n m w b now pair after cs one moved (none_judged pair what (get m pair) h) free t.meets;
+      held = host_held me n m now b pair after cs one moved t.held;
+      echoing = others_wait me n awaited w cs b (none_ecos cs (none_echoed pair what (get m pair) h)) t.echoing;
+      came = own_came me n pair what m now w b good.sound h x one t.came;
+    }

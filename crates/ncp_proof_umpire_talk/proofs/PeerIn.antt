@@ -1,0 +1,142 @@
+-- A message of a peer comes: what is known of what is said is known after all that it holds.
+use Rattle.std.proofs.Common.{◌≡◌, ℕ, ◌==◌, Bool, true, false, if◌then◌else◌, List, [], ◌∷◌, ◌++◌, take, Option, None, Some, Ok, Err, refl, sym, ap, ◌∙◌, subst}
+use Rattle.std.specs.Prelude.{nat_lt}
+use Rattle.ncp_numbers.specs.Bytes.{bytes_of}
+use Rattle.ncp_leader.specs.declared.regular.TheConstants.{FRONT_BITS}
+use Rattle.ncp_leader.specs.Message.{Message}
+use Rattle.ncp_terms.specs.declared.command.Command.{Command}
+use Rattle.ncp_terms.specs.declared.fault.CommandFault.{CommandFault}
+use Rattle.ncp_terms.specs.Spelling.{padded}
+use Rattle.ncp_control.specs.Texts.{items_of, fault_of}
+use Rattle.ncp_control.specs.Reading.{commands_in, fault_in, rest_in}
+use Rattle.ncp_slot.specs.Slots.{is_quiet}
+use Rattle.ncp_model.specs.Act.{answer, made_by_hearing}
+use Rattle.ncp_model.specs.Ends.{Ends, leads_to, hear, map_after_at, no_ends}
+use Rattle.ncp_model.specs.Echo.{Echoes}
+use Rattle.ncp_model.specs.Phase.{up, is_other, phase_hears}
+use Rattle.ncp_model.specs.Peers.{Peer, echo_replies, echoes_after, reaction, hears, hears_other}
+use Rattle.ncp_proof_machine.proofs.EndsGood.{Good, none-good}
+use Rattle.ncp_host.specs.PeerState.{PeerState}
+use Rattle.ncp_host.specs.Hearing.{state_hears, state_hears_text, message_after}
+use Rattle.ncp_umpire.specs.declared.phase.Turn.{Turn}
+use Rattle.ncp_umpire.specs.declared.talk.Talk.{Talk}
+use Rattle.ncp_umpire.specs.declared.view.View.{View}
+use Rattle.ncp_umpire.specs.Lives.{SeenBooks}
+use Rattle.ncp_umpire.specs.Messages.{is_unused, judged_reading}
+use Rattle.ncp_umpire.specs.Phases.{after_item, after_items}
+use Rattle.ncp_umpire.specs.Replies.{is_about_link}
+use Rattle.ncp_umpire.specs.Speaking.{books_after_command}
+use Rattle.ncp_umpire.specs.Talked.{after_talk, after_talked}
+use Rattle.ncp_umpire.specs.Judged.{after_read, books_after_read}
+use Rattle.ncp_proof_umpire.proofs.EndsStay.{command_good}
+use Rattle.ncp_proof_umpire.proofs.Phased.{Sees}
+use Rattle.ncp_proof_umpire.proofs.PhaseSteps.{Stands, command_stands}
+use Rattle.ncp_proof_umpire_talk.proofs.TidyBooks.{Tidy}
+use Rattle.ncp_proof_umpire_talk.proofs.Proper.{ProperEnds}
+use Rattle.ncp_proof_umpire_talk.proofs.Borne.{Borne, QuietTells, hears_borne}
+use Rattle.ncp_proof_umpire_talk.proofs.ComesTold.{awaited_after, command_tells, fault_tells, text_tells}
+use Rattle.ncp_proof_umpire_talk.proofs.Spoken.{Tells, Spoken}
+use Rattle.ncp_proof_umpire_talk.proofs.SpokenIn.{CommandTells, command_spoken, fault_spoken, text_spoken}
+use Rattle.ncp_proof_umpire_talk.proofs.SpokenOut.{Known}
+use Rattle.ncp_proof_umpire_talk.proofs.BooksRead.{talk_reads, read_reads}
+
+-- ---- the fault of a control text is of an opcode, or of bytes that lack
+
+abbrev pub PlainFault : Option CommandFault → Type 0
+PlainFault o = (fault : CommandFault) → o ≡ Some fault → is_about_link fault.code fault.bytes ≡ false
+
+pub plain_fault : (bytes : List ℕ) → PlainFault (fault_in bytes)
+plain_fault bytes fault e = go (rest_in bytes) e
+  where
+    of_code : (b : Bool) (shown : List ℕ) → is_about_link (if b then 1 else 2) shown ≡ false
+    of_code true shown = refl
+    of_code false shown = refl
+
+    go : (rest : List ℕ) → fault_of rest ≡ Some fault → is_about_link fault.code fault.bytes ≡ false
+    go [] e = absurd (cc e)
+    go (opcode ∷ rest) e =
+        let is : record { code = if nat_lt 13 opcode then 1 else 2; bytes = padded 10 (opcode ∷ rest) } ≡ fault = cc e in
+        ap (λ (x : CommandFault). is_about_link x.code x.bytes) (sym is) ∙ of_code (nat_lt 13 opcode) (padded 10 (opcode ∷ rest))
+
+-- ---- the echo, and the ends
+
+awaits_after : (c : Command) (s : Echoes) → (echoes_after c s).awaited ≡ awaited_after c s.awaited
+awaits_after Command.Nop s = refl
+awaits_after (Command.Rts x y z) s = refl
+awaits_after (Command.Str x y z) s = refl
+awaits_after (Command.Cls x y) s = refl
+awaits_after (Command.All x y z) s = refl
+awaits_after (Command.Gvb x y z) s = refl
+awaits_after (Command.Ret x y z) s = refl
+awaits_after (Command.Inr x) s = refl
+awaits_after (Command.Ins x) s = refl
+awaits_after (Command.Eco x) s = refl
+awaits_after (Command.Erp x) s = refl
+awaits_after (Command.Err x y) s = refl
+awaits_after Command.Rst s = refl
+awaits_after Command.Rrp s = refl
+
+kept_good : (b : Bool) (m : Ends) → Good m → Good (if b then m else no_ends)
+kept_good true m g = g
+kept_good false m g = none-good
+
+good_where : (b : Bool) (p q : Peer) → Good p.ends → Good q.ends → Good (if b then p else q).ends
+good_where true p q k l = k
+good_where false p q k l = l
+
+hears_good : (q : Bool) (c : Command) (p : Peer) → Good p.ends → Good (hears q c p).ends
+hears_good q Command.Rst p k = none-good
+hears_good q Command.Rrp p k = k
+hears_good q c p k = good_where (up p.phase) (hears_other q c p) p (kept_good (up (phase_hears c (reaction q c p) p.phase)) (map_after_at p.ends (leads_to c p.ends) (hear c p.ends)) (command_good c p.ends k)) k
+
+-- ---- all that a control text holds
+
+module _ (me n : ℕ) (busy : Option ℕ) (zero : Bool) where
+  abbrev from_peer : Turn
+  from_peer = record { by = n; sent = false; busy = busy; zero = zero }
+
+  abbrev their_talk : Talk
+  their_talk = record { at = me; peer = n; sent = false }
+
+  heard_tells : (c : Command) (p : Peer) (b : SeenBooks) → Good p.ends → ProperEnds p.ends → Tidy b → is_other c ≡ true → CommandTells me n busy zero c p b
+  heard_tells c p b good sexes tidy o u full room t =
+      subst (λ (x : Bool). Tells me n (map_after_at p.ends (leads_to c p.ends) (hear c p.ends)) x (p.phase.waiting ++ (made_by_hearing (answer (hear c p.ends)) ++ echo_replies c)) (books_after_command their_talk c b)) (sym (awaits_after c p.echoes)) (command_tells me n c p.ends p.echoes.awaited p.phase.waiting b o good sexes full room tidy t)
+
+  pub all_heard : (cs : List Command) (fault : Option CommandFault) (s : PeerState) (v : View) (b : SeenBooks) → PlainFault fault → Sees (is_quiet s.slots) busy → QuietTells (is_quiet s.slots) s.slots → Stands s.peer (is_quiet s.slots) v → Good s.peer.ends → Borne s.peer s.slots
+      → Known me n s.peer v b → (after_talked from_peer their_talk (items_of cs fault) v b).full ≡ false
+      → Spoken me n (state_hears_text cs fault s).peer (after_items from_peer (items_of cs fault) v) (after_talked from_peer their_talk (items_of cs fault) v b)
+  all_heard [] None s v b plain e q k good borne known f = (known f).0
+  all_heard [] (Some fault) s v b plain e q k good borne known f =
+      let room = (talk_reads me n from_peer (Err fault) v b).room f in
+      fault_spoken me n busy zero fault s.peer (is_quiet s.slots) v b k (known room).0 (λ r t. fault_tells me n fault s.peer.ends s.peer.echoes.awaited s.peer.phase.waiting b (plain fault refl) r t) f
+  all_heard (c ∷ cs) fault s v b plain e q k good borne known f =
+      let now : SeenBooks = after_talk from_peer their_talk (Ok c) v b in
+      let reads = talk_reads me n from_peer (Ok c) v b in
+      all_heard cs fault (state_hears c s) (after_item from_peer (Ok c) v) now plain e q (command_stands n busy zero c s.peer (is_quiet s.slots) v e k) (hears_good (is_quiet s.slots) c s.peer good)
+      (hears_borne (is_quiet s.slots) c s.peer s.slots q good.sound borne)
+      (λ room.
+      let before = known (reads.room room) in
+      (command_spoken me n busy zero c s.peer (is_quiet s.slots) v b k before.0 (heard_tells c s.peer b good borne.sexes before.1) room, reads.tidy room before.1)) f
+
+  -- ---- a message
+
+  pub message_heard : (bits : List Bool) (m : Message) (s : PeerState) (v : View) (b : SeenBooks) → Sees (is_quiet s.slots) busy → QuietTells (is_quiet s.slots) s.slots → Stands s.peer (is_quiet s.slots) v → Good s.peer.ends → Borne s.peer s.slots
+      → Known me n s.peer v b → (books_after_read (judged_reading m) from_peer their_talk m.leader.link m.text v b).full ≡ false
+      → Spoken me n (message_after m.leader.link bits (Ok m) s).peer (after_read (judged_reading m) from_peer m.text v) (books_after_read (judged_reading m) from_peer their_talk m.leader.link m.text v b)
+  message_heard bits m s v b e q k good borne known f = go (is_unused m.leader.link) (m.leader.link == 0) (m.size == 8) refl refl refl
+    where
+      room : b.full ≡ false
+      room = (read_reads me n from_peer (judged_reading m) m.leader.link m.text v b).room f
+
+      go : (x y z : Bool) → is_unused m.leader.link ≡ x → (m.leader.link == 0) ≡ y → (m.size == 8) ≡ z
+          → Spoken me n (message_after m.leader.link bits (Ok m) s).peer (after_read (judged_reading m) from_peer m.text v) (books_after_read (judged_reading m) from_peer their_talk m.leader.link m.text v b)
+      go true y z i j l = rw i ((known room).0)
+      go false false z i j l =
+          let g = rw (i, j) at f in
+          rw (i, j)
+          (text_spoken me n busy zero m.leader.link (take FRONT_BITS bits) m.size m.text s.peer (is_quiet s.slots) v b k (known room).0
+          (λ r t. text_tells me n m.leader.link (take FRONT_BITS bits) m.size m.text s.peer.ends s.peer.echoes.awaited s.peer.phase.waiting b good borne.sexes r (known room).1 t) g)
+      go false true true i j l =
+          let g = rw (i, j, l) at f in
+          rw (i, j, l) (all_heard (commands_in (bytes_of m.text)) (fault_in (bytes_of m.text)) s v b (plain_fault (bytes_of m.text)) e q k good borne known g)
+      go false true false i j l = rw (i, j, l) ((known room).0)

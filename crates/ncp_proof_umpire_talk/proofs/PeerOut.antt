@@ -1,0 +1,200 @@
+-- A message goes out to a peer: by no rule of what is said is the host found to be wrong, and what is known is known after it.
+use Rattle.std.proofs.Common.{◌≡◌, ℕ, ◌<◌, ◌==◌, Bool, true, false, not, ◌&&◌, ◌||◌, if◌then◌else◌, List, [], ◌++◌, length, drop, All, Option, None, Result, Ok, Err, refl, sym, ap, ◌∙◌, subst, arith}
+use Rattle.ncp_numbers.specs.Bytes.{bytes_of, bits_of_bytes}
+use Rattle.ncp_numbers.proofs.Packing.{bytes_of-bits_of_bytes}
+use Rattle.ncp_leader.specs.declared.fault.MessageFault.{MessageFault}
+use Rattle.ncp_leader.specs.Message.{Message, message_with}
+use Rattle.ncp_terms.specs.declared.command.Command.{Command}
+use Rattle.ncp_terms.specs.declared.fault.CommandFault.{CommandFault}
+use Rattle.ncp_terms.specs.Spelling.{IsCommand, spellings}
+use Rattle.ncp_control.specs.Texts.{items_of}
+use Rattle.ncp_control.specs.Reading.{commands_in, fault_in}
+use Rattle.ncp_control.proofs.Reading.{spellings_small, spelled_alone}
+use Rattle.ncp_slot.specs.Slots.{LinkSlots}
+use Rattle.ncp_model.specs.declared.limits.TheConstants.{MAX_CONTROL}
+use Rattle.ncp_model.specs.Phase.{Phase, up}
+use Rattle.ncp_model.specs.Sending.{next_commands}
+use Rattle.ncp_model.specs.Peers.{Peer, cuts, peer_sends}
+use Rattle.ncp_proof_machine.proofs.EndsGood.{Good}
+use Rattle.ncp_host.specs.Output.{leader_to, links}
+use Rattle.ncp_host.specs.Host.{is_one_of}
+use Rattle.ncp_proof_runs.proofs.MadeOfRuns.{next-first}
+use Rattle.ncp_umpire.specs.declared.finding.Finding.{Finding}
+use Rattle.ncp_umpire.specs.declared.finding.Thing.{Thing}
+use Rattle.ncp_umpire.specs.declared.kept.Kept.{Kept}
+use Rattle.ncp_umpire.specs.declared.phase.Turn.{Turn}
+use Rattle.ncp_umpire.specs.declared.talk.Talk.{Talk}
+use Rattle.ncp_umpire.specs.declared.umpire.Umpire.{Umpire}
+use Rattle.ncp_umpire.specs.declared.view.View.{View}
+use Rattle.ncp_umpire.specs.declared.views.TheConstants.{VIEWS}
+use Rattle.ncp_umpire.specs.Lives.{SeenBooks}
+use Rattle.ncp_umpire.specs.Messages.{is_unused, judged_reading}
+use Rattle.ncp_umpire.specs.Phases.{after_thing, after_items, after_room}
+use Rattle.ncp_umpire.specs.Slots.{busy_link}
+use Rattle.ncp_umpire.specs.Tables.{view_in}
+use Rattle.ncp_umpire.specs.Talked.{after_talked, left_out_findings, after_left_out}
+use Rattle.ncp_umpire.specs.Judged.{view_of, knows_zero, turn_at, is_roomy, items_said, after_read, books_after_read, after_said}
+use Rattle.ncp_umpire.proofs.Parted.{said_findings}
+use Rattle.ncp_proof_umpire.proofs.Goes.{used}
+use Rattle.ncp_proof_umpire.proofs.Laid.{fitting_all}
+use Rattle.ncp_proof_umpire.proofs.Phased.{Phased, Sees}
+use Rattle.ncp_proof_umpire.proofs.PhaseGoes.{AllWent, all_went, roomy_left}
+use Rattle.ncp_proof_umpire.proofs.PhaseSteps.{Stands}
+use Rattle.ncp_proof_umpire.proofs.PhaseSeen.{view_same}
+use Rattle.ncp_proof_umpire.proofs.Talking.{control_talk, message_talk}
+use Rattle.ncp_proof_umpire_talk.proofs.TidyBooks.{Tidy}
+use Rattle.ncp_proof_umpire_talk.proofs.Proper.{AllProper}
+use Rattle.ncp_proof_umpire_talk.proofs.Carries.{Carries, ShowsBusy, is_unreset}
+use Rattle.ncp_proof_umpire_talk.proofs.GoesTold.{says_right, says_tells, none_left_reply, none_left_cls, all_said_tells}
+use Rattle.ncp_proof_umpire_talk.proofs.Spoken.{Spoken}
+use Rattle.ncp_proof_umpire_talk.proofs.SpokenOut.{Known, waited_by, GoesOut, AllTold, all_told, NoneLeft, none_left}
+use Rattle.ncp_proof_umpire_talk.proofs.SpokenHost.{cut_spoken}
+
+-- ---- what goes out
+
+up_unreset : (p : Phase) → up p ≡ true → is_unreset p ≡ true
+up_unreset p u = go (p.down || p.want || p.owe) p.wait u
+  where
+    go : (x w : Bool) → not (x || w) ≡ true → not x ≡ true
+    go true w e = absurd (cc e)
+    go false w e = refl
+
+goes_out : (me n : ℕ) (busy : Option ℕ) (zero : Bool) (kept : List Kept) (p : Peer) (slots : LinkSlots) → Good p.ends → Carries p slots → ShowsBusy me n kept slots → up p.phase ≡ true → GoesOut me n busy zero kept p.ends p.echoes.awaited
+goes_out me n busy zero kept p slots good carries shows u = record {
+  right = λ c w b o proper tidy t. says_right me n c p.ends p.echoes.awaited slots w kept b good proper (carries.busy (up_unreset p.phase u)) shows tidy t;
+  tells = λ c w b o proper room tidy t. says_tells me n c p.ends p.echoes.awaited w b good proper room tidy t;
+  reply = λ b t. none_left_reply me n p.ends p.echoes.awaited b t;
+  cls = λ b tidy t. none_left_cls me n p.ends p.echoes.awaited slots kept b good carries.sexes carries.agree carries.leaving shows t;
+  said = λ b t. all_said_tells me n p.ends p.echoes.awaited b t;
+}
+
+-- what is found of what is said in a message that is read, and what is known after it
+pub record PeerTold (A : Umpire) (me n : ℕ) (fresh : Bool) (r : Result Message MessageFault) (p : Peer) : Type 0 where
+  pub none : message_talk A me n me true fresh r ≡ []
+  pub known : Known me n p (view_in (after_said A me n (turn_at A me n me true) fresh r).views me n) (after_said A me n (turn_at A me n me true) fresh r).books
+
+-- again
+pub again_told : (A : Umpire) (me n : ℕ) (r : Result Message MessageFault) (p : Peer) → Known me n p (view_in A.views me n) A.books → PeerTold A me n false r p
+again_told A me n (Ok m) p k = record { none = refl; known = k }
+again_told A me n (Err fault) p k = record { none = refl; known = k }
+
+told_room : (me : ℕ) (busy : Option ℕ) (zero room : Bool) (v : View) → v.told ≡ true → after_room (record { by = me; sent = true; busy = busy; zero = zero }) room v ≡ v
+told_room me busy zero true v t = grind arith
+told_room me busy zero false v t = refl
+
+-- commands
+pub commands_told : (A : Umpire) (me n : ℕ) (p : Peer) (slots : LinkSlots) (q : Bool) → length A.views ≡ VIEWS → me < 256 → n < 256 → All IsCommand p.phase.waiting → (next_commands p.phase.waiting ≡ [] → ⊥) → Sees q (busy_link me n A.kept) → Stands p q (view_of A me n)
+    → Good p.ends → Carries p slots → ShowsBusy me n A.kept slots → Known me n p (view_of A me n) A.books
+    → PeerTold A me n true (Ok (message_with (leader_to n 0) 8 (bits_of_bytes (spellings (next_commands p.phase.waiting))))) (peer_sends p)
+commands_told A me n p slots q l a b c some sees k good carries shows known = record {
+  none =
+      ap found items ∙ ap (λ (xs : List Finding). xs ++ left_out_findings turn talk A.kept (is_roomy text) after (after_talked turn talk (items_of cs None) v A.books)) told.none ∙ left.none;
+  known =
+      subst (λ (x : View). Known me n (peer_sends p) x (books (items_said text))) (sym is)
+      (subst (λ (x : List (Result Command CommandFault)). Known me n (peer_sends p) after (books x)) (sym items) left.known);
+}
+  where
+    cs : List Command
+    cs = next_commands p.phase.waiting
+
+    rest : List Command
+    rest = drop (length cs) p.phase.waiting
+
+    text : List Bool
+    text = bits_of_bytes (spellings cs)
+
+    turn : Turn
+    turn = record { by = me; sent = true; busy = busy_link me n A.kept; zero = knows_zero A me n }
+
+    talk : Talk
+    talk = record { at = me; peer = n; sent = true }
+
+    v : View
+    v = view_of A me n
+
+    first : cs ++ rest ≡ p.phase.waiting
+    first = next-first p.phase.waiting
+
+    before : Phased (record p.phase { waiting = cs ++ rest }) q v
+    before = subst (λ (x : List Command). Phased (record p.phase { waiting = x }) q v) (sym first) k.phased
+
+    w : AllWent me (busy_link me n A.kept) (knows_zero A me n) cs rest p.phase q v
+    w = all_went me (busy_link me n A.kept) (knows_zero A me n) cs rest p.phase q v sees k.settled before
+
+    after : View
+    after = after_items turn (items_of cs None) v
+
+    spelled : bytes_of text ≡ spellings cs
+    spelled = bytes_of-bits_of_bytes (spellings cs) (spellings_small cs (fitting_all MAX_CONTROL p.phase.waiting c))
+
+    alone : (commands_in (spellings cs) ≡ cs) × (fault_in (spellings cs) ≡ None)
+    alone = spelled_alone cs (fitting_all MAX_CONTROL p.phase.waiting c)
+
+    items : items_said text ≡ items_of cs None
+    items =
+        ap (λ (bs : List ℕ). items_of (commands_in bs) (fault_in bs)) spelled
+        ∙ ap (λ (ds : List Command). items_of ds (fault_in (spellings cs))) alone.0 ∙ ap (items_of cs) alone.1
+
+    found : List (Result Command CommandFault) → List Finding
+    found said = said_findings turn talk A.kept said v A.books ++ left_out_findings turn talk A.kept (is_roomy text) (after_items turn said v) (after_talked turn talk said v A.books)
+
+    books : List (Result Command CommandFault) → SeenBooks
+    books said = after_left_out turn talk (is_roomy text) (after_items turn said v) (after_talked turn talk said v A.books)
+
+    read : List (Result Command CommandFault) → View
+    read said = after_room turn (is_roomy text) (after_items turn said v)
+
+    is : view_in (after_said A me n (turn_at A me n me true) true (Ok (message_with (leader_to n 0) 8 text))).views me n ≡ after
+    is = view_same A.views me n (read (items_said text)) l a b ∙ ap read items ∙ told_room me (busy_link me n A.kept) (knows_zero A me n) (is_roomy text) after w.phased.told
+
+    goes : up p.phase ≡ true → GoesOut me n (busy_link me n A.kept) (knows_zero A me n) A.kept p.ends p.echoes.awaited
+    goes u = goes_out me n (busy_link me n A.kept) (knows_zero A me n) A.kept p slots good carries shows u
+
+    waited : Known me n (waited_by p.phase.waiting p) v A.books
+    waited f = let z = known f in (record { owed = z.0.owed; waits = z.0.waits; tells = z.0.tells }, z.1)
+
+    told : AllTold me n (busy_link me n A.kept) (knows_zero A me n) A.kept cs rest p v A.books
+    told =
+        all_told me n (busy_link me n A.kept) (knows_zero A me n) A.kept cs rest p q v A.books sees k.settled goes (subst AllProper (sym first) carries.proper) before
+        (subst (λ (x : List Command). Known me n (waited_by x p) v A.books) (sym first) waited)
+
+    left : NoneLeft me n (busy_link me n A.kept) (knows_zero A me n) A.kept rest p (is_roomy text) after (after_talked turn talk (items_of cs None) v A.books)
+    left =
+        none_left me n (busy_link me n A.kept) (knows_zero A me n) A.kept rest p (is_roomy text) after (after_talked turn talk (items_of cs None) v A.books) goes (roomy_left p.phase.waiting c)
+        (λ u r f. told.clear u some r f) told.known
+
+-- a text
+pub text_told : (A : Umpire) (me n on : ℕ) (t : ℕ × List Bool) (p : Peer) → length A.views ≡ VIEWS → me < 256 → n < 256 → is_one_of on links ≡ true → (on == 0) ≡ false → Good p.ends → Known me n p (view_of A me n) A.books
+    → PeerTold A me n true (Ok (message_with (leader_to n on) t.0 t.1)) (cuts on p)
+text_told A me n on t p l a b u z good known = record {
+  none = unsaid (is_unused on) (on == 0) z;
+  known = λ f.
+      let k = known (ap (λ (x : SeenBooks). x.full) (sym (books (used on u) z)) ∙ f) in (
+        subst (λ (x : SeenBooks). Spoken me n (cuts on p) (view_in (after_said A me n (turn_at A me n me true) true (Ok m)).views me n) x) (sym (books (used on u) z))
+            (subst (λ (x : View). Spoken me n (cuts on p) x A.books) (sym (view_same A.views me n (after_read (judged_reading m) turn m.text v) l a b ∙ view (used on u) z)) (cut_spoken me n on (busy_link me n A.kept) (knows_zero A me n) p v A.books good k.0)),
+        subst Tidy (sym (books (used on u) z)) k.1,
+      );
+}
+  where
+    m : Message
+    m = message_with (leader_to n on) t.0 t.1
+
+    turn : Turn
+    turn = record { by = me; sent = true; busy = busy_link me n A.kept; zero = knows_zero A me n }
+
+    talk : Talk
+    talk = record { at = me; peer = n; sent = true }
+
+    v : View
+    v = view_of A me n
+
+    unsaid : (x y : Bool) → y ≡ false → (if true && (not x && y && t.0 == 8) then control_talk A me n me true t.1 else []) ≡ []
+    unsaid true y e = refl
+    unsaid false true e = absurd (cc e)
+    unsaid false false e = refl
+
+    books : is_unused on ≡ false → (on == 0) ≡ false → books_after_read (judged_reading m) turn talk on t.1 v A.books ≡ A.books
+    books x y = rw (x, y) refl
+
+    view : is_unused on ≡ false → (on == 0) ≡ false → after_read (judged_reading m) turn t.1 v ≡ after_thing turn Thing.Text v
+    view x y = rw (x, y) refl

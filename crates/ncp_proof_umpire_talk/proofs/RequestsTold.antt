@@ -1,0 +1,247 @@
+-- An RTS or a STR of the other comes to the host: all that is known of what was said stays known, whether the books find it
+-- right, refused or unclear.
+use Rattle.std.proofs.Common.{◌≡◌, ℕ, Bool, true, false, not, List, [], ◌∷◌, ◌++◌, Option, None, Some, is_some, ◌⊎◌, inl, inr, refl, sym, ap, ◌∙◌, subst}
+use Rattle.std.proofs.lemmas.List.{append-nil}
+use Rattle.std.specs.FinMap.{get}
+use Rattle.std.specs.List.{list_any}
+use Rattle.std.proofs.lemmas.Bool.{and_parts}
+use Rattle.ncp_terms.specs.declared.command.Command.{Command}
+use Rattle.ncp_terms.specs.declared.command.Command.TheVariants.{Rts, Str}
+use Rattle.ncp_model.specs.declared.pair.Pair.{Pair}
+use Rattle.ncp_model.specs.declared.outcomes.Heard.{Heard}
+use Rattle.ncp_model.specs.declared.outcomes.Heard.TheVariants.{Nothing, Full}
+use Rattle.ncp_model.specs.Pairs.{sends, receives, is_proper}
+use Rattle.ncp_model.specs.Act.{Act, answer, end_after, error_of, made_by_hearing, wrong_parameters}
+use Rattle.ncp_model.specs.Commands.{errs}
+use Rattle.ncp_model.specs.Ends.{Ends, any, count, is_by_peer, hears_link, hear, map_after}
+use Rattle.ncp_model.specs.Peers.{is_full_up}
+use Rattle.ncp_proof_machine.proofs.EndsGood.{Good}
+use Rattle.ncp_umpire.specs.declared.life.Life.{Life}
+use Rattle.ncp_umpire.specs.declared.life.Request.{Request}
+use Rattle.ncp_umpire.specs.declared.life.Request.TheVariants.{Link, Size}
+use Rattle.ncp_umpire.specs.declared.life.Topic.{Topic}
+use Rattle.ncp_umpire.specs.declared.talk.Talk.{Talk}
+use Rattle.ncp_umpire.specs.declared.talk.Verdict.{Verdict}
+use Rattle.ncp_umpire.specs.declared.talk.Verdict.TheVariants.{Right, Refused, Unclear}
+use Rattle.ncp_umpire.specs.Lives.{SeenBooks, is_senders, life_found, place_with_sockets, with_request_sent, is_marked, is_topic, rests_pair}
+use Rattle.ncp_umpire.specs.Replies.{owes, error_wanted}
+use Rattle.ncp_umpire.specs.Requests.{is_of_sexes, request_verdict, rests_asked, asks, books_after_request}
+use Rattle.ncp_umpire.proofs.Shapes.{Ask, their_step, others_of}
+use Rattle.ncp_umpire.proofs.LinkOrder.{Sockets, same, same_is}
+use Rattle.ncp_umpire.proofs.BooksAt.{or_life, life_first, asks_at}
+use Rattle.ncp_umpire.proofs.Seeing.{is_of, number_in}
+use Rattle.ncp_proof_umpire_talk.proofs.KeptEnds.{kept}
+use Rattle.ncp_proof_umpire_talk.proofs.SeenBooks.{life_seen, seen_of, is_resting, rests_of, receives_at, OneSeen, asked_seen}
+use Rattle.ncp_proof_umpire_talk.proofs.Users.{Linked}
+use Rattle.ncp_proof_umpire_talk.proofs.Resting.{OneRests, pair_rests, pair_linked, mark_rests, mark_room, mark_keeps, mark_made}
+use Rattle.ncp_proof_umpire_talk.proofs.Meets.{Meets, linked_mark, due_room}
+use Rattle.ncp_proof_umpire_talk.proofs.Comes.{their_request}
+use Rattle.ncp_proof_umpire_talk.proofs.RequestsCome.{one_end, rts_comes, str_comes}
+use Rattle.ncp_proof_umpire_talk.proofs.Refusals.{error_fits}
+use Rattle.ncp_proof_umpire_talk.proofs.Echoing.{Echoing}
+use Rattle.ncp_proof_umpire_talk.proofs.Came.{has_come}
+use Rattle.ncp_proof_umpire_talk.proofs.HeldLinks.{heard_held, its_link_rests}
+use Rattle.ncp_proof_umpire_talk.proofs.RefusedRequests.{rts_refused_too, str_refused_too}
+use Rattle.ncp_proof_umpire_talk.proofs.HostMakes.{rts_made, str_made}
+use Rattle.ncp_proof_umpire_talk.proofs.EndsHear.{HeldBefore, rts_holds, str_holds, rts_heard, str_heard}
+use Rattle.ncp_proof_umpire_talk.proofs.ToldSteps.{SameEchoes, same_marks, echoes_then, link_echoes, rest_echoes, echo_told, came_told, owed_tells, unclear_tells}
+use Rattle.ncp_proof_umpire_talk.proofs.Spoken.{Tells}
+
+-- ---- the connection and the link that is asked for rest
+
+module _ (me n : ℕ) (p : Sockets) (b : SeenBooks) where
+  abbrev hearing : Talk
+  hearing = record { at = me; peer = n; sent = false }
+
+  abbrev rested : Request → SeenBooks
+  rested request = rests_asked hearing request (rests_pair me n p.0 p.1 b)
+
+  pub asked_rests : (request : Request) → (rested request).full ≡ false → OneRests me n b (rested request) p
+  asked_rests (Link link) f =
+      mark_rests me n (Topic.LinkRests false link) b (rests_pair me n p.0 p.1 b) p (pair_rests me n p b (mark_room me n (Topic.LinkRests false link) (rests_pair me n p.0 p.1 b) f))
+  asked_rests (Size size) f = pair_rests me n p b f
+
+  pub asked_linked : (m : Ends) (request : Request) → (rested request).full ≡ false → Linked me n b → Linked me n (rested request)
+  asked_linked m (Link link) f linked = linked_mark me n m (rests_pair me n p.0 p.1 b) (Topic.LinkRests false link) (pair_linked me n p b (mark_room me n (Topic.LinkRests false link) (rests_pair me n p.0 p.1 b) f) linked)
+  asked_linked m (Size size) f linked = pair_linked me n p b f linked
+
+  pub asked_echoes : (request : Request) → SameEchoes me n b (rested request)
+  asked_echoes (Link link) = echoes_then me n b (rests_pair me n p.0 p.1 b) (rested (Link link)) (rest_echoes me n p b) (link_echoes me n false link (rests_pair me n p.0 p.1 b))
+  asked_echoes (Size size) = rest_echoes me n p b
+
+  pub asked_link_rests : (request : Request) → (rested request).full ≡ false → (life : Life) (link : ℕ) → life_seen me n b p ≡ Some life → life.link ≡ Some link → is_marked me n (Topic.LinkRests (receives_at p) link) (rested request) ≡ true
+  asked_link_rests (Link asked) f life link s l =
+      let mid = rests_pair me n p.0 p.1 b in
+      mark_keeps me n (Topic.LinkRests false asked) mid (Topic.LinkRests (receives_at p) link) (its_link_rests me n p b life link (mark_room me n (Topic.LinkRests false asked) mid f) s l)
+  asked_link_rests (Size size) f life link s l = its_link_rests me n p b life link f s l
+
+  pub link_asked_rests : (link : ℕ) → (rested (Link link)).full ≡ false → is_marked me n (Topic.LinkRests false link) (rested (Link link)) ≡ true
+  link_asked_rests link f = mark_made me n (Topic.LinkRests false link) (rests_pair me n p.0 p.1 b) f
+
+  -- what came for a connection came for it still, after a request of the other
+  pub asked_come : (request : Request) → (asks hearing p.0 p.1 request b (place_with_sockets me n p.0 p.1 b.lives)).full ≡ false → has_come (life_seen me n b p) ≡ true
+      → has_come (life_seen me n (asks hearing p.0 p.1 request b (place_with_sockets me n p.0 p.1 b.lives)) p) ≡ true
+  asked_come request room h =
+      ap has_come (asks_at hearing p.0 p.1 request b (place_with_sockets me n p.0 p.1 b.lives) refl room) ∙ go (life_found b.lives (place_with_sockets me n p.0 p.1 b.lives)) request (ap has_come (life_first me n p.0 p.1 b.lives) ∙ h)
+    where
+      go : (o : Option Life) (r : Request) → has_come o ≡ true → has_come (Some (with_request_sent (or_life me n p.0 p.1 o) r)) ≡ true
+      go None r h = absurd (cc h)
+      go (Some life) (Link link) h = h
+      go (Some life) (Size size) h = h
+
+-- ---- a request that is right
+
+module _ (me n : ℕ) (m : Ends) (awaited : Bool) (w : List Command) (b : SeenBooks) (pair : Pair) (act : Act Heard) (request : Request) where
+  abbrev talk : Talk
+  talk = record { at = me; peer = n; sent = false }
+
+  abbrev p : Sockets
+  p = (pair.local, pair.remote)
+
+  abbrev taken : SeenBooks
+  taken = asks talk pair.local pair.remote request b (place_with_sockets me n pair.local pair.remote b.lives)
+
+  taken_tells : is_of (is_senders pair.local) false request ≡ true → rests_of me n b p ≡ false → taken.full ≡ false → answer act ≡ Nothing → (receives pair ≡ true → HeldBefore (get m pair) (end_after (get m pair) act))
+      → Meets me n (map_after m pair act) w taken → Tells me n m awaited w b → Tells me n (map_after m pair act) awaited w taken
+  taken_tells sex calm room e holds meets tells = record {
+    meets = meets;
+    held = heard_held me n m (map_after m pair act) b taken pair (end_after (get m pair) act) (their_step (Ask (number_in request)) (seen_of me n b p)) (one_end m pair act) one calm tells.held;
+    echoing = subst (λ (x : List Command). Echoing me n awaited x taken) (append-nil w) (echo_told me n awaited w [] b taken (same_marks me n b taken one.marks) refl tells.echoing);
+    came = came_told me n m (map_after m pair act) w w b taken pair (end_after (get m pair) act) (one_end m pair act) holds (λ v. refl) (λ v z. rests v (same v p) refl z)
+        (λ link z. ap (list_any (is_topic me n (Topic.LinkRests true link))) one.marks ∙ z) (λ v old g r s a z h. inr (come v (same v p) refl h)) tells.came;
+  }
+    where
+      one : OneSeen me n b taken p (their_step (Ask (number_in request)) (seen_of me n b p))
+      one = asked_seen me n false p b request sex room
+
+      rests : (v : Sockets) (x : Bool) → same v p ≡ x → rests_of me n b v ≡ true → rests_of me n taken v ≡ true
+      rests v true d z = let nay : true ≡ false = sym z ∙ ap (rests_of me n b) (same_is v p d) ∙ calm in absurd (cc nay)
+      rests v false d z = ap is_resting (one.others v d) ∙ z
+
+      come : (v : Sockets) (x : Bool) → same v p ≡ x → has_come (life_seen me n b v) ≡ true → has_come (life_seen me n taken v) ≡ true
+      come v true d h =
+          ap (λ (y : Sockets). has_come (life_seen me n taken y)) (same_is v p d)
+          ∙ asked_come me n p b request room (sym (ap (λ (y : Sockets). has_come (life_seen me n b y)) (same_is v p d)) ∙ h)
+      come v false d h = ap has_come (one.others v d) ∙ h
+
+-- ---- each of them
+
+module _ (me n : ℕ) (m : Ends) (awaited : Bool) (w : List Command) (b : SeenBooks) (good : Good m) (proper : (pair : Pair) → is_some (get m pair) ≡ true → is_proper pair ≡ true) where
+  abbrev heard_talk : Talk
+  heard_talk = record { at = me; peer = n; sent = false }
+
+  -- the table has room
+  not_full : (act : Act Heard) → is_full_up (answer act) ≡ false → answer act ≡ Full → ⊥
+  not_full act f e = let nay : true ≡ false = sym (ap is_full_up e) ∙ f in cc nay
+
+  silent : (now : Ends) (act : Act Heard) (after : SeenBooks) → answer act ≡ Nothing → Tells me n now awaited w after → Tells me n now awaited (w ++ made_by_hearing (answer act)) after
+  silent now act after e t = subst (λ (x : Heard). Tells me n now awaited (w ++ made_by_hearing x) after) (sym e) (subst (λ (x : List Command). Tells me n now awaited x after) (sym (append-nil w)) t)
+
+  -- the ERR is made, and nothing else happens
+  refused : (c : Command) (pair : Pair) (act : Act Heard) → act ≡ errs wrong_parameters c → Tells me n m awaited (w ++ error_of 3 c ∷ []) (owes heard_talk (error_wanted 3 3 c) true b)
+      → Tells me n (map_after m pair act) awaited (w ++ made_by_hearing (answer act)) (owes heard_talk (error_wanted 3 3 c) true b)
+  refused c pair act e t = subst (λ (x : Act Heard). Tells me n (map_after m pair x) awaited (w ++ made_by_hearing (answer x)) (owes heard_talk (error_wanted 3 3 c) true b)) (sym e) t
+
+  pub rts_told : (receive send link : ℕ) (v : Verdict) → request_verdict heard_talk (Rts receive send link) send receive (is_of_sexes receive send) (Link link) b ≡ v
+      → is_full_up (answer (hear (Rts receive send link) m)) ≡ false → (books_after_request heard_talk (Rts receive send link) send receive (Link link) v b).full ≡ false → Tells me n m awaited w b
+      → Tells me n (map_after m (record { local = send; remote = receive }) (hear (Rts receive send link) m)) awaited (w ++ made_by_hearing (answer (hear (Rts receive send link) m)))
+      (books_after_request heard_talk (Rts receive send link) send receive (Link link) v b)
+  rts_told receive send link v e full room tells = go v e room
+    where
+      c : Command
+      c = Rts receive send link
+
+      pair : Pair
+      pair = record { local = send; remote = receive }
+
+      act : Act Heard
+      act = hear c m
+
+      Told : Verdict → Type 0
+      Told v = Tells me n (map_after m pair act) awaited (w ++ made_by_hearing (answer act)) (books_after_request heard_talk c send receive (Link link) v b)
+
+      -- a sender asks for it with a link
+      sender : request_verdict heard_talk c send receive (is_of_sexes receive send) (Link link) b ≡ Right → is_senders send ≡ true
+      sender e = by (is_of_sexes receive send) refl
+        where
+          by : (x : Bool) → is_of_sexes receive send ≡ x → is_senders send ≡ true
+          by true s = (and_parts (not (is_senders receive)) (is_senders send) s).1
+          by false s = absurd (cc (sym (ap (λ (y : Bool). request_verdict heard_talk c send receive y (Link link) b) s) ∙ e))
+
+      right : request_verdict heard_talk c send receive (is_of_sexes receive send) (Link link) b ≡ Right → (books_after_request heard_talk c send receive (Link link) Right b).full ≡ false
+          → (answer act ≡ Full) ⊎ ((answer act ≡ Nothing) × Meets me n (map_after m pair act) w (books_after_request heard_talk c send receive (Link link) Right b)) → Told Right
+      right e f (inl k) = absurd (not_full act full k)
+      right e f (inr (k, meets)) =
+          let its = sender e in
+          silent (map_after m pair act) act (books_after_request heard_talk c send receive (Link link) Right b) k
+          (taken_tells me n m awaited w b pair act (Link link) its (their_request me n m w b c (send, receive) (is_of_sexes receive send) (Link link) its e).calm f k
+          (rts_holds pair link (any (hears_link link) m) (count is_by_peer m) (get m pair)) meets tells)
+
+      go : (v : Verdict) → request_verdict heard_talk c send receive (is_of_sexes receive send) (Link link) b ≡ v → (books_after_request heard_talk c send receive (Link link) v b).full ≡ false → Told v
+      go Right e f = right e f (rts_comes me n m w b receive send link (good.sound pair) tells.held e f tells.meets)
+      go (Refused wrong) e f =
+          refused c pair act (rts_refused_too me n m w b receive send link wrong e proper tells.meets)
+          (owed_tells me n m awaited w b (error_of 3 c) (error_wanted 3 3 c) true (error_fits 3 3 c) refl refl refl f tells)
+      go (Unclear wrong) e f =
+          let mid = rests_asked heard_talk (Link link) (rests_pair me n send receive b) in
+          let mid_room = due_room mid (record { at = me; peer = n; host = true; wanted = error_wanted 3 3 c; sure = false }) f in
+          unclear_tells me n m awaited w b mid pair act (error_wanted 3 3 c) (rts_made pair link (any (hears_link link) m) (count is_by_peer m) (get m pair) full)
+          (asked_rests me n (send, receive) b (Link link) mid_room) (asked_linked me n (send, receive) b m (Link link) mid_room tells.meets.linked) (asked_echoes me n (send, receive) b (Link link))
+          (asked_link_rests me n (send, receive) b (Link link) mid_room)
+          (λ l s o. heard l (rts_heard pair link (any (hears_link link) m) (count is_by_peer m) (get m pair) l s o) mid_room)
+          (rts_holds pair link (any (hears_link link) m) (count is_by_peer m) (get m pair)) f tells
+        where
+          mid : SeenBooks
+          mid = rests_asked heard_talk (Link link) (rests_pair me n send receive b)
+
+          heard : (l : ℕ) → (others_of (kept (sends pair) (get m pair)) ≡ Some l) ⊎ (link ≡ l) → mid.full ≡ false → (others_of (kept (sends pair) (get m pair)) ≡ Some l) ⊎ (is_marked me n (Topic.LinkRests false l) mid ≡ true)
+          heard l (inl k) r = inl k
+          heard l (inr k) r = inr (subst (λ (x : ℕ). is_marked me n (Topic.LinkRests false x) mid ≡ true) k (link_asked_rests me n (send, receive) b link r))
+
+  pub str_told : (send receive size : ℕ) (v : Verdict) → request_verdict heard_talk (Str send receive size) receive send (is_of_sexes receive send) (Size size) b ≡ v
+      → is_full_up (answer (hear (Str send receive size) m)) ≡ false → (books_after_request heard_talk (Str send receive size) receive send (Size size) v b).full ≡ false → Tells me n m awaited w b
+      → Tells me n (map_after m (record { local = receive; remote = send }) (hear (Str send receive size) m)) awaited (w ++ made_by_hearing (answer (hear (Str send receive size) m)))
+      (books_after_request heard_talk (Str send receive size) receive send (Size size) v b)
+  str_told send receive size v e full room tells = go v e room
+    where
+      c : Command
+      c = Str send receive size
+
+      pair : Pair
+      pair = record { local = receive; remote = send }
+
+      act : Act Heard
+      act = hear c m
+
+      Told : Verdict → Type 0
+      Told v = Tells me n (map_after m pair act) awaited (w ++ made_by_hearing (answer act)) (books_after_request heard_talk c receive send (Size size) v b)
+
+      receiver : request_verdict heard_talk c receive send (is_of_sexes receive send) (Size size) b ≡ Right → not (is_senders receive) ≡ true
+      receiver e = by (is_of_sexes receive send) refl
+        where
+          by : (x : Bool) → is_of_sexes receive send ≡ x → not (is_senders receive) ≡ true
+          by true s = (and_parts (not (is_senders receive)) (is_senders send) s).0
+          by false s = absurd (cc (sym (ap (λ (y : Bool). request_verdict heard_talk c receive send y (Size size) b) s) ∙ e))
+
+      right : request_verdict heard_talk c receive send (is_of_sexes receive send) (Size size) b ≡ Right → (books_after_request heard_talk c receive send (Size size) Right b).full ≡ false
+          → (answer act ≡ Full) ⊎ ((answer act ≡ Nothing) × Meets me n (map_after m pair act) w (books_after_request heard_talk c receive send (Size size) Right b)) → Told Right
+      right e f (inl k) = absurd (not_full act full k)
+      right e f (inr (k, meets)) =
+          let its = receiver e in
+          silent (map_after m pair act) act (books_after_request heard_talk c receive send (Size size) Right b) k
+          (taken_tells me n m awaited w b pair act (Size size) its (their_request me n m w b c (receive, send) (is_of_sexes receive send) (Size size) its e).calm f k
+          (λ r. str_holds pair size (count is_by_peer m) (get m pair)) meets tells)
+
+      go : (v : Verdict) → request_verdict heard_talk c receive send (is_of_sexes receive send) (Size size) b ≡ v → (books_after_request heard_talk c receive send (Size size) v b).full ≡ false → Told v
+      go Right e f = right e f (str_comes me n m w b send receive size (good.sound pair) e f tells.meets)
+      go (Refused wrong) e f =
+          refused c pair act (str_refused_too me n m w b send receive size wrong e tells.meets)
+          (owed_tells me n m awaited w b (error_of 3 c) (error_wanted 3 3 c) true (error_fits 3 3 c) refl refl refl f tells)
+      go (Unclear wrong) e f =
+          let mid = rests_asked heard_talk (Size size) (rests_pair me n receive send b) in
+          let mid_room = due_room mid (record { at = me; peer = n; host = true; wanted = error_wanted 3 3 c; sure = false }) f in
+          unclear_tells me n m awaited w b mid pair act (error_wanted 3 3 c) (str_made pair size (count is_by_peer m) (get m pair) full)
+          (asked_rests me n (receive, send) b (Size size) mid_room) (asked_linked me n (receive, send) b m (Size size) mid_room tells.meets.linked) (asked_echoes me n (receive, send) b (Size size))
+          (asked_link_rests me n (receive, send) b (Size size) mid_room)
+          (λ l s o. inl (str_heard pair size (count is_by_peer m) (get m pair) l s o))
+          (λ r. str_holds pair size (count is_by_peer m) (get m pair)) f tells

@@ -1,0 +1,302 @@
+-- What is known of what is said, through all that comes of the peer.
+use Rattle.std.proofs.Common.{◌≡◌, ℕ, ◌<◌, Bool, true, false, not, ◌&&◌, ◌||◌, if◌then◌else◌, List, [], ◌∷◌, ◌++◌, Option, Ok, Err, refl, sym, ap, ◌∙◌, subst}
+use Rattle.std.proofs.Math.Bool.{and-false}
+use Rattle.std.specs.List.{list_any}
+use Rattle.ncp_terms.specs.declared.command.Command.{Command}
+use Rattle.ncp_terms.specs.declared.fault.CommandFault.{CommandFault}
+use Rattle.ncp_model.specs.Act.{answer, made_by_hearing}
+use Rattle.ncp_model.specs.Ends.{Ends, receiver_on, pair_of, leads_to, hear, text_in, map_after_at, no_ends}
+use Rattle.ncp_model.specs.Texts.{made_by_text}
+use Rattle.ncp_model.specs.Phase.{Phase, Reaction, up, is_other, is_rst, is_rrp, phase_answers, phase_asks, phase_settles, phase_hears, owes_answer, goes_down, makes_all}
+use Rattle.ncp_model.specs.Peers.{Peer, is_full_up, echo_replies, echoes_after, reaction, standing, makes, hears_other, hears, hears_fault, takes_text, hears_text}
+use Rattle.ncp_model.proofs.ResetLists.{others, others-append, others-purged}
+use Rattle.ncp_proof_umpire_talk.proofs.NoResets.{hearing_unreset, text_unreset}
+use Rattle.ncp_umpire.specs.declared.finding.Thing.{Thing}
+use Rattle.ncp_umpire.specs.declared.phase.Turn.{Turn}
+use Rattle.ncp_umpire.specs.declared.talk.Talk.{Talk}
+use Rattle.ncp_umpire.specs.declared.view.View.{View}
+use Rattle.ncp_umpire.specs.declared.view.Wait.{Wait}
+use Rattle.ncp_umpire.specs.declared.view.Wait.TheVariants.{Answered, Even, Waiting}
+use Rattle.ncp_umpire.specs.Views.{awaits_reply, is_answered_too_often, more_waiting, less_waiting}
+use Rattle.ncp_umpire.specs.Phases.{is_early, after_thing, after_item, after_reply_of_peer, after_untold_reply}
+use Rattle.ncp_umpire.specs.Lives.{SeenBooks, books_cleared}
+use Rattle.ncp_umpire.specs.Replies.{owes, fault_wanted}
+use Rattle.ncp_umpire.specs.Speaking.{books_after_command, books_after_text}
+use Rattle.ncp_umpire.specs.Talked.{reaches, after_talk, after_talked_text}
+use Rattle.ncp_proof_umpire.proofs.Phased.{Phased}
+use Rattle.ncp_proof_umpire.proofs.PhaseSteps.{Stands}
+use Rattle.ncp_proof_umpire_talk.proofs.Spoken.{Tells, Clear, Spoken}
+use Rattle.ncp_proof_umpire_talk.proofs.Begun.{begins_tells, clear_cleared}
+use Rattle.ncp_proof_umpire_talk.proofs.MadeUp.{made_owed, owing, owing_same, down_owing, made_tells}
+
+pub clash : {A : Type 0} (b : Bool) → b ≡ true → b ≡ false → A
+clash b x y = let nay : true ≡ false = sym x ∙ y in absurd (cc nay)
+
+pub rests_before : (r x : Bool) → (r || x) ≡ false → r ≡ false
+rests_before true x e = absurd (cc e)
+rests_before false x e = refl
+
+-- ---- while a host settles, no other command waits
+
+calm_more : (w : List Command) (c : Command) → is_other c ≡ false → others w ≡ [] → others (w ++ c ∷ []) ≡ []
+calm_more w c o e = others-append w (c ∷ []) ∙ ap (λ (x : List Command). x ++ others (c ∷ [])) e ∙ ap (λ (b : Bool). if b then c ∷ [] else []) o
+
+answers_calm : (p : Phase) → others p.waiting ≡ [] → others (phase_answers p).waiting ≡ []
+answers_calm p e = go p.owe (list_any is_rrp p.waiting)
+  where
+    go : (b r : Bool) → others (if b then record p { down = false; owe = false; waiting = if r then p.waiting else p.waiting ++ Command.Rrp ∷ [] } else p).waiting ≡ []
+    go true true = e
+    go true false = calm_more p.waiting Command.Rrp refl e
+    go false r = e
+
+asks_calm : (p : Phase) → others p.waiting ≡ [] → others (phase_asks p).waiting ≡ []
+asks_calm p e = go p.want (list_any is_rst p.waiting)
+  where
+    go : (b r : Bool) → others (if b then record p { down = false; want = false; wait = true; waiting = if r then p.waiting else p.waiting ++ Command.Rst ∷ [] } else p).waiting ≡ []
+    go true true = e
+    go true false = calm_more p.waiting Command.Rst refl e
+    go false r = e
+
+pub settles_calm : (q : Bool) (p : Phase) → others p.waiting ≡ [] → others (phase_settles q p).waiting ≡ []
+settles_calm true p e = asks_calm (phase_answers p) (answers_calm p e)
+settles_calm false p e = e
+
+-- cleared: nothing was said
+pub anew_spoken : (me n : ℕ) (now : Phase) (p : Peer) (v : View) (b : SeenBooks) → p.phase ≡ now → p.ends ≡ no_ends → others now.waiting ≡ [] → Clear me n b → Spoken me n p v b
+anew_spoken me n now p v b is none quiet clear = record {
+  owed = λ r o. clear;
+  waits = λ a. clear;
+  tells = λ r u.
+      subst (λ (m : Ends). Tells me n m p.echoes.awaited p.phase.waiting b) (sym none)
+      (begins_tells me n p.echoes.awaited p.phase.waiting b (ap (λ (x : Phase). others x.waiting) is ∙ quiet) clear);
+}
+
+module _ (me n : ℕ) (busy : Option ℕ) (zero : Bool) where
+  abbrev coming : Turn
+  coming = record { by = n; sent = false; busy = busy; zero = zero }
+
+  abbrev hearing : Talk
+  hearing = record { at = me; peer = n; sent = false }
+
+  -- ---- whether what comes is judged
+
+  unreached_waiting : (what : Thing) (v : View) → awaits_reply v.host.wait ≡ true → reaches coming what v ≡ false
+  unreached_waiting what v a =
+      ap (λ (x : Bool). v.told && not (is_early coming what v) && not v.rests && not (not false && x)) a ∙ and-false (v.told && not (is_early coming what v) && not v.rests)
+
+  early_waiting : (what : Thing) (v : View) → awaits_reply v.peer.wait ≡ true → is_early coming what v ≡ true
+  early_waiting what v a = go v.peer.began (awaits_reply v.peer.wait) a
+    where
+      go : (x y : Bool) → y ≡ true → (not x || y || (false && v.owes)) ≡ true
+      go true true e = refl
+      go true false e = absurd (cc e)
+      go false y e = refl
+
+  unreached_early : (what : Thing) (v : View) → is_early coming what v ≡ true → reaches coming what v ≡ false
+  unreached_early what v e = go v.told (is_early coming what v) e
+    where
+      go : (t x : Bool) → x ≡ true → (t && not x && not v.rests && not (not false && awaits_reply v.host.wait)) ≡ false
+      go true true e = refl
+      go true false e = absurd (cc e)
+      go false x e = refl
+
+  unreached_owed : (what : Thing) (p : Phase) (q : Bool) (v : View) → Phased p q v → v.rests ≡ false → 0 < owing p → reaches coming what v ≡ false
+  unreached_owed what p q v k r o = go (awaits_reply v.host.wait) refl
+    where
+      go : (x : Bool) → awaits_reply v.host.wait ≡ x → reaches coming what v ≡ false
+      go true e = unreached_waiting what v e
+      go false e = unreached_early what v (early_waiting what v (k.rrp_waited r o e))
+
+  up_waits : (p : Phase) (q : Bool) (v : View) → Phased p q v → up p ≡ true → awaits_reply v.host.wait ≡ false
+  up_waits p q v k u = go (awaits_reply v.host.wait) refl
+    where
+      down : (x w : Bool) → w ≡ true → not (x || w) ≡ true → ⊥
+      down true true e f = cc f
+      down false true e f = cc f
+      down x false e f = cc e
+
+      go : (x : Bool) → awaits_reply v.host.wait ≡ x → awaits_reply v.host.wait ≡ false
+      go true e = absurd (down (p.down || p.want || p.owe) p.wait (k.waits e) u)
+      go false e = e
+
+  reaches_up : (what : Thing) (v : View) → v.told ≡ true → awaits_reply v.host.wait ≡ false → (after_thing coming what v).rests ≡ false → reaches coming what v ≡ true
+  reaches_up what v t w r = go v.told (is_early coming what v) v.rests (awaits_reply v.host.wait) t w r
+    where
+      go : (t e r w : Bool) → t ≡ true → w ≡ false → (r || ((t && e) && not w)) ≡ false → (t && not e && not r && not (not false && w)) ≡ true
+      go false e r w x y z = absurd (cc x)
+      go true e true w x y z = absurd (cc z)
+      go true e false true x y z = absurd (cc y)
+      go true true false false x y z = absurd (cc z)
+      go true false false false x y z = refl
+
+  -- ---- what is neither RST nor RRP
+
+  pub thing_spoken : (what : Thing) (p done : Peer) (q : Bool) (v : View) (b after : SeenBooks) → Stands p q v → Spoken me n p v b → (up p.phase ≡ true → owing done.phase ≡ owing p.phase)
+      → (reaches coming what v ≡ true → up p.phase ≡ true → up done.phase ≡ true → Tells me n p.ends p.echoes.awaited p.phase.waiting b → Tells me n done.ends done.echoes.awaited done.phase.waiting after)
+      → Spoken me n (if up p.phase then done else p) (after_thing coming what v) (if reaches coming what v then after else b)
+  thing_spoken what p done q v b after k s counts tell = go (up p.phase) refl
+    where
+      v' : View
+      v' = after_thing coming what v
+
+      before : v'.rests ≡ false → v.rests ≡ false
+      before r = rests_before v.rests ((v.told && is_early coming what v) && not (awaits_reply v.host.wait)) r
+
+      same : reaches coming what v ≡ false → Clear me n b → Clear me n (if reaches coming what v then after else b)
+      same e c = subst (λ (x : Bool). Clear me n (if x then after else b)) (sym e) c
+
+      go : (u : Bool) → up p.phase ≡ u → Spoken me n (if u then done else p) v' (if reaches coming what v then after else b)
+      go true u = record {
+        owed = λ r o. let z = subst (λ (i : ℕ). 0 < i) (counts u) o in same (unreached_owed what p.phase q v k.phased (before r) z) (s.owed (before r) z);
+        waits = λ a. same (unreached_waiting what v a) (s.waits a);
+        tells = λ r d.
+            let e = reaches_up what v k.phased.told (up_waits p.phase q v k.phased u) r in
+            subst (λ (x : Bool). Tells me n done.ends done.echoes.awaited done.phase.waiting (if x then after else b)) (sym e) (tell e u d (s.tells (before r) u));
+      }
+      go false u = record {
+        owed = λ r o. same (unreached_owed what p.phase q v k.phased (before r) o) (s.owed (before r) o);
+        waits = λ a. same (unreached_waiting what v a) (s.waits a);
+        tells = λ r d. clash (up p.phase) d u;
+      }
+
+  room_there : (x : Bool) (after b : SeenBooks) → x ≡ true → (if x then after else b).full ≡ false → after.full ≡ false
+  room_there true after b e f = f
+  room_there false after b e f = absurd (cc e)
+
+  -- what it has to be shown of a command, of a fault, and of a text
+  abbrev pub CommandTells : Command → Peer → SeenBooks → Type 0
+  CommandTells c p b =
+      up p.phase ≡ true → is_full_up (answer (hear c p.ends)) ≡ false → (books_after_command hearing c b).full ≡ false → Tells me n p.ends p.echoes.awaited p.phase.waiting b
+      → Tells me n (map_after_at p.ends (leads_to c p.ends) (hear c p.ends)) (echoes_after c p.echoes).awaited (p.phase.waiting ++ (made_by_hearing (answer (hear c p.ends)) ++ echo_replies c)) (books_after_command hearing c b)
+
+  other_spoken : (what : Thing) (c : Command) (p : Peer) (q : Bool) (v : View) (b : SeenBooks)
+      → ((r : Reaction) → phase_hears c r p.phase ≡ (if up p.phase then (if r.full then goes_down p.phase else makes_all r.replies p.phase) else p.phase))
+      → Stands p q v → Spoken me n p v b → CommandTells c p b → (if reaches coming what v then books_after_command hearing c b else b).full ≡ false
+      → Spoken me n (if up p.phase then hears_other q c p else p) (after_thing coming what v) (if reaches coming what v then books_after_command hearing c b else b)
+  other_spoken what c p q v b is k s heard room = thing_spoken what p (hears_other q c p) q v b (books_after_command hearing c b) k s counts tell
+    where
+      r : Reaction
+      r = reaction q c p
+
+      now : Bool → Phase
+      now full = if full then goes_down p.phase else makes_all r.replies p.phase
+
+      m : Ends
+      m = map_after_at p.ends (leads_to c p.ends) (hear c p.ends)
+
+      heard_is : up p.phase ≡ true → phase_hears c r p.phase ≡ now r.full
+      heard_is u = is r ∙ ap (λ (x : Bool). if x then now r.full else p.phase) u
+
+      counts : up p.phase ≡ true → owing (phase_hears c r p.phase) ≡ owing p.phase
+      counts u = ap owing (heard_is u) ∙ go r.full
+        where
+          go : (full : Bool) → owing (now full) ≡ owing p.phase
+          go true = down_owing p.phase
+          go false = owing_same p.phase (makes_all r.replies p.phase) (made_owed r.replies p.phase)
+
+      tell : reaches coming what v ≡ true → up p.phase ≡ true → up (phase_hears c r p.phase) ≡ true → Tells me n p.ends p.echoes.awaited p.phase.waiting b
+          → Tells me n (hears_other q c p).ends (hears_other q c p).echoes.awaited (hears_other q c p).phase.waiting (books_after_command hearing c b)
+      tell e u d t =
+          subst (λ (x : Phase). Tells me n (standing x m (echoes_after c p.echoes)).ends (standing x m (echoes_after c p.echoes)).echoes.awaited x.waiting (books_after_command hearing c b)) (sym (heard_is u))
+          (by r.full refl (ap up (sym (heard_is u)) ∙ d))
+        where
+          by : (full : Bool) → r.full ≡ full → up (now full) ≡ true
+              → Tells me n (standing (now full) m (echoes_after c p.echoes)).ends (standing (now full) m (echoes_after c p.echoes)).echoes.awaited (now full).waiting (books_after_command hearing c b)
+          by true f d = absurd (cc d)
+          by false f d =
+              made_tells me n r.replies p.phase m (echoes_after c p.echoes) (books_after_command hearing c b) (hearing_unreset c p.ends) d
+              (λ x. heard u f (room_there (reaches coming what v) (books_after_command hearing c b) b e room) t)
+
+  pub command_spoken : (c : Command) (p : Peer) (q : Bool) (v : View) (b : SeenBooks) → Stands p q v → Spoken me n p v b → (is_other c ≡ true → CommandTells c p b) → (after_talk coming hearing (Ok c) v b).full ≡ false
+      → Spoken me n (hears q c p) (after_item coming (Ok c) v) (after_talk coming hearing (Ok c) v b)
+  command_spoken Command.Rst p q v b k s heard room =
+      subst (λ (x : SeenBooks). Spoken me n (hears q Command.Rst p) (after_item coming (Ok Command.Rst) v) x) (sym is)
+      (anew_spoken me n (phase_settles q (owes_answer p.phase)) (hears q Command.Rst p) (after_item coming (Ok Command.Rst) v) (books_cleared me n b) refl refl
+      (settles_calm q (owes_answer p.phase) (others-purged p.phase.waiting)) (clear_cleared me n b))
+    where
+      is : after_talk coming hearing (Ok Command.Rst) v b ≡ books_cleared me n b
+      is = go v.told k.phased.told
+        where
+          go : (t : Bool) → t ≡ true → (if (t || (zero && not (is_answered_too_often v.host.wait))) && not (false && not (awaits_reply (more_waiting v.host.wait))) then books_cleared me n b else if false then b else b) ≡ books_cleared me n b
+          go true e = refl
+          go false e = absurd (cc e)
+  command_spoken Command.Rrp p q v b k s heard room =
+      subst (λ (x : View). Spoken me n (hears q Command.Rrp p) x b) (sym (ap (λ (t : Bool). if t then after_reply_of_peer v else after_untold_reply coming v) k.phased.told))
+      (record {
+        owed = λ r o. clear (waited r);
+        waits = λ a. absurd (none_waits v.host.wait a);
+        tells = λ r u.
+            let w = waited r in
+            subst (λ (m : Ends). Tells me n m p.echoes.awaited p.phase.waiting b) (sym (k.down (down w)))
+            (begins_tells me n p.echoes.awaited p.phase.waiting b (k.phased.calm (down w)) (clear w));
+      })
+    where
+      waited : (after_reply_of_peer v).rests ≡ false → awaits_reply v.host.wait ≡ true
+      waited r = go (awaits_reply v.host.wait) v.spoilt (v.owes && not (awaits_reply v.peer.wait)) r
+        where
+          go : (w x y : Bool) → (not w || x || y) ≡ false → w ≡ true
+          go true x y e = refl
+          go false x y e = absurd (cc e)
+
+      none_waits : (w : Wait) → awaits_reply (less_waiting w) ≡ true → ⊥
+      none_waits Answered e = cc e
+      none_waits Even e = cc e
+      none_waits Waiting e = cc e
+
+      clear : awaits_reply v.host.wait ≡ true → Clear me n b
+      clear w = s.waits w
+
+      down : awaits_reply v.host.wait ≡ true → up p.phase ≡ false
+      down w = go (p.phase.down || p.phase.want || p.phase.owe) p.phase.wait (k.phased.waits w)
+        where
+          go : (x w : Bool) → w ≡ true → not (x || w) ≡ false
+          go true true e = refl
+          go false true e = refl
+          go x false e = absurd (cc e)
+  command_spoken Command.Nop p q v b k s heard room = other_spoken Thing.Nop Command.Nop p q v b (λ r. refl) k s (heard refl) room
+  command_spoken (Command.Rts x y z) p q v b k s heard room = other_spoken Thing.Rts (Command.Rts x y z) p q v b (λ r. refl) k s (heard refl) room
+  command_spoken (Command.Str x y z) p q v b k s heard room = other_spoken Thing.Str (Command.Str x y z) p q v b (λ r. refl) k s (heard refl) room
+  command_spoken (Command.Cls x y) p q v b k s heard room = other_spoken Thing.Cls (Command.Cls x y) p q v b (λ r. refl) k s (heard refl) room
+  command_spoken (Command.All x y z) p q v b k s heard room = other_spoken Thing.All (Command.All x y z) p q v b (λ r. refl) k s (heard refl) room
+  command_spoken (Command.Gvb x y z) p q v b k s heard room = other_spoken Thing.Gvb (Command.Gvb x y z) p q v b (λ r. refl) k s (heard refl) room
+  command_spoken (Command.Ret x y z) p q v b k s heard room = other_spoken Thing.Ret (Command.Ret x y z) p q v b (λ r. refl) k s (heard refl) room
+  command_spoken (Command.Inr x) p q v b k s heard room = other_spoken Thing.Inr (Command.Inr x) p q v b (λ r. refl) k s (heard refl) room
+  command_spoken (Command.Ins x) p q v b k s heard room = other_spoken Thing.Ins (Command.Ins x) p q v b (λ r. refl) k s (heard refl) room
+  command_spoken (Command.Eco x) p q v b k s heard room = other_spoken Thing.Eco (Command.Eco x) p q v b (λ r. refl) k s (heard refl) room
+  command_spoken (Command.Erp x) p q v b k s heard room = other_spoken Thing.Erp (Command.Erp x) p q v b (λ r. refl) k s (heard refl) room
+  command_spoken (Command.Err x y) p q v b k s heard room = other_spoken Thing.Err (Command.Err x y) p q v b (λ r. refl) k s (heard refl) room
+
+  -- ---- a fault of a control text, and a text
+
+  abbrev pub FaultTells : CommandFault → Peer → SeenBooks → Type 0
+  FaultTells fault p b =
+      (owes hearing (fault_wanted fault) true b).full ≡ false → Tells me n p.ends p.echoes.awaited p.phase.waiting b
+      → Tells me n p.ends p.echoes.awaited (p.phase.waiting ++ Command.Err fault.code fault.bytes ∷ []) (owes hearing (fault_wanted fault) true b)
+
+  pub fault_spoken : (fault : CommandFault) (p : Peer) (q : Bool) (v : View) (b : SeenBooks) → Stands p q v → Spoken me n p v b → FaultTells fault p b → (after_talk coming hearing (Err fault) v b).full ≡ false
+      → Spoken me n (hears_fault fault p) (after_item coming (Err fault) v) (after_talk coming hearing (Err fault) v b)
+  fault_spoken fault p q v b k s heard room =
+      thing_spoken Thing.Bad p (makes cs p) q v b (owes hearing (fault_wanted fault) true b) k s (λ u. owing_same p.phase (makes_all cs p.phase) (made_owed cs p.phase))
+      (λ e u d t.
+      made_tells me n cs p.phase p.ends p.echoes (owes hearing (fault_wanted fault) true b) (refl, tt) d (λ x. heard (room_there (reaches coming Thing.Bad v) (owes hearing (fault_wanted fault) true b) b e room) t))
+    where
+      cs : List Command
+      cs = Command.Err fault.code fault.bytes ∷ []
+
+  abbrev pub TextTells : ℕ → List Bool → ℕ → List Bool → Peer → SeenBooks → Type 0
+  TextTells on head of_size text p b =
+      (books_after_text me n on b).full ≡ false → Tells me n p.ends p.echoes.awaited p.phase.waiting b
+      → Tells me n (map_after_at p.ends (pair_of (receiver_on on p.ends)) (text_in on of_size text p.ends)) p.echoes.awaited (p.phase.waiting ++ made_by_text head text (answer (text_in on of_size text p.ends))) (books_after_text me n on b)
+
+  pub text_spoken : (on : ℕ) (head : List Bool) (of_size : ℕ) (text : List Bool) (p : Peer) (q : Bool) (v : View) (b : SeenBooks) → Stands p q v → Spoken me n p v b → TextTells on head of_size text p b
+      → (after_talked_text coming hearing on v b).full ≡ false → Spoken me n (hears_text on head of_size text p) (after_thing coming Thing.Text v) (after_talked_text coming hearing on v b)
+  text_spoken on head of_size text p q v b k s heard room =
+      thing_spoken Thing.Text p (takes_text on head of_size text p) q v b (books_after_text me n on b) k s (λ u. owing_same p.phase (makes_all cs p.phase) (made_owed cs p.phase))
+      (λ e u d t.
+      made_tells me n cs p.phase m p.echoes (books_after_text me n on b) (text_unreset head on of_size text p.ends) d (λ x. heard (room_there (reaches coming Thing.Text v) (books_after_text me n on b) b e room) t))
+    where
+      cs : List Command
+      cs = made_by_text head text (answer (text_in on of_size text p.ends))
+
+      m : Ends
+      m = map_after_at p.ends (pair_of (receiver_on on p.ends)) (text_in on of_size text p.ends)

@@ -1,0 +1,176 @@
+-- A walk over a run, in a file that has records of other interfaces too: by no rule at all is the host found to be wrong.
+use Rattle.std.proofs.Common.{◌≡◌, ℕ, ◌<◌, ◌==◌, Bool, true, false, if◌then◌else◌, List, [], ◌∷◌, ◌++◌, Option, None, Some, refl, sym, ap, ◌∙◌, subst}
+use Rattle.std.proofs.lemmas.Bool.{eqb-true}
+use Rattle.ncp_leader.specs.Message.{message_in}
+use Rattle.ncp_host.specs.PeerState.{PeerState}
+use Rattle.ncp_host.specs.Host.{Host, state_of, is_one_of, are_distinct, new_host}
+use Rattle.ncp_host.specs.Turns.{next_output}
+use Rattle.ncp_transcript.specs.declared.input.Input.{Input}
+use Rattle.ncp_transcript.specs.declared.note.HostNote.{HostNote}
+use Rattle.ncp_transcript.specs.After.{after_note}
+use Rattle.ncp_transcript.specs.Noting.{answer_in, note_of_message}
+use Rattle.ncp_transcript.specs.Runs.{IsHostSaid, AreHostNotes}
+use Rattle.ncp_transcript.proofs.Saying.{noted_said}
+use Rattle.ncp_transcript_two.proofs.Fitting.{note-fits}
+use Rattle.ncp_proof_runs.proofs.Said.{IsOut}
+use Rattle.ncp_proof_runs.proofs.HostRuns.{Holds, out-turn, out-is}
+use Rattle.ncp_proof_runs.proofs.EachPeer.{holds-after, new-holds}
+use Rattle.ncp_umpire.specs.declared.finding.Finding.{Finding}
+use Rattle.ncp_umpire.specs.declared.finding.Rule.{Rule}
+use Rattle.ncp_umpire.specs.declared.umpire.Umpire.{Umpire}
+use Rattle.ncp_umpire.specs.declared.view.View.{View}
+use Rattle.ncp_umpire.specs.declared.way.Way.{Way}
+use Rattle.ncp_umpire.specs.declared.way.Way.TheVariants.{ToImp, FromImp}
+use Rattle.ncp_umpire.specs.Tables.{view_in}
+use Rattle.ncp_umpire.specs.Judged.{new_umpire, sees, fresh_out, umpire_after_out, record_findings, after_record}
+use Rattle.ncp_umpire.proofs.Passing.{Pass, both}
+use Rattle.ncp_proof_umpire.specs.Recordings.{gone_by, recording, spares, begun_alone, AreFit, at_interface, found_at, NobodyBlamed}
+use Rattle.ncp_proof_umpire.proofs.Spared.{spared}
+use Rattle.ncp_proof_umpire.proofs.Steps.{noted}
+use Rattle.ncp_proof_umpire.proofs.Leaders.{peers_parts, peer_of_turn}
+use Rattle.ncp_proof_umpire.proofs.HostSlots.{call_noted}
+use Rattle.ncp_proof_umpire.proofs.Linked.{after_call, after_out_of, after_in_of}
+use Rattle.ncp_proof_umpire.proofs.LinkWalk.{follows_begins}
+use Rattle.ncp_proof_umpire.proofs.ReadyPeers.{AllReady, ready_after, fits_in, fits_out, ready_begins}
+use Rattle.ncp_proof_umpire.proofs.PhaseWalk.{call_all, in_all, out_all, out_passes, seen_begins}
+use Rattle.ncp_proof_umpire.proofs.Talking.{empty_pass, message_talk}
+use Rattle.ncp_proof_umpire.proofs.Others.{Watched, Leaves, watched, other_leaves}
+use Rattle.ncp_proof_umpire_talk.proofs.Spoken.{Spoken}
+use Rattle.ncp_proof_umpire_talk.proofs.BooksRead.{Reads}
+use Rattle.ncp_proof_umpire_talk.proofs.BooksRecord.{record_reads, record_alike}
+use Rattle.ncp_proof_umpire_talk.proofs.TalkWalk.{AllSpoken, spoken_alike, call_talks, in_talks}
+use Rattle.ncp_proof_umpire_talk.proofs.TalkOut.{out_unsaid, out_talks, talks_begin}
+
+-- ---- the records between
+
+-- what is seen of the phases, and what is known of what is said
+record Followed (me : ℕ) (h : Host) (umpire : Umpire) : Type 0 where
+  watches : Watched me h umpire
+  talks : AllSpoken me h umpire
+
+-- a record at another interface
+passed_by : (me : ℕ) (h : Host) (umpire : Umpire) (at : ℕ) (way : Way) (bits : List Bool) → ((n : ℕ) (s : PeerState) → state_of h n ≡ Some s → n < 256) → (at == me) ≡ false → Followed me h umpire → Followed me h (after_record umpire way at bits)
+passed_by me h umpire at way bits small d w =
+    let now = after_record umpire way at bits in
+    let l : Leaves me umpire now = other_leaves me at way bits umpire d in
+    let r : Reads umpire.books now.books = record_reads umpire way at bits in
+    record {
+      watches = watched me h umpire now small l w.watches;
+      talks = record {
+        tidy = λ f. r.tidy f (w.talks.tidy (r.room f));
+        carries = λ full n s there. w.talks.carries (l.full full) n s there;
+        spoken = λ full f n s there.
+            subst (λ (v : View). Spoken me n s.peer v now.books) (sym (l.views n (small n s there)))
+            (spoken_alike me n s.peer (view_in umpire.views me n) umpire.books now.books (record_alike umpire way at bits me n d) (w.talks.spoken (l.full full) (r.room f) n s there));
+      };
+    }
+
+-- what is found from a record of the host on
+abbrev From : (Rule → Bool) → ℕ → Umpire → Way × List Bool → List (ℕ × Way × List Bool) → Type 0
+From judged me umpire x file = Pass (spares judged me) (record_findings umpire x.0 me x.1 ++ found_at (after_record umpire x.0 me x.1) me file)
+
+-- up to the next record of the host
+skip : (judged : Rule → Bool) (me : ℕ) (h : Host) (file : List (ℕ × Way × List Bool)) (umpire : Umpire) (x : Way × List Bool) (rest : List (Way × List Bool)) → ((n : ℕ) (s : PeerState) → state_of h n ≡ Some s → n < 256) → Followed me h umpire → at_interface me file ≡ x ∷ rest
+    → ((u : Umpire) (more : List (ℕ × Way × List Bool)) → Followed me h u → at_interface me more ≡ rest → From judged me u x more) → Pass (spares judged me) (found_at umpire me file)
+skip judged me h [] umpire x rest small w e k = absurd (cc e)
+skip judged me h (one ∷ more) umpire x rest small w e k = go (one.0 == me) refl (λ u v f. skip judged me h more u x rest small v f k)
+  where
+    next : Bool → List (Way × List Bool)
+    next b = if b then (one.1, one.2) ∷ at_interface me more else at_interface me more
+
+    found : Bool → List Finding
+    found b = (if b then record_findings umpire one.1 one.0 one.2 else []) ++ found_at (after_record umpire one.1 one.0 one.2) me more
+
+    go : (b : Bool) → (one.0 == me) ≡ b → ((u : Umpire) → Followed me h u → at_interface me more ≡ x ∷ rest → Pass (spares judged me) (found_at u me more)) → Pass (spares judged me) (found_at umpire me (one ∷ more))
+    go true d later =
+        let both_same : (one.1, one.2) ∷ at_interface me more ≡ x ∷ rest = sym (ap next d) ∙ e in
+        let head : (one.1, one.2) ≡ x = cc both_same in
+        let tail : at_interface me more ≡ rest = cc both_same in
+        subst (λ (b : Bool). Pass (spares judged me) (found b)) (sym d)
+        (subst (λ (at : ℕ). Pass (spares judged me) (record_findings umpire one.1 at one.2 ++ found_at (after_record umpire one.1 at one.2) me more)) (sym (eqb-true one.0 me d))
+        (subst (λ (y : Way × List Bool). From judged me umpire y more) (sym head) (k umpire more w tail)))
+    go false d later =
+        subst (λ (b : Bool). Pass (spares judged me) (found b)) (sym d)
+        (later (after_record umpire one.1 one.0 one.2) (passed_by me h umpire one.0 one.1 one.2 small d w) (sym (ap next d) ∙ e))
+
+-- behind the last one
+no_more : (judged : Rule → Bool) (me : ℕ) (file : List (ℕ × Way × List Bool)) (umpire : Umpire) → at_interface me file ≡ [] → Pass (spares judged me) (found_at umpire me file)
+no_more judged me [] umpire e = refl
+no_more judged me (one ∷ more) umpire e = go (one.0 == me) refl (no_more judged me more (after_record umpire one.1 one.0 one.2))
+  where
+    next : Bool → List (Way × List Bool)
+    next b = if b then (one.1, one.2) ∷ at_interface me more else at_interface me more
+
+    found : Bool → List Finding
+    found b = (if b then record_findings umpire one.1 one.0 one.2 else []) ++ found_at (after_record umpire one.1 one.0 one.2) me more
+
+    go : (b : Bool) → (one.0 == me) ≡ b → (at_interface me more ≡ [] → Pass (spares judged me) (found_at (after_record umpire one.1 one.0 one.2) me more)) → Pass (spares judged me) (found_at umpire me (one ∷ more))
+    go true d later = let nay : (one.1, one.2) ∷ at_interface me more ≡ [] = sym (ap next d) ∙ e in absurd (cc nay)
+    go false d later = subst (λ (b : Bool). Pass (spares judged me) (found b)) (sym d) (later (sym (ap next d) ∙ e))
+
+-- ---- the walk
+
+walk : (judged : Rule → Bool) (ns : List ℕ) (me : ℕ) (given : List Input) (noted : List HostNote) (h : Host) (umpire : Umpire) (file : List (ℕ × Way × List Bool)) → me < 256 → is_one_of me ns ≡ false → Holds ns h → Followed me h umpire → AllReady h → AreFit given → AreHostNotes given noted h
+    → at_interface me file ≡ recording given noted → Pass (spares judged me) (found_at umpire me file)
+walk judged ns me [] noted h umpire file l a k w ready f p e = no_more judged me file umpire e
+walk judged ns me (input ∷ given) [] h umpire file l a k w ready f p e = no_more judged me file umpire e
+walk judged ns me (Input.Call call ∷ given) (note ∷ noted) h umpire file l a k w ready f p e =
+    let said = noted_said (Input.Call call) note h p.0 in
+    let c = call_noted call note h p.0 in
+    walk judged ns me given noted (after_note note h) umpire file l a (holds-after ns note h k said) (record {
+      watches = record { follows = after_call ns me note h umpire k said c w.watches.follows; seen = call_all ns me note h umpire k said c ready w.watches.seen };
+      talks = call_talks ns me note h umpire k said c ready w.watches.seen w.talks;
+    }) (ready_after ns note h k said (note-fits call note h p.0 f.0) ready) f.1 p.1 e
+walk judged ns me (Input.In bits ∷ given) (note ∷ noted) h umpire file l a k w ready f p e =
+    let said = noted_said (Input.In bits) note h p.0 in
+    skip judged me h file umpire (FromImp, bits) (recording given noted) (λ n s there. (k.good n s there).0) w e
+    (λ u more v d.
+    both (spares judged me) (record_findings u FromImp me bits) (found_at (after_record u FromImp me bits) me more) (spared judged me u bits)
+    (walk judged ns me given noted (after_note note h) (after_record u FromImp me bits) more l a (holds-after ns note h k said) (record {
+      watches = record { follows = after_in_of ns me h u bits note k a said p.0 v.watches.follows; seen = in_all ns me h u bits note k a l said p.0 v.watches.follows v.watches.seen };
+      talks = in_talks ns me h u bits note k a l said p.0 v.watches.follows ready v.watches.seen v.talks;
+    }) (ready_after ns note h k said (fits_in (answer_in bits h) bits h note p.0) ready) f p.1 d))
+walk judged ns me (Input.Out ∷ given) (note ∷ noted) h umpire file l a k w ready f p e =
+    let said = noted_said Input.Out note h p.0 in
+    go (next_output h) refl p.0 said e
+    (λ u more v d. walk judged ns me given noted (after_note note h) u more l a (holds-after ns note h k said) v (ready_after ns note h k said (fits_out (next_output h) note p.0) ready) f p.1 d)
+  where
+    Rest : HostNote → Type 0
+    Rest x = (u : Umpire) (more : List (ℕ × Way × List Bool)) → Followed me (after_note x h) u → at_interface me more ≡ recording given noted → Pass (spares judged me) (found_at u me more)
+
+    out : (message : List Bool) → next_output h ≡ Some message → IsHostSaid (HostNote.Out message) h → at_interface me file ≡ (ToImp, message) ∷ recording given noted → Rest (HostNote.Out message) → Pass (spares judged me) (found_at umpire me file)
+    out message q said e rest =
+        let t = out-turn ns h message k q in
+        let is : IsOut t.n message t.s = out-is ns h message k t in
+        let other = peer_of_turn ns me h message k a t in
+        skip judged me h file umpire (ToImp, message) (recording given noted) (λ n s there. (k.good n s there).0) w e
+        (λ u more v d.
+        let none = out_unsaid ns me t.n h u message t.s is k l a said t.found v.watches.follows ready v.watches.seen v.talks other in
+        both (spares judged me) (record_findings u ToImp me message) (found_at (after_record u ToImp me message) me more)
+        (out_passes (spares judged me) ns me t.n h u message t.s is k l a said t.found v.watches.follows ready v.watches.seen other (empty_pass (spares judged me) (message_talk (umpire_after_out (sees u me) me t.n is.on message) me t.n me true (fresh_out (sees u me) me t.n is.on message) (message_in message)) none))
+        (rest (after_record u ToImp me message) more (record {
+          watches = record {
+            follows = after_out_of ns me t.n is.on h u message t.s k said is.leader other t.found v.watches.follows;
+            seen = out_all ns me t.n h u message t.s is k l a said t.found v.watches.follows ready v.watches.seen other;
+          };
+          talks = out_talks ns me t.n h u message t.s is k l a said t.found v.watches.follows ready v.watches.seen v.talks other;
+        }) d))
+
+    go : (o : Option (List Bool)) → next_output h ≡ o → note ≡ note_of_message o → IsHostSaid note h → at_interface me file ≡ gone_by note ++ recording given noted → Rest note → Pass (spares judged me) (found_at umpire me file)
+    go None q is said e rest = (subst Rest is rest) umpire file w (subst (λ (x : HostNote). at_interface me file ≡ gone_by x ++ recording given noted) is e)
+    go (Some message) q is said e rest =
+        out message q (subst (λ (x : HostNote). IsHostSaid x h) is said) (subst (λ (x : HostNote). at_interface me file ≡ gone_by x ++ recording given noted) is e) (subst Rest is rest)
+
+-- from the beginning
+run_spared : (judged : Rule → Bool) (ns : List ℕ) (me : ℕ) (given : List Input) (noted : List HostNote) (file : List (ℕ × Way × List Bool)) → are_distinct ns ≡ true → is_one_of me ns ≡ false → ((n : ℕ) → is_one_of n ns ≡ true → n < 256) → me < 256 → AreFit given → AreHostNotes given noted (new_host me ns)
+    → at_interface me file ≡ recording given noted → Pass (spares judged me) (found_at (new_umpire false) me file)
+run_spared judged ns me given noted file distinct away places small fit p here =
+    walk judged ns me given noted (new_host me ns) (new_umpire false) file small away (new-holds me ns distinct places)
+    (record { watches = record { follows = follows_begins me ns; seen = seen_begins me ns }; talks = talks_begin me ns }) (ready_begins me ns) fit p here
+
+-- whatever rules are asked for
+pub nobody_blamed : (judged : Rule → Bool) → NobodyBlamed judged
+nobody_blamed judged me ns given now file peers places small fit steps here =
+    let w = noted given (begun_alone me ns) now steps in
+    let parts = peers_parts me ns peers in
+    run_spared judged ns me given w.0 file parts.0 parts.1 places small fit w.2 (subst (λ (all : List HostNote). at_interface me file ≡ recording given all) w.1 here)

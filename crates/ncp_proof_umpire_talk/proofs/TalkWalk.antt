@@ -1,0 +1,457 @@
+-- What is known of what is said between a host and all its peers, through what goes out and what comes: by no rule is the host
+-- found to be wrong.
+use Rattle.std.proofs.Common.{◌≡◌, ◌≢◌, ◌⊎◌, inl, inr, ℕ, ◌<◌, ◌==◌, Bool, true, false, not, ◌&&◌, if◌then◌else◌, List, [], length, Option, None, Some, Result, Ok, Err, refl, sym, ap, ◌∙◌, subst}
+use Rattle.std.proofs.lemmas.Bool.{eqb-true}
+use Rattle.std.proofs.lemmas.Bool.Decides.{eqb_tells}
+use Rattle.ncp_leader.specs.declared.fault.MessageFault.{MessageFault}
+use Rattle.ncp_leader.specs.declared.leader.Leader.{Leader}
+use Rattle.ncp_leader.specs.declared.leader.Short.{Short}
+use Rattle.ncp_leader.specs.Leader.{leader_in}
+use Rattle.ncp_leader.specs.Message.{Message, message_in}
+use Rattle.ncp_leader.proofs.Messages.{message_leader}
+use Rattle.ncp_terms.specs.declared.answer.Answer.{Answer}
+use Rattle.ncp_terms.specs.declared.answer.Answer.TheVariants.{Rfnm, Incomplete, Dead}
+use Rattle.ncp_slot.specs.Slots.{is_quiet}
+use Rattle.ncp_model.specs.Act.{answer}
+use Rattle.ncp_model.specs.Peers.{Peer, Ask_to_send, Ask_to_receive, Close, Give, Take, Allocate, Call_back, Interrupt}
+use Rattle.ncp_host.specs.PeerState.{PeerState, answer_comes}
+use Rattle.ncp_host.specs.Hearing.{rfnm, destination_dead, incomplete, message_after, answer_of}
+use Rattle.ncp_host.specs.Host.{Host, state_of, is_one_of}
+use Rattle.ncp_host.specs.Arrivals.{received_in}
+use Rattle.ncp_host.specs.Soundness.{IsSound}
+use Rattle.ncp_host.specs.Calls.{sockets}
+use Rattle.ncp_host.proofs.Sound.{sound-calls, sound-echo, sound-reset, sound-wakes, sound-bits}
+use Rattle.ncp_transcript.specs.declared.call.Call.{Call}
+use Rattle.ncp_transcript.specs.declared.note.HostNote.{HostNote}
+use Rattle.ncp_transcript.specs.After.{after_note}
+use Rattle.ncp_transcript.specs.Noting.{answer_with, if_peer, note_as, note_of_bits}
+use Rattle.ncp_transcript.specs.Runs.{IsHostSaid}
+use Rattle.ncp_proof_runs.specs.Peers.{is_this_number, peer_of_leader, names, called_for, bits_for, note_for}
+use Rattle.ncp_proof_runs.proofs.States.{peer_there}
+use Rattle.ncp_proof_runs.proofs.HostRuns.{Holds}
+use Rattle.ncp_umpire.specs.declared.umpire.Umpire.{Umpire}
+use Rattle.ncp_umpire.specs.declared.view.View.{View}
+use Rattle.ncp_umpire.specs.declared.way.Way.TheVariants.{FromImp}
+use Rattle.ncp_umpire.specs.Events.{is_answer}
+use Rattle.ncp_umpire.specs.Lives.{SeenBooks}
+use Rattle.ncp_umpire.specs.Tables.{view_in}
+use Rattle.ncp_umpire.specs.Slots.{place_of, busy_link}
+use Rattle.ncp_umpire.specs.Messages.{judged_reading}
+use Rattle.ncp_umpire.specs.Judged.{sees, view_of, knows_zero, with_answer, umpire_after_answer, judges_coming, with_coming, after_in, turn_at, after_read, after_said, after_record}
+use Rattle.ncp_umpire.proofs.Following.{said_keeps, short_is, other_is, own_is, in_is, answer_is}
+use Rattle.ncp_proof_umpire.proofs.Leaders.{apart}
+use Rattle.ncp_proof_umpire.proofs.Linked.{Follows, coming_keeps, no_regular}
+use Rattle.ncp_proof_umpire.proofs.HostSlots.{is_of_call, was}
+use Rattle.ncp_proof_umpire.proofs.ReadyPeers.{AllReady}
+use Rattle.ncp_proof_umpire.proofs.Fine.{Fine}
+use Rattle.ncp_proof_umpire.proofs.Fresh.{sees_busy}
+use Rattle.ncp_proof_umpire.proofs.Phased.{Sees}
+use Rattle.ncp_proof_umpire.proofs.PhaseSteps.{Stands}
+use Rattle.ncp_proof_umpire.proofs.PhaseSeen.{Seen, stands_as, view_same}
+use Rattle.ncp_proof_umpire.proofs.PhaseWalk.{AllSeen, said_other, not_full}
+use Rattle.ncp_proof_umpire_talk.proofs.TidyBooks.{Tidy}
+use Rattle.ncp_proof_umpire_talk.proofs.Carries.{Carries}
+use Rattle.ncp_proof_umpire_talk.proofs.Borne.{Borne}
+use Rattle.ncp_proof_umpire_talk.proofs.CarriesOn.{quiet_tells, called_carries, message_carries, answer_carries}
+use Rattle.ncp_proof_umpire_talk.proofs.Spoken.{Spoken}
+use Rattle.ncp_proof_umpire_talk.proofs.Begun.{alike_tells, alike_clear}
+use Rattle.ncp_proof_umpire_talk.proofs.Elsewhere.{Alike}
+use Rattle.ncp_proof_umpire_talk.proofs.SpokenOut.{Known}
+use Rattle.ncp_proof_umpire_talk.proofs.SpokenHost.{call_spoken, answer_spoken, spoken_as}
+use Rattle.ncp_proof_umpire_talk.proofs.BooksRead.{Reads, said_reads, said_alikes}
+use Rattle.ncp_proof_umpire_talk.proofs.BooksRecord.{in_books, answer_books}
+use Rattle.ncp_proof_umpire_talk.proofs.PeerIn.{message_heard}
+
+-- ---- what is known of all peers
+
+pub record AllSpoken (me : ℕ) (h : Host) (umpire : Umpire) : Type 0 where
+  pub tidy : umpire.books.full ≡ false → Tidy umpire.books
+  pub carries : umpire.full ≡ false → (n : ℕ) (s : PeerState) → state_of h n ≡ Some s → Carries s.peer s.slots
+  pub spoken : umpire.full ≡ false → umpire.books.full ≡ false → (n : ℕ) (s : PeerState) → state_of h n ≡ Some s → Spoken me n s.peer (view_in umpire.views me n) umpire.books
+
+-- what was said between others
+pub spoken_alike : (me n : ℕ) (p : Peer) (v : View) (b now : SeenBooks) → Alike me n b now → Spoken me n p v b → Spoken me n p v now
+spoken_alike me n p v b now a k = record {
+  owed = λ r o. alike_clear me n b now a (k.owed r o);
+  waits = λ w. alike_clear me n b now a (k.waits w);
+  tells = λ r u. alike_tells me n b now a p.ends p.echoes.awaited p.phase.waiting (k.tells r u);
+}
+
+-- ---- what a host has for a peer is sound
+
+borne_of : (s : PeerState) → Carries s.peer s.slots → Borne s.peer s.slots
+borne_of s k = record { proper = k.proper; sexes = k.sexes; busy = k.busy; leaving = k.leaving }
+
+pub sound_of : (s : PeerState) (q : Bool) (v : View) → Carries s.peer s.slots → Stands s.peer q v → IsSound s
+sound_of s q v c k = record { ends = c.agree; down = k.down }
+
+called_sound : (call : Call) (s : PeerState) → IsSound s → IsSound (called_for call s)
+called_sound (Call.Reset peer) s k = sound-reset (is_quiet s.slots) s.peer s.slots k
+called_sound (Call.AskSend peer local remote size room) s k = sound-calls (sockets local remote) (Ask_to_send size room) s.peer s.slots k
+called_sound (Call.AskReceive peer local remote room) s k = sound-calls (sockets local remote) (Ask_to_receive room) s.peer s.slots k
+called_sound (Call.Give peer pair text) s k = sound-calls pair (Give text) s.peer s.slots k
+called_sound (Call.Take peer pair bytes) s k = sound-calls pair (Take bytes) s.peer s.slots k
+called_sound (Call.Allocate peer pair messages bits) s k = sound-calls pair (Allocate messages bits) s.peer s.slots k
+called_sound (Call.CallBack peer pair fm fb) s k = sound-calls pair (Call_back fm fb) s.peer s.slots k
+called_sound (Call.Interrupt peer pair) s k = sound-calls pair Interrupt s.peer s.slots k
+called_sound (Call.Echo peer byte) s k = sound-echo byte s.peer s.slots k
+called_sound (Call.Close peer pair) s k = sound-calls pair Close s.peer s.slots k
+called_sound (Call.Wake peer) s k = sound-wakes s k
+called_sound (Call.State peer pair) s k = k
+called_sound (Call.Phase peer) s k = k
+called_sound (Call.Echoed peer) s k = k
+called_sound (Call.Errors peer) s k = k
+called_sound (Call.Counts peer) s k = k
+called_sound (Call.Waiting peer place) s k = k
+called_sound (Call.Kept peer link) s k = k
+called_sound Call.Ignored s k = k
+
+message_sound : (link : ℕ) (bits : List Bool) (s : PeerState) → IsSound s → IsSound (message_after link bits (message_in bits) s)
+message_sound link bits s k = sound-bits (record { flags = 0; kind = 0; host = 0; link = link; low = 0 }) bits s k
+
+answer_sound : (link : ℕ) (how : Answer) (s : PeerState) → IsSound s → IsSound (answer_comes link how s)
+answer_sound link Rfnm s k = sound-bits (record { flags = 0; kind = rfnm; host = 0; link = link; low = 0 }) [] s k
+answer_sound link Incomplete s k = sound-bits (record { flags = 0; kind = incomplete; host = 0; link = link; low = 0 }) [] s k
+answer_sound link Dead s k = sound-bits (record { flags = 0; kind = destination_dead; host = 0; link = link; low = 0 }) [] s k
+
+-- ---- calls
+
+call_carries : (note : HostNote) (s : PeerState) (v : View) → is_of_call note ≡ true → Fine s.peer → Seen s v → Carries s.peer s.slots → Carries (note_for note s).peer (note_for note s).slots
+call_carries note s v c fine o k = by note c
+  where
+    sound : IsSound s
+    sound = sound_of s (is_quiet s.slots) v k o.stands
+
+    called : (call : Call) → Carries (called_for call s).peer (called_for call s).slots
+    called call = called_carries call s fine.good.sound o.used (called_sound call s sound).ends k
+
+    by : (note : HostNote) → is_of_call note ≡ true → Carries (note_for note s).peer (note_for note s).slots
+    by (HostNote.Refused call fault) c = k
+    by (HostNote.Done call) c = called call
+    by (HostNote.Took peer pair bytes text) c = called (Call.Take peer pair bytes)
+    by (HostNote.State peer pair r) c = k
+    by (HostNote.Phase peer flags) c = k
+    by (HostNote.Echoed peer byte) c = k
+    by (HostNote.Errors peer errors) c = k
+    by (HostNote.Counts peer counts) c = k
+    by (HostNote.Waiting peer place command) c = k
+    by (HostNote.Kept peer link message) c = k
+    by (HostNote.Ignored ignored) c = k
+    by (HostNote.Out message) c = absurd (cc c)
+    by HostNote.Nothing c = absurd (cc c)
+    by (HostNote.In message received) c = absurd (cc c)
+    by (HostNote.Answered peer link how received) c = absurd (cc c)
+
+pub call_talks : (ns : List ℕ) (me : ℕ) (note : HostNote) (h : Host) (umpire : Umpire) → Holds ns h → IsHostSaid note h → is_of_call note ≡ true → AllReady h → AllSeen me h umpire → AllSpoken me h umpire → AllSpoken me (after_note note h) umpire
+call_talks ns me note h umpire k p c ready seen all = record {
+  tidy = all.tidy;
+  carries = λ full n t e. let w = was ns note h n t k p e in subst (λ (x : PeerState). Carries x.peer x.slots) (sym w.2) (held full n w.0 w.1 (names n note));
+  spoken = λ full room n t e. let w = was ns note h n t k p e in subst (λ (x : PeerState). Spoken me n x.peer (view_in umpire.views me n) umpire.books) (sym w.2) (said full room n w.0 w.1 (names n note));
+}
+  where
+    held : umpire.full ≡ false → (n : ℕ) (s : PeerState) → state_of h n ≡ Some s → (b : Bool) → Carries (if b then note_for note s else s).peer (if b then note_for note s else s).slots
+    held full n s there true = call_carries note s (view_in umpire.views me n) c (ready n s there).fine (seen.each full n s there) (all.carries full n s there)
+    held full n s there false = all.carries full n s there
+
+    said : umpire.full ≡ false → umpire.books.full ≡ false → (n : ℕ) (s : PeerState) → state_of h n ≡ Some s → (b : Bool) → Spoken me n (if b then note_for note s else s).peer (view_in umpire.views me n) umpire.books
+    said full room n s there true = call_spoken me n note s (view_in umpire.views me n) umpire.books c (ready n s there).fine.good (all.carries full n s there).sexes (all.spoken full room n s there)
+    said full room n s there false = all.spoken full room n s there
+
+-- ---- what comes
+
+-- nothing of it is changed
+calm_talks : (ns : List ℕ) (me : ℕ) (note : HostNote) (h : Host) (umpire u : Umpire) → Holds ns h → IsHostSaid note h → u.views ≡ umpire.views → u.full ≡ umpire.full → u.books ≡ umpire.books
+    → ((m : ℕ) (s : PeerState) → state_of h m ≡ Some s → (if names m note then note_for note s else s) ≡ s)
+    → AllSpoken me h umpire → AllSpoken me (after_note note h) u
+calm_talks ns me note h umpire u k p v f b same all = record {
+  tidy = λ room. subst Tidy (sym b) (all.tidy (ap (λ (x : SeenBooks). x.full) (sym b) ∙ room));
+  carries = λ full n t e. let w = was ns note h n t k p e in subst (λ (x : PeerState). Carries x.peer x.slots) (sym (w.2 ∙ same n w.0 w.1)) (all.carries (sym f ∙ full) n w.0 w.1);
+  spoken = λ full room n t e.
+      let w = was ns note h n t k p e in
+      subst (λ (x : PeerState). Spoken me n x.peer (view_in u.views me n) u.books) (sym (w.2 ∙ same n w.0 w.1))
+      (subst (λ (x : List View). Spoken me n w.0.peer (view_in x me n) u.books) (sym v)
+      (subst (λ (x : SeenBooks). Spoken me n w.0.peer (view_in umpire.views me n) x) (sym b) (all.spoken (sym f ∙ full) (ap (λ (x : SeenBooks). x.full) (sym b) ∙ room) n w.0 w.1)));
+}
+
+-- bits that are no regular message of a peer
+unread : (bits : List Bool) (h : Host) → (r : Result Leader Short) → leader_in bits ≡ r → ((leader : Leader) → r ≡ Ok leader → (leader.kind == 0) ≡ true → state_of h leader.host ≡ None)
+    → (m : ℕ) (s : PeerState) → state_of h m ≡ Some s → (if names m (HostNote.In bits (received_in bits h)) then note_for (HostNote.In bits (received_in bits h)) s else s) ≡ s
+unread bits h (Err short) e f m s there = ap (λ (r : Result Leader Short). if is_this_number m (peer_of_leader r) then bits_for r bits s else s) e
+unread bits h (Ok leader) e f m s there = ap (λ (r : Result Leader Short). if is_this_number m (peer_of_leader r) then bits_for r bits s else s) e ∙ by (leader.kind == 0) refl (leader.host == m) refl
+  where
+    by : (z : Bool) → (leader.kind == 0) ≡ z → (b : Bool) → (leader.host == m) ≡ b → (if is_this_number m (if z then Some leader.host else None) then message_after leader.link bits (message_in bits) s else s) ≡ s
+    by false z b e = refl
+    by true z true e =
+        let nay : None ≡ Some s = sym (f leader refl z) ∙ ap (state_of h) (eqb-true leader.host m e) ∙ there in
+        absurd (cc nay)
+    by true z false e = ap (λ (b : Bool). if b then message_after leader.link bits (message_in bits) s else s) e
+
+-- two peers are not the same
+pub not_both : (me n m : ℕ) → (n == m) ≡ false → (me == me && n == m) ≡ false
+not_both me n m e = ap (λ (b : Bool). me == me && b) e ∙ by (me == me)
+  where
+    by : (b : Bool) → (b && false) ≡ false
+    by true = refl
+    by false = refl
+
+-- a regular message of another host
+coming_talks : (ns : List ℕ) (me : ℕ) (h : Host) (umpire : Umpire) (bits : List Bool) (leader : Leader) → Holds ns h → me < 256 → IsHostSaid (HostNote.In bits (received_in bits h)) h → leader_in bits ≡ Ok leader → (leader.host == me) ≡ false → (leader.kind == 0) ≡ true
+    → Follows me h umpire → AllReady h → AllSeen me h umpire → AllSpoken me h umpire
+    → AllSpoken me (after_note (HostNote.In bits (received_in bits h)) h) (after_said (after_in (sees umpire me) me leader.host leader.link) me leader.host (turn_at (after_in (sees umpire me) me leader.host leader.link) me leader.host leader.host false) true (message_in bits))
+coming_talks ns me h umpire bits leader k l p led away zero follows ready seen all = record { tidy = tidy; carries = carries; spoken = spoken }
+  where
+    n : ℕ
+    n = leader.host
+
+    A : Umpire
+    A = after_in (sees umpire me) me n leader.link
+
+    now : Umpire
+    now = after_said A me n (turn_at A me n n false) true (message_in bits)
+
+    note : HostNote
+    note = HostNote.In bits (received_in bits h)
+
+    views : A.views ≡ umpire.views
+    views = go (judges_coming (sees umpire me) me n)
+      where
+        go : (b : Bool) → (if b then record (sees umpire me) { kept = with_coming umpire.kept (place_of n me leader.link umpire.kept) } else sees umpire me).views ≡ umpire.views
+        go true = refl
+        go false = refl
+
+    room : A.full ≡ umpire.full
+    room = go (judges_coming (sees umpire me) me n)
+      where
+        go : (b : Bool) → (if b then record (sees umpire me) { kept = with_coming umpire.kept (place_of n me leader.link umpire.kept) } else sees umpire me).full ≡ umpire.full
+        go true = refl
+        go false = refl
+
+    books : A.books ≡ umpire.books
+    books = in_books (sees umpire me) me n leader.link
+
+    reads : Reads A.books now.books
+    reads = said_reads A me n n false true (message_in bits)
+
+    open_before : now.full ≡ false → umpire.full ≡ false
+    open_before full = sym room ∙ sym (said_keeps A me n (turn_at A me n n false) true (message_in bits)).1 ∙ full
+
+    roomy_before : now.books.full ≡ false → umpire.books.full ≡ false
+    roomy_before f = ap (λ (x : SeenBooks). x.full) (sym books) ∙ reads.room f
+
+    tidy : now.books.full ≡ false → Tidy now.books
+    tidy f = reads.tidy f (subst Tidy (sym books) (all.tidy (roomy_before f)))
+
+    become : (m : ℕ) (s t : PeerState) → t ≡ (if names m note then note_for note s else s) → t ≡ (if n == m then message_after leader.link bits (message_in bits) s else s)
+    become m s t e =
+        e ∙ ap (λ (r : Result Leader Short). if is_this_number m (peer_of_leader r) then bits_for r bits s else s) led
+        ∙ ap (λ (z : Bool). if is_this_number m (if z then Some n else None) then message_after leader.link bits (message_in bits) s else s) zero
+
+    carries : now.full ≡ false → (m : ℕ) (t : PeerState) → state_of (after_note note h) m ≡ Some t → Carries t.peer t.slots
+    carries full m t e =
+        let w = was ns note h m t k p e in
+        subst (λ (x : PeerState). Carries x.peer x.slots) (sym (become m w.0 t w.2)) (by w.0 w.1 (n == m))
+      where
+        by : (s : PeerState) → state_of h m ≡ Some s → (b : Bool) → Carries (if b then message_after leader.link bits (message_in bits) s else s).peer (if b then message_after leader.link bits (message_in bits) s else s).slots
+        by s there true =
+            let c = all.carries (open_before full) m s there in
+            let o = seen.each (open_before full) m s there in
+            message_carries leader.link bits (message_in bits) s (ready m s there).fine.good.sound o.used (message_sound leader.link bits s (sound_of s (is_quiet s.slots) (view_in umpire.views me m) c o.stands)).ends c
+        by s there false = all.carries (open_before full) m s there
+
+    spoken : now.full ≡ false → now.books.full ≡ false → (m : ℕ) (t : PeerState) → state_of (after_note note h) m ≡ Some t → Spoken me m t.peer (view_in now.views me m) now.books
+    spoken full f m t e = go (was ns note h m t k p e)
+      where
+        go : (s : PeerState) × (state_of h m ≡ Some s) × (t ≡ (if names m note then note_for note s else s)) → Spoken me m t.peer (view_in now.views me m) now.books
+        go w = by (eqb_tells n m)
+          where
+            s : PeerState
+            s = w.0
+
+            turned : Spoken me m s.peer (view_in umpire.views me m) umpire.books
+            turned = all.spoken (open_before full) (roomy_before f) m s w.1
+
+            here : n ≡ m → (n == m) ≡ true → Spoken me m t.peer (view_in now.views me m) now.books
+            here same eq =
+                subst (λ (x : PeerState). Spoken me m x.peer (view_in now.views me m) now.books) (sym (become m s t w.2 ∙ ap (λ (b : Bool). if b then message_after leader.link bits (message_in bits) s else s) eq))
+                (subst (λ (j : ℕ). Spoken me j (message_after leader.link bits (message_in bits) s).peer (view_in now.views me j) now.books) same (said (message_in bits) refl))
+              where
+                there : state_of h n ≡ Some s
+                there = ap (state_of h) same ∙ w.1
+
+                small : n < 256
+                small = (k.good n s there).0
+
+                o : Seen s (view_in umpire.views me n)
+                o = seen.each (open_before full) n s there
+
+                v : View
+                v = view_in A.views me n
+
+                is_view : v ≡ view_in umpire.views me n
+                is_view = ap (λ (x : List View). view_in x me n) views
+
+                at_n : Stands s.peer (is_quiet s.slots) v
+                at_n = subst (λ (x : View). Stands s.peer (is_quiet s.slots) x) (sym is_view) o.stands
+
+                of_n : Stands s.peer (is_quiet s.slots) (view_of A me n)
+                of_n = stands_as s.peer (is_quiet s.slots) v v.rests v.crowded (v.told && not A.full) refl (not_full v.told A.full at_n.phased.told (room ∙ open_before full)) at_n
+
+                busy : Sees (is_quiet s.slots) (busy_link me n A.kept)
+                busy = sees_busy me n A.kept s ((coming_keeps me h (sees umpire me) n leader.link away follows (room ∙ open_before full)).agrees n s there) o.used
+
+                spoken_v : A.books.full ≡ false → Spoken me n s.peer v A.books
+                spoken_v g =
+                    subst (λ (x : View). Spoken me n s.peer x A.books) (sym is_view)
+                    (subst (λ (x : SeenBooks). Spoken me n s.peer (view_in umpire.views me n) x) (sym books) (all.spoken (open_before full) (ap (λ (x : SeenBooks). x.full) (sym books) ∙ g) n s there))
+
+                known : Known me n s.peer (view_of A me n) A.books
+                known g = (spoken_as me n s.peer v (view_of A me n) A.books (λ r. r) refl (spoken_v g), subst Tidy (sym books) (all.tidy (ap (λ (x : SeenBooks). x.full) (sym books) ∙ g)))
+
+                said : (r : Result Message MessageFault) → message_in bits ≡ r → Spoken me n (message_after leader.link bits (message_in bits) s).peer (view_in now.views me n) now.books
+                said (Err fault) g =
+                    subst (λ (r : Result Message MessageFault). Spoken me n (message_after leader.link bits r s).peer (view_in (after_said A me n (turn_at A me n n false) true r).views me n) (after_said A me n (turn_at A me n n false) true r).books) (sym g)
+                    (spoken_v (ap (λ (r : Result Message MessageFault). (after_said A me n (turn_at A me n n false) true r).books.full) (sym g) ∙ f))
+                said (Ok x) g =
+                    subst (λ (r : Result Message MessageFault). Spoken me n (message_after leader.link bits r s).peer (view_in (after_said A me n (turn_at A me n n false) true r).views me n) (after_said A me n (turn_at A me n n false) true r).books) (sym g)
+                    read_on
+                  where
+                    link : x.leader.link ≡ leader.link
+                    link =
+                        let ok : ◌≡◌ {A = Result Leader Short} (Ok x.leader) (Ok leader) = sym (message_leader bits x g) ∙ led in
+                        let is : x.leader ≡ leader = cc ok in
+                        ap (λ (l : Leader). l.link) is
+
+                    after : View
+                    after = after_read (judged_reading x) (record { by = n; sent = false; busy = busy_link me n A.kept; zero = knows_zero A me n }) x.text (view_of A me n)
+
+                    here_room : (after_said A me n (turn_at A me n n false) true (Ok x)).books.full ≡ false
+                    here_room = ap (λ (r : Result Message MessageFault). (after_said A me n (turn_at A me n n false) true r).books.full) (sym g) ∙ f
+
+                    read_on : Spoken me n (message_after leader.link bits (Ok x) s).peer (view_in (after_said A me n (turn_at A me n n false) true (Ok x)).views me n) (after_said A me n (turn_at A me n n false) true (Ok x)).books
+                    read_on =
+                        subst (λ (u : View). Spoken me n (message_after leader.link bits (Ok x) s).peer u (after_said A me n (turn_at A me n n false) true (Ok x)).books) (sym (view_same A.views me n after (ap length views ∙ seen.long) l small))
+                        (subst (λ (j : ℕ). Spoken me n (message_after j bits (Ok x) s).peer after (after_said A me n (turn_at A me n n false) true (Ok x)).books) link
+                        (message_heard me n (busy_link me n A.kept) (knows_zero A me n) bits x s (view_of A me n) A.books busy (quiet_tells s.slots o.used) of_n (ready n s there).fine.good (borne_of s (all.carries (open_before full) n s there)) known here_room))
+
+            elsewhere : n ≢ m → (n == m) ≡ false → Spoken me m t.peer (view_in now.views me m) now.books
+            elsewhere d eq =
+                subst (λ (x : PeerState). Spoken me m x.peer (view_in now.views me m) now.books) (sym (become m s t w.2 ∙ ap (λ (b : Bool). if b then message_after leader.link bits (message_in bits) s else s) eq))
+                (subst (λ (u : View). Spoken me m s.peer u now.books) (sym (said_other A me n m n false true (message_in bits) (λ e. d (sym e)) ∙ ap (λ (x : List View). view_in x me m) views))
+                (spoken_alike me m s.peer (view_in umpire.views me m) A.books now.books (said_alikes A me n n false true (message_in bits) me m (not_both me n m eq))
+                (subst (λ (x : SeenBooks). Spoken me m s.peer (view_in umpire.views me m) x) (sym books) turned)))
+
+            by : (((n == m) ≡ true) × (n ≡ m)) ⊎ (((n == m) ≡ false) × (n ≢ m)) → Spoken me m t.peer (view_in now.views me m) now.books
+            by (inl same) = here same.1 same.0
+            by (inr other) = elsewhere other.1 other.0
+
+-- an answer of a peer
+answer_talks : (ns : List ℕ) (me : ℕ) (h : Host) (umpire u : Umpire) (bits : List Bool) (leader : Leader) (note : HostNote) → Holds ns h → IsHostSaid note h → note ≡ HostNote.Answered leader.host leader.link (answer_of leader.kind) (received_in bits h)
+    → u.views ≡ umpire.views → u.full ≡ umpire.full → u.books ≡ umpire.books → AllReady h → AllSeen me h umpire → AllSpoken me h umpire → AllSpoken me (after_note note h) u
+answer_talks ns me h umpire u bits leader note k p is v f b ready seen all = record {
+  tidy = λ room. subst Tidy (sym b) (all.tidy (ap (λ (x : SeenBooks). x.full) (sym b) ∙ room));
+  carries = λ full n t e. let w = was ns note h n t k p e in subst (λ (x : PeerState). Carries x.peer x.slots) (sym (become n w.0 t w.2)) (held (sym f ∙ full) n w.0 w.1 (leader.host == n));
+  spoken = λ full room n t e.
+      let w = was ns note h n t k p e in
+      subst (λ (x : PeerState). Spoken me n x.peer (view_in u.views me n) u.books) (sym (become n w.0 t w.2))
+      (subst (λ (x : List View). Spoken me n (now w.0 (leader.host == n)).peer (view_in x me n) u.books) (sym v)
+      (subst (λ (x : SeenBooks). Spoken me n (now w.0 (leader.host == n)).peer (view_in umpire.views me n) x) (sym b)
+      (said (sym f ∙ full) (ap (λ (x : SeenBooks). x.full) (sym b) ∙ room) n w.0 w.1 (leader.host == n))));
+}
+  where
+    now : PeerState → Bool → PeerState
+    now s x = if x then answer_comes leader.link (answer_of leader.kind) s else s
+
+    become : (n : ℕ) (s t : PeerState) → t ≡ (if names n note then note_for note s else s) → t ≡ now s (leader.host == n)
+    become n s t e = e ∙ ap (λ (x : HostNote). if names n x then note_for x s else s) is
+
+    held : umpire.full ≡ false → (n : ℕ) (s : PeerState) → state_of h n ≡ Some s → (x : Bool) → Carries (now s x).peer (now s x).slots
+    held full n s there true =
+        let c = all.carries full n s there in
+        let o = seen.each full n s there in
+        answer_carries leader.link (answer_of leader.kind) s (ready n s there).fine.good.sound o.used (answer_sound leader.link (answer_of leader.kind) s (sound_of s (is_quiet s.slots) (view_in umpire.views me n) c o.stands)).ends c
+    held full n s there false = all.carries full n s there
+
+    said : umpire.full ≡ false → umpire.books.full ≡ false → (n : ℕ) (s : PeerState) → state_of h n ≡ Some s → (x : Bool) → Spoken me n (now s x).peer (view_in umpire.views me n) umpire.books
+    said full room n s there true =
+        let o = seen.each full n s there in
+        answer_spoken me n leader.link (answer_of leader.kind) s (view_in umpire.views me n) umpire.books (ready n s there).fine.good (record { none = o.stands.down; calm = o.stands.phased.calm }) (all.spoken full room n s there)
+    said full room n s there false = all.spoken full room n s there
+
+pub in_talks : (ns : List ℕ) (me : ℕ) (h : Host) (umpire : Umpire) (bits : List Bool) (note : HostNote) → Holds ns h → is_one_of me ns ≡ false → me < 256 → IsHostSaid note h → note ≡ note_of_bits bits h
+    → Follows me h umpire → AllReady h → AllSeen me h umpire → AllSpoken me h umpire → AllSpoken me (after_note note h) (after_record umpire FromImp me bits)
+in_talks ns me h umpire bits note k away small p is follows ready seen all = go (leader_in bits) refl
+  where
+    v : Umpire
+    v = sees umpire me
+
+    now : Host
+    now = after_note note h
+
+    turned : (after : Umpire) → after_record umpire FromImp me bits ≡ after → AllSpoken me now after → AllSpoken me now (after_record umpire FromImp me bits)
+    turned after e g = subst (λ (u : Umpire). AllSpoken me now u) (sym e) g
+
+    plain : (u : Umpire) → u.views ≡ umpire.views → u.full ≡ umpire.full → u.books ≡ umpire.books → note ≡ HostNote.In bits (received_in bits h) → (r : Result Leader Short) → leader_in bits ≡ r
+        → ((leader : Leader) → r ≡ Ok leader → (leader.kind == 0) ≡ true → state_of h leader.host ≡ None) → AllSpoken me now u
+    plain u a b c e r led none =
+        subst (λ (x : HostNote). AllSpoken me (after_note x h) u) (sym e)
+        (calm_talks ns me (HostNote.In bits (received_in bits h)) h umpire u k (subst (λ (x : HostNote). IsHostSaid x h) e p) a b c (unread bits h r led none) all)
+
+    not_regular : (leader : Leader) → (leader.kind == 0) ≡ false → (other : Leader) → ◌≡◌ {A = Result Leader Short} (Ok leader) (Ok other) → (other.kind == 0) ≡ true → state_of h other.host ≡ None
+    not_regular leader z other e y =
+        let same : leader ≡ other = cc e in
+        let nay : false ≡ true = sym z ∙ ap (λ (x : Leader). x.kind == 0) same ∙ y in
+        absurd (cc nay)
+
+    answer_views : (kind n on : ℕ) → (umpire_after_answer v kind me n on).views ≡ umpire.views
+    answer_views kind n on = by umpire.full
+      where
+        by : (b : Bool) → (if b then v else record v { kept = with_answer (view_in umpire.views me n).known kind umpire.kept (place_of me n on umpire.kept) }).views ≡ umpire.views
+        by true = refl
+        by false = refl
+
+    answer_room : (kind n on : ℕ) → (umpire_after_answer v kind me n on).full ≡ umpire.full
+    answer_room kind n on = by umpire.full
+      where
+        by : (b : Bool) → (if b then v else record v { kept = with_answer (view_in umpire.views me n).known kind umpire.kept (place_of me n on umpire.kept) }).full ≡ umpire.full
+        by true = refl
+        by false = refl
+
+    -- the host itself is no peer
+    no_peer : (leader : Leader) → (leader.host == me) ≡ true → state_of h leader.host ≡ None
+    no_peer leader own = by (state_of h leader.host) refl
+      where
+        by : (o : Option PeerState) → state_of h leader.host ≡ o → state_of h leader.host ≡ None
+        by None e = e
+        by (Some s) e =
+            let here : is_one_of leader.host ns ≡ true = ap (is_one_of leader.host) (sym k.numbers) ∙ peer_there h.peers leader.host s e in
+            let nay : true ≡ false = sym own ∙ apart me leader.host ns away here in
+            absurd (cc nay)
+
+    by : (leader : Leader) → leader_in bits ≡ Ok leader → (b : Bool) → (leader.host == me) ≡ b → (z : Bool) → (leader.kind == 0) ≡ z → (x : Bool) → is_answer leader.kind ≡ x → (o : Option PeerState) → state_of h leader.host ≡ o
+        → note ≡ note_as (if x then if_peer o leader else None) bits (received_in bits h)
+        → AllSpoken me now (after_record umpire FromImp me bits)
+    by leader led b own true zero true answer o there e = let nay : true ≡ false = sym zero ∙ no_regular leader.kind answer in absurd (cc nay)
+    by leader led b own false zero false answer o there e = turned v (other_is umpire me bits leader b led own zero answer) (plain v refl refl refl e (Ok leader) led (not_regular leader zero))
+    by leader led true own true zero false answer o there e =
+        turned v (own_is umpire me bits leader true false led own zero answer)
+        (plain v refl refl refl e (Ok leader) led (λ other q y. let same : leader ≡ other = cc q in ap (λ (x : Leader). state_of h x.host) (sym same) ∙ no_peer leader own))
+    by leader led false own true zero false answer o there e =
+        subst (λ (u : Umpire). AllSpoken me now u) (sym (in_is umpire me bits leader false led own zero answer))
+        (subst (λ (x : HostNote). AllSpoken me (after_note x h) (after_said (after_in v me leader.host leader.link) me leader.host (turn_at (after_in v me leader.host leader.link) me leader.host leader.host false) true (message_in bits))) (sym e)
+        (coming_talks ns me h umpire bits leader k small (subst (λ (x : HostNote). IsHostSaid x h) e p) led own zero follows ready seen all))
+    by leader led true own false zero true answer None there e = turned v (own_is umpire me bits leader false true led own zero answer) (plain v refl refl refl e (Ok leader) led (not_regular leader zero))
+    by leader led false own false zero true answer None there e =
+        let after = umpire_after_answer v leader.kind me leader.host leader.link in
+        turned after (answer_is umpire me bits leader led own zero answer)
+        (plain after (answer_views leader.kind leader.host leader.link) (answer_room leader.kind leader.host leader.link) (answer_books v leader.kind me leader.host leader.link) e (Ok leader) led (not_regular leader zero))
+    by leader led true own false zero true answer (Some s) there e = let nay : None ≡ Some s = sym (no_peer leader own) ∙ there in absurd (cc nay)
+    by leader led false own false zero true answer (Some s) there e =
+        let after = umpire_after_answer v leader.kind me leader.host leader.link in
+        turned after (answer_is umpire me bits leader led own zero answer)
+        (answer_talks ns me h umpire after bits leader note k p e (answer_views leader.kind leader.host leader.link) (answer_room leader.kind leader.host leader.link) (answer_books v leader.kind me leader.host leader.link) ready seen all)
+
+    go : (r : Result Leader Short) → leader_in bits ≡ r → AllSpoken me now (after_record umpire FromImp me bits)
+    go (Err short) e = turned v (short_is umpire me bits short e) (plain v refl refl refl (is ∙ ap (λ (r : Result Leader Short). note_as (answer_with r h) bits (received_in bits h)) e) (Err short) e (λ leader q. absurd (cc q)))
+    go (Ok leader) e =
+        by leader e (leader.host == me) refl (leader.kind == 0) refl (is_answer leader.kind) refl (state_of h leader.host) refl
+        (is ∙ ap (λ (r : Result Leader Short). note_as (answer_with r h) bits (received_in bits h)) e)

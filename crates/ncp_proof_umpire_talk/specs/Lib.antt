@@ -1,0 +1,2 @@
+pub mod AllRules
+pub mod Talking

@@ -1,0 +1,23 @@
+//! That no host is found to break any rule at its own interface.
+ghost use Rattle.std.specs.Prelude.{◌≡◌, ◌∷◌, [], true, false};
+ghost use Rattle.std.specs.List.{list_all};
+ghost use Rattle.ncp_umpire.specs.declared.finding.Rule.{Rule};
+ghost use Rattle.ncp_umpire.specs.Judged.{new_umpire, by_host};
+ghost use Rattle.ncp_proof_umpire.specs.Recordings.{findings_from, spares, is_of_messages_and_phase, is_of_requests_and_replies};
+ghost use Rattle.ncp_proof_umpire_talk.specs.AllRules.{NobodyBlamedAtAll};
+ghost use Rattle.ncp_proof_umpire_talk.specs.Talking.{echo_before_its_reply};
+
+/// No host is found to break any rule at its own interface: whatever calls are made, whatever bits come, and whatever is
+/// recorded at other interfaces, an audit finds nothing against it in its whole recording, by whatever rules are asked for,
+/// where its number and those of its calls have their places.
+pub fn no_host_is_blamed_by_any_rule()
+    ensures { NobodyBlamedAtAll }
+{}
+
+/// That this law speaks of something: a host that sends a second ECO before the ERP is found to be wrong, by a rule of
+/// requests and replies, and by none of messages and the phase.
+pub fn wrong_talk_is_blamed()
+    ensures found { findings_from (new_umpire false) 1 echo_before_its_reply ≡ by_host 1 (Rule.EcoAgain 2) ∷ [] }
+    ensures blamed { list_all (spares is_of_requests_and_replies 1) (findings_from (new_umpire false) 1 echo_before_its_reply) ≡ false }
+    ensures spared { list_all (spares is_of_messages_and_phase 1) (findings_from (new_umpire false) 1 echo_before_its_reply) ≡ true }
+{}
