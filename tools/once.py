@@ -1,7 +1,8 @@
 #!/usr/bin/env python3
 """The toolchain's rt as a first build wants it.
 
-    tools/once.py WORD..        as rt WORD..
+    tools/once.py WORD..             as rt WORD..
+    tools/once.py --sums WORD..      the same with the sums alone: what is proved is kept, as the gate wants it
 
 rt knows whether a crate is built by a sum over its sources and over the sums of its libraries. There is a kit that takes
 those anew on each way down to a library, and below a program there are thousands of ways: minutes in which nothing is
@@ -77,18 +78,21 @@ def for_one_build(call, is_library, keeping):
 
 
 def main():
+    sums_alone = sys.argv[1:2] == ["--sums"]
+    words = sys.argv[2:] if sums_alone else sys.argv[1:]
     found = shutil.which("rt")
     if not found:
         sys.exit("rt is not found: the toolchain is not on the path")
     script, name = os.path.realpath(found), kit()
     if name not in KNOWN:
         print(f"tools/once.py: {name} is not a kit that this was tried with: this is the plain rt", file=sys.stderr, flush=True)
-        os.execv(script, ["rt", *sys.argv[1:]])
+        os.execv(script, ["rt", *words])
     rt = loaded(script)
     crate = rt.rtlib.Crate
     crate.stamp = each_once(crate.stamp)
-    crate.call = for_one_build(crate.call, crate.makes_rlib, rt.rtlib.KEPT)
-    sys.exit(rt.main(sys.argv[1:]))
+    if not sums_alone:
+        crate.call = for_one_build(crate.call, crate.makes_rlib, rt.rtlib.KEPT)
+    sys.exit(rt.main(words))
 
 
 if __name__ == "__main__":

@@ -7,7 +7,7 @@ import unittest
 
 TOP = os.path.dirname(os.path.dirname(os.path.dirname(os.path.abspath(__file__))))
 RT = """#!/bin/sh
-echo "a crate is proved"
+echo "rt $*"
 echo "$VERDICT"
 exit $STATUS
 """
@@ -24,6 +24,7 @@ class Gate(unittest.TestCase):
         self.top = f"{self.room.name}/top"
         os.makedirs(f"{self.top}/tools")
         shutil.copy(f"{TOP}/test", self.top)
+        shutil.copy(f"{TOP}/tools/once.py", f"{self.top}/tools")
         self.write(f"{self.room.name}/bin/rt", RT)
         self.write(f"{self.top}/tools/audit", STEP)
         self.write(f"{self.top}/docs/believed.py", "")
@@ -44,6 +45,7 @@ class Gate(unittest.TestCase):
     def test_a_green_run_ends_with_the_line_of_the_gate(self):
         status, said, last = self.gate("7 passed, 0 failed")
         self.assertEqual((status, last), (0, "7 passed, 0 failed"), said)
+        self.assertIn("rt ci\n", said)
         self.assertIn("tools/audit --changed", said)
         self.assertIn("skipped: there is no tools/prebuild", said)
 
