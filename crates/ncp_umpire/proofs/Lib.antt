@@ -12,3 +12,5 @@ pub mod LinkOrder
 pub mod Passing
 pub mod Parted
 pub mod Following
+pub mod Reached
+pub mod Keeping

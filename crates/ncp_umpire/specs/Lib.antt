@@ -13,3 +13,5 @@ pub mod Speaking
 pub mod Talked
 pub mod Scenes
 pub mod Examples
+pub mod Telling
+pub mod ViewLends

@@ -1,6 +1,6 @@
 -- What is judged of a message and of its items, by what the code keeps together: a scene, a command about a connection, a
 -- link between two hosts, and a message of which it is judged what it says.
-use Rattle.std.specs.Prelude.{ℕ, not, Bool, List, Option, Result}
+use Rattle.std.specs.Prelude.{ℕ, Bool, List, Option, Result}
 use Rattle.std.specs.Option.{option_to_list}
 use Rattle.ncp_leader.specs.Message.{Message}
 use Rattle.ncp_terms.specs.declared.command.Command.{Command}
@@ -21,8 +21,6 @@ use Rattle.ncp_umpire.specs.Lives.{SeenBooks, place_with_sockets}
 use Rattle.ncp_umpire.specs.Phases.{after_items, after_room}
 use Rattle.ncp_umpire.specs.Requests.{request_verdict, books_after_request, cls_verdict, cls_rule, after_cls}
 use Rattle.ncp_umpire.specs.Messages.{judged_reading}
-use Rattle.ncp_umpire.specs.Slots.{has_room, with_out}
-use Rattle.ncp_umpire.specs.Tables.{with_view}
 use Rattle.ncp_umpire.specs.Talked.{all_findings, talked_findings}
 use Rattle.ncp_umpire.specs.Judged.{is_roomy, items_said, control_findings, read_findings, books_after_read, out_finding, unsent_finding, regular_findings, after_regular, message_findings, after_message}
 
@@ -75,13 +73,6 @@ found_going_out umpire line bits = option_to_list (out_finding umpire line.at li
 
 abbrev pub found_coming : Umpire → Line → List Bool → List Finding
 found_coming umpire line bits = option_to_list (unsent_finding umpire line.at line.peer line.link bits)
-
-abbrev pub after_keeping : Umpire → View → Option ℕ → Kept → Umpire
-after_keeping umpire view place new = record umpire {
-  full = not (has_room umpire.kept place);
-  views = with_view umpire.views new.from new.to view;
-  kept = with_out umpire.kept place new;
-}
 
 abbrev pub found_of_regular : Umpire → Heard → Message → List Finding
 found_of_regular umpire heard message = regular_findings umpire heard.line.at heard.line.peer heard.turn heard.fresh message

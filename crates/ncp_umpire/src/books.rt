@@ -2,7 +2,7 @@
 ghost use Rattle.std.specs.Prelude.{◌≡◌, ◌<◌, ◌≤◌, not, true, length, map, IfOk, IfSome};
 ghost use Rattle.std.specs.List.{filter, position, remove};
 ghost use Rattle.std.specs.Vec.{vec_capacity};
-ghost use Rattle.ncp_umpire.specs.Lives.{no_books, life_in_place, life_of, user_of, place_with_sockets, place_with_link, is_marked, with_life, put_life, with_mark, marks_now, marks_no_more, with_due, is_topic, is_life_between, is_mark_between, is_due_between, books_cleared, rests_link, rests_pair};
+ghost use Rattle.ncp_umpire.specs.Lives.{no_books, life_in_place, life_found, user_of, place_with_sockets, place_with_link, is_marked, with_life, put_life, with_mark, marks_now, marks_no_more, with_due, is_topic, is_life_between, is_mark_between, is_due_between, books_cleared, rests_link, rests_pair};
 ghost use Rattle.ncp_umpire.specs.Replies.{is_due_of, is_own, is_wanted, skipped, unsure, dues_struck, dues_left};
 ghost use Rattle.ncp_umpire.specs.Speaking.{after_all_said};
 
@@ -136,11 +136,12 @@ impl Books {
             .position(|life| life.is_used(at, peer, host, link))
     }
 
-    /// The connection of two sockets.
-    pub(crate) fn life_of(&self, at: u8, peer: u8, local: u32, remote: u32) -> Option<Life>
-        ensures { result ≡ life_of at peer local remote self.now.lives }
+    /// The connection at a place, if there is one.
+    pub(crate) fn life_found(&self, place: Option<usize>) -> Option<Life>
+        requires { IfSome place (λ p. p < length self.now.lives) }
+        ensures { result ≡ life_found self.now.lives place }
     {
-        match self.place_of_pair(at, peer, local, remote) {
+        match place {
             Some(place) => Some(self.lives[place]),
             None => None,
         }

@@ -1,9 +1,10 @@
 //! `Slot`, and `Kept`: a message that went out.
 ghost use Rattle.std.specs.Prelude.{◌≡◌};
 ghost use Rattle.ncp_umpire.specs.Requests.{is_busy_on};
-ghost use Rattle.ncp_umpire.specs.Slots.{is_slot_empty, is_of, makes_link_busy, same_bits, same_but_host};
+ghost use Rattle.ncp_umpire.specs.Slots.{is_slot_empty, is_of, makes_link_busy, same_bits, same_but_host, gone_out};
 
-use ncp_bits::Bits;
+use crate::umpire::Line;
+use ncp_bits::{Bits, Part};
 
 /// What is seen of a link of a host: what became of the last message that went out on it.
 #[derive(Clone, Copy, Debug, Drop, PartialEq, Eq)]
@@ -52,7 +53,41 @@ fn same_but_host(one: &Bits, other: &Bits) -> bool
             == other.slice(HOST_END, other.len() - HOST_END)
 }
 
+// Writes bits over others.
+fn write_over(bits: &mut Bits, part: Part<'_>)
+    ensures { bits.new ≡ part.entry }
+{
+    // A part is short enough.
+    let _len = part.len();
+    bits.copy_from_bytes(&[], 0).unwrap();
+    bits.append(part).unwrap();
+}
+
 impl Kept {
+    /// One that goes out on a link.
+    pub(crate) fn new(line: Line, message: &Bits) -> Kept
+        ensures { result ≡ gone_out line.at line.peer line.link message.now }
+    {
+        Kept {
+            from: line.at,
+            to: line.peer,
+            link: line.link,
+            slot: Slot::Out,
+            message: message.whole().to_bits(),
+        }
+    }
+
+    /// Another one goes out, and is written over this one.
+    pub(crate) fn write(&mut self, line: Line, message: &Bits)
+        ensures { self.new ≡ gone_out line.at line.peer line.link message.now }
+    {
+        self.from = line.at;
+        self.to = line.peer;
+        self.link = line.link;
+        self.slot = Slot::Out;
+        write_over(&mut self.message, message.whole());
+    }
+
     /// Whether it is of this link from one host to another.
     pub(crate) fn is_of(&self, from: u8, to: u8, link: u8) -> bool
         ensures { result ≡ is_of from to link self.now }

@@ -4,7 +4,7 @@
 //! - *Use:* `ncp_play_audit` judges a message file with it, record by record.
 //! - *Proved:* the findings of a record, and the umpire after it, are those of the definitions (`Umpire::judge`,
 //!   clauses `found` and `after`). That it finds no rule broken by a host at its own interface: `ncp_proof_umpire_talk`; and
-//!   no rule of messages and the phase in the file of two to eight hosts: `ncp_proof_umpire_many`.
+//!   none at all in the file of two to eight hosts: `ncp_proof_umpire_whole`.
 //! - *Tests:* worked cases in `laws`; captures in `audits` of `ncp_test_files`.
 #![tactic(auto)]
 

@@ -99,14 +99,14 @@ impl Life {
     pub(crate) fn is_pair(&self, at: u8, peer: u8, local: u32, remote: u32) -> bool
         ensures { result ≡ is_of_sockets at peer local remote self.now }
     {
-        self.at == at && self.peer == peer && self.local == local && self.remote == remote
+        self.local == local && self.remote == remote && self.at == at && self.peer == peer
     }
 
     /// Whether the host, or the other, receives on this link.
     pub(crate) fn is_used(&self, at: u8, peer: u8, host: bool, link: u8) -> bool
         ensures { result ≡ has_link at peer host link self.now }
     {
-        self.at == at && self.peer == peer && sends(self.local) != host && is_given(self.link, link)
+        is_given(self.link, link) && self.at == at && self.peer == peer && sends(self.local) != host
     }
 
     /// Whether the host, or the other, sent its CLS.

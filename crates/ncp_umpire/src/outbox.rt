@@ -1,10 +1,11 @@
 //! `Outbox`: the messages that are out or are to go out again.
-ghost use Rattle.std.specs.Prelude.{◌≡◌, ◌<◌, ◌≤◌, ◌||◌, [], length, IfOk, IfSome};
-ghost use Rattle.std.specs.List.{position, list_any};
+ghost use Rattle.std.specs.Prelude.{◌≡◌, ◌<◌, ◌≤◌, ◌||◌, [], None, length, IfOk, IfSome};
+ghost use Rattle.std.specs.List.{position, list_any, remove};
 ghost use Rattle.ncp_umpire.specs.Requests.{is_busy_on};
 ghost use Rattle.ncp_umpire.specs.Slots.{is_of, makes_link_busy, same_bits, same_but_host, place_of, kept_at, busy_link, gone_out, has_room, with_out, with_kept_slot, with_answered};
 
 use crate::kept::{Kept, Slot};
+use crate::umpire::Line;
 use ncp_bits::Bits;
 use std::alloc::{AllocError, Global};
 use std::marker::Model;
@@ -16,20 +17,22 @@ pub const MAX_KEPT: usize = 4096;
 /// once.
 #[derive(Drop)]
 pub struct Outbox {
+    /// Those after the first `count` are over: the next ones are written over them.
     all: Vec<Kept>,
+    count: usize,
 }
 
 impl Model for Outbox {
-    ghost use Rattle.std.specs.Prelude.{◌≤◌, List};
-    ghost use Rattle.std.specs.Vec.{vec_capacity, vec_len};
+    ghost use Rattle.std.specs.Prelude.{◌≤◌, List, take, length};
+    ghost use Rattle.std.specs.Vec.{vec_capacity};
     ghost use Rattle.ncp_umpire.specs.declared.kept.Kept.{Kept};
     ghost use Rattle.ncp_umpire.specs.declared.outbox.TheConstants.{MAX_KEPT};
 
     ghost Value = { List Kept };
 
-    ghost view = { λ outbox. outbox.all.items };
+    ghost view = { λ outbox. take outbox.count outbox.all.items };
 
-    ghost invariant = { λ outbox. MAX_KEPT ≤ vec_capacity outbox.all };
+    ghost invariant = { λ outbox. (MAX_KEPT ≤ vec_capacity outbox.all) × (outbox.count ≤ length outbox.all.items) };
 }
 
 // The first place of a message of a link.
@@ -62,7 +65,15 @@ impl Outbox {
     {
         Ok(Outbox {
             all: Vec::with_capacity(alloc, MAX_KEPT)?,
+            count: 0,
         })
+    }
+
+    // The messages.
+    fn as_slice(&self) -> &[Kept]
+        ensures { result.now ≡ self.now }
+    {
+        &self.all.as_slice()[..self.count]
     }
 
     /// Where the message of a link is, if one is kept.
@@ -70,15 +81,15 @@ impl Outbox {
         ensures place { result ≡ place_of from to link self.now }
         ensures inside { IfSome result (λ place. place < length self.now) }
     {
-        place_in(self.all.as_slice(), from, to, link)
+        place_in(self.as_slice(), from, to, link)
     }
 
     /// A data link that is busy, if one is.
     pub(crate) fn busy_link(&self, from: u8, to: u8) -> Option<u8>
         ensures { result ≡ busy_link from to self.now }
     {
-        match busy_in(self.all.as_slice(), from, to) {
-            Some(place) => Some(self.all[place].link),
+        match busy_in(self.as_slice(), from, to) {
+            Some(place) => Some(self.as_slice()[place].link),
             None => None,
         }
     }
@@ -87,7 +98,7 @@ impl Outbox {
     pub(crate) fn is_link_busy(&self, from: u8, to: u8, link: u8) -> bool
         ensures { result ≡ list_any (is_busy_on from to link) self.now }
     {
-        is_link_busy_in(self.all.as_slice(), from, to, link)
+        is_link_busy_in(self.as_slice(), from, to, link)
     }
 
     /// What became of the message at a place.
@@ -95,7 +106,7 @@ impl Outbox {
         requires { place < length self.now }
         ensures { result ≡ (kept_at self.now place).slot }
     {
-        self.all[place].slot
+        self.as_slice()[place].slot
     }
 
     /// Whether the message at a place has these bits.
@@ -103,7 +114,7 @@ impl Outbox {
         requires { place < length self.now }
         ensures { result ≡ same_bits (kept_at self.now place).message message.now }
     {
-        self.all[place].is_same(message)
+        self.as_slice()[place].is_same(message)
     }
 
     /// Whether the message at a place has these bits but for the host in its leader.
@@ -111,34 +122,51 @@ impl Outbox {
         requires { place < length self.now }
         ensures { result ≡ same_but_host (kept_at self.now place).message message.now }
     {
-        self.all[place].is_same_but_host(message)
+        self.as_slice()[place].is_same_but_host(message)
     }
 
     /// Keeps a message that went out, in the place of the last one of its link, and answers whether there was room.
-    pub(crate) fn put(&mut self, place: Option<usize>, new: Kept) -> bool
+    pub(crate) fn put(&mut self, place: Option<usize>, line: Line, message: &Bits) -> bool
         requires { IfSome place (λ p. p < length self.old) }
         ensures room { result ≡ has_room self.old place }
-        ensures kept { self.new ≡ with_out self.old place new }
+        ensures kept { self.new ≡ with_out self.old place (gone_out line.at line.peer line.link message.now) }
     {
         match place {
             Some(place) => {
-                self.all[place] = new;
+                self.all[place].write(line, message);
                 true
             }
-            None => self.push(new),
+            None => self.push(line, message),
         }
     }
 
     // Keeps one more, if there is room.
-    fn push(&mut self, new: Kept) -> bool
+    fn push(&mut self, line: Line, message: &Bits) -> bool
         ensures room { result ≡ has_room self.old None }
-        ensures kept { self.new ≡ with_out self.old None new }
+        ensures kept { self.new ≡ with_out self.old None (gone_out line.at line.peer line.link message.now) }
     {
-        if self.all.len() >= MAX_KEPT {
+        if self.count >= MAX_KEPT {
             return false;
         }
-        self.all.push_reserved(new);
+        if self.count < self.all.len() {
+            self.all[self.count].write(line, message);
+        } else {
+            self.all.push_reserved(Kept::new(line, message));
+        }
+        self.count += 1;
         true
+    }
+
+    // Forgets a message.
+    fn forget(&mut self, place: usize)
+        requires { place < length self.old }
+        ensures { self.new ≡ remove self.old place }
+    {
+        let left = self.count - 1;
+        if place < left {
+            let _over = self.all.remove(place);
+        }
+        self.count = left;
     }
 
     /// Says what became of the message at a place.
@@ -155,7 +183,7 @@ impl Outbox {
         ensures { self.new ≡ with_answered known self.old place }
     {
         if known {
-            let _gone = self.all.remove(place);
+            self.forget(place);
         } else {
             self.set(place, Slot::Empty);
         }

@@ -2,7 +2,7 @@
 ghost use Rattle.std.specs.Prelude.{◌≡◌, ◌<◌, ◌≤◌, ◌+◌, ◌++◌, length, Ok, Err};
 ghost use Rattle.std.specs.Option.{option_to_list};
 ghost use Rattle.ncp_umpire.specs.Acts.{act_of};
-ghost use Rattle.ncp_umpire.specs.Phases.{broken_by, sender, is_early, early_finding, after_thing, again_finding, unquiet_finding, first_finding, hears_reset, after_reset_of_host, after_reset_of_peer, after_own_reply, reset_findings, view_after_reset, unasked_finding, after_reply_of_host, after_reply_of_peer, reply_findings, after_untold_reply, view_after_reply, after_room, bad_finding, act_findings, after_act, item_findings, after_item, missing_finding};
+ghost use Rattle.ncp_umpire.specs.Phases.{broken_by, sender, is_early, early_rule, early_finding, after_thing, again_finding, unquiet_finding, first_finding, hears_reset, after_reset_of_host, after_reset_of_peer, after_own_reply, reset_findings, view_after_reset, unasked_finding, after_reply_of_host, after_reply_of_peer, reply_findings, after_untold_reply, view_after_reply, bad_finding, act_findings, after_act, item_findings, after_item, missing_finding};
 ghost use Rattle.ncp_umpire.specs.declared.findings.TheConstants.{MAX_FINDINGS};
 
 use crate::act::{Act, act_of};
@@ -46,60 +46,49 @@ impl Turn {
 // ---- what is neither RST nor RRP
 
 /// Whether a command, a fault or a text comes before the reset is over.
-pub(crate) fn is_early(turn: &Turn, thing: Thing, view: View) -> bool
-    ensures { result ≡ is_early turn.now thing view }
+pub(crate) fn is_early(turn: &Turn, thing: Thing, view: &View) -> bool
+    ensures { result ≡ is_early turn.now thing view.now }
 {
-    let side = turn.sender(view);
+    let side = turn.sender(*view);
     if turn.sent && view.rests && thing == Thing::Text {
         return side.wait.is_waiting();
     }
     !side.began || side.wait.is_waiting() || (turn.sent && view.owes)
 }
 
-// The finding that it does.
-fn early_finding(turn: &Turn, thing: Thing, view: View) -> Option<Finding>
-    ensures { result ≡ early_finding turn.now thing view }
+// What it breaks by that.
+fn early_rule(turn: &Turn, thing: Thing, view: &View) -> Rule
+    ensures { result ≡ early_rule turn.now thing view.now }
 {
-    if !view.told || !is_early(turn, thing, view) {
-        return None;
-    }
-    let side = turn.sender(view);
-    Some(turn.finding(Rule::Early {
+    let side = turn.sender(*view);
+    Rule::Early {
         thing,
         began: side.began,
         waits: side.wait.is_waiting(),
         owes: turn.sent && view.owes,
-    }))
-}
-
-// The view after it.
-fn after_thing(turn: &Turn, thing: Thing, view: View) -> View
-    ensures { result ≡ after_thing turn.now thing view }
-{
-    let early = view.told && is_early(turn, thing, view);
-    View {
-        rests: view.rests || (early && !view.host.wait.is_waiting()),
-        spoilt: view.spoilt || (early && turn.sent),
-        ..view
     }
 }
 
-/// Judges a command, a fault or a text that is neither RST nor RRP, and gives the view after it.
-pub(crate) fn judge_thing(turn: &Turn, thing: Thing, view: View, found: &mut Findings) -> View
+/// Judges a command, a fault or a text that is neither RST nor RRP.
+pub(crate) fn judge_thing(turn: &Turn, thing: Thing, view: &mut View, found: &mut Findings)
     requires { length found.old < MAX_FINDINGS }
-    ensures view { result ≡ after_thing turn.now thing view }
-    ensures found { found.new ≡ found.old ++ option_to_list (early_finding turn.now thing view) }
+    ensures view { view.new ≡ after_thing turn.now thing view.old }
+    ensures found { found.new ≡ found.old ++ option_to_list (early_finding turn.now thing view.old) }
     ensures len { length found.new ≤ length found.old + 1 }
 {
-    found.push_some(early_finding(turn, thing, view));
-    after_thing(turn, thing, view)
+    if !view.told || !is_early(turn, thing, view) {
+        return;
+    }
+    found.push(turn.finding(early_rule(turn, thing, view)));
+    view.rests = view.rests || !view.host.wait.is_waiting();
+    view.spoilt = view.spoilt || turn.sent;
 }
 
 // ---- RST
 
 /// Whether the phase is told from an RST on, if it was not before.
-pub(crate) fn hears_reset(turn: &Turn, view: View) -> bool
-    ensures { result ≡ hears_reset turn.now view }
+pub(crate) fn hears_reset(turn: &Turn, view: &View) -> bool
+    ensures { result ≡ hears_reset turn.now view.now }
 {
     view.told || (turn.zero && !view.host.wait.is_answered())
 }
@@ -194,7 +183,7 @@ fn judge_reset(turn: &Turn, view: View, found: &mut Findings) -> View
     ensures found { found.new ≡ found.old ++ reset_findings turn.now view }
     ensures len { length found.new ≤ length found.old + 3 }
 {
-    if !hears_reset(turn, view) {
+    if !hears_reset(turn, &view) {
         return view;
     }
     found.push_some(again_finding(turn, view));
@@ -315,50 +304,34 @@ fn bad_finding(turn: &Turn, item: &Result<Command, CommandFault>) -> Option<Find
     }
 }
 
-// Judges what an item is to the phase, and gives the view after it.
-fn judge_act(turn: &Turn, act: Act, view: View, found: &mut Findings) -> View
+// Judges what an item is to the phase.
+fn judge_act(turn: &Turn, act: Act, view: &mut View, found: &mut Findings)
     requires { length found.old + 3 ≤ MAX_FINDINGS }
-    ensures view { result ≡ after_act turn.now act view }
-    ensures found { found.new ≡ found.old ++ act_findings turn.now act view }
+    ensures view { view.new ≡ after_act turn.now act view.old }
+    ensures found { found.new ≡ found.old ++ act_findings turn.now act view.old }
     ensures len { length found.new ≤ length found.old + 3 }
 {
     match act {
-        Act::Reset => judge_reset(turn, view, found),
-        Act::Reply => judge_reply(turn, view, found),
+        Act::Reset => *view = judge_reset(turn, *view, found),
+        Act::Reply => *view = judge_reply(turn, *view, found),
         Act::Other(thing) => judge_thing(turn, thing, view, found),
     }
 }
 
-/// Judges an item of a control text, and gives the view after it.
+/// Judges an item of a control text.
 pub(crate) fn judge_item(
     turn: &Turn,
     item: &Result<Command, CommandFault>,
-    view: View,
+    view: &mut View,
     found: &mut Findings,
-) -> View
+)
     requires { length found.old + 4 ≤ MAX_FINDINGS }
-    ensures view { result ≡ after_item turn.now item.now view }
-    ensures found { found.new ≡ found.old ++ item_findings turn.now item.now view }
+    ensures view { view.new ≡ after_item turn.now item.now view.old }
+    ensures found { found.new ≡ found.old ++ item_findings turn.now item.now view.old }
     ensures len { length found.new ≤ length found.old + 4 }
 {
     found.push_some(bad_finding(turn, item));
-    judge_act(turn, act_of(item), view, found)
-}
-
-/// The view after a control message that has room for one more command.
-pub(crate) fn after_room(turn: &Turn, room: bool, view: View) -> View
-    ensures { result ≡ after_room turn.now room view }
-{
-    if !(turn.sent && room && !view.told) {
-        return view;
-    }
-    View {
-        host: Side {
-            wait: Wait::Even,
-            ..view.host
-        },
-        ..view
-    }
+    judge_act(turn, act_of(item), view, found);
 }
 
 /// The RRP that a host owes was left out: a control message of it that has room for one more command went out, and no

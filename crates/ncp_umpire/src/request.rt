@@ -1,7 +1,9 @@
 //! The rules of requests and of CLS.
 ghost use Rattle.std.specs.Prelude.{◌≡◌, ◌<◌, length, IfSome};
-ghost use Rattle.ncp_umpire.specs.Requests.{broken, is_of_sexes, range_rule, link_rests, used_verdict, link_verdict, life_verdict, request_verdict, rests_asked, asks, books_after_request, left_verdict, cls_verdict, is_link_busy, link_out_rule, text_out_rule, cls_rule, closes_side, after_cls};
-ghost use Rattle.ncp_umpire.specs.Scenes.{place_of_talk};
+ghost use Rattle.ncp_umpire.specs.Lives.{SeenBooks};
+ghost use Rattle.ncp_umpire.specs.Telling.{life_about, after_asked};
+ghost use Rattle.ncp_umpire.specs.Requests.{is_of_sexes, range_rule, link_rests, used_verdict, link_verdict, life_verdict, rests_asked, asks, left_verdict, is_link_busy, link_out_rule, text_out_rule, closes_side, after_cls};
+ghost use Rattle.ncp_umpire.specs.Scenes.{place_of_talk, verdict_about, cls_verdict_about};
 
 use crate::books::Books;
 use crate::finding::Rule;
@@ -9,19 +11,17 @@ use crate::life::{Life, Request, Topic, sends};
 use crate::outbox::Outbox;
 use crate::reply::{error_wanted, owes};
 use crate::talk::{About, Talk, Verdict};
-use ncp_terms::Command;
+use ncp_terms::{Command, FIRST_LINK, LAST_LINK};
 
-impl Verdict {
-    /// The rule that is broken.
-    pub(crate) fn broken(&self) -> Option<Rule>
-        ensures { result ≡ broken self.now }
-    {
-        match *self {
-            Verdict::Right => None,
-            Verdict::Refused(rule) => Some(rule),
-            Verdict::Unclear(rule) => rule,
-        }
-    }
+/// A request about a connection.
+#[derive(Clone, Copy, Drop)]
+pub(crate) struct Asking {
+    /// The command, and the sockets of both.
+    pub about: About,
+    /// Whether the sockets are of the sexes that it asks for.
+    pub right: bool,
+    /// What it asks for.
+    pub request: Request,
 }
 
 /// Whether the receiver's socket is even, and the sender's odd.
@@ -31,12 +31,12 @@ pub(crate) fn is_of_sexes(receive: u32, send: u32) -> bool
     !sends(receive) && sends(send)
 }
 
-// Links 2 to 71 carry connections, and a byte has some bits.
+// Only some links carry connections, and a byte has some bits.
 fn range_rule(command: Command, request: Request) -> Option<Rule>
     ensures { result ≡ range_rule command request }
 {
     match request {
-        Request::Link(link) if 2 <= link && link <= 71 => None,
+        Request::Link(link) if FIRST_LINK <= link && link <= LAST_LINK => None,
         Request::Link(_) => Some(Rule::LinkRange { command }),
         Request::Size(0) => Some(Rule::SizeZero { command }),
         Request::Size(_) => None,
@@ -116,29 +116,27 @@ fn life_verdict(
     }
 }
 
-/// What a request of a socket of the host and one of the other is; `right` says whether they are of the sexes that it asks
-/// for.
+/// What a request is, by the connection of its two sockets.
 pub(crate) fn request_verdict(
     talk: Talk,
-    about: About,
-    right: bool,
-    request: Request,
+    asking: Asking,
+    life: Option<Life>,
     books: &Books,
 ) -> Verdict
-    ensures { result ≡ request_verdict talk about.command about.local about.remote right request books.now }
+    requires { life ≡ life_about talk asking.about books.now }
+    ensures { result ≡ verdict_about talk asking.about asking.right asking.request books.now }
 {
-    let command = about.command;
-    if !right {
+    let command = asking.about.command;
+    if !asking.right {
         return Verdict::Refused(Rule::Sex { command });
     }
-    if let Some(wrong) = range_rule(command, request) {
+    if let Some(wrong) = range_rule(command, asking.request) {
         return Verdict::Refused(wrong);
     }
-    if link_rests(talk, request, books) {
+    if link_rests(talk, asking.request, books) {
         return Verdict::Unclear(None);
     }
-    let life = books.life_of(talk.at, talk.peer, about.local, about.remote);
-    life_verdict(talk, command, request, books, life)
+    life_verdict(talk, command, asking.request, books, life)
 }
 
 // The link that is asked for rests from now on.
@@ -158,34 +156,41 @@ fn rests_asked(talk: Talk, request: Request, books: &mut Books)
 }
 
 // The side has asked.
-fn asks(talk: Talk, local: u32, remote: u32, request: Request, books: &mut Books)
-    ensures { books.new ≡ asks talk local remote request books.old (place_of_talk talk local remote books.old) }
+fn asks(talk: Talk, asking: Asking, place: Option<usize>, books: &mut Books)
+    requires { IfSome place (λ p. p < length books.old.lives) }
+    ensures { books.new ≡ asks talk asking.about.local asking.about.remote asking.request books.old place }
 {
-    let place = books.place_of_pair(talk.at, talk.peer, local, remote);
     let life = match place {
         Some(place) => books.life_at(place),
-        None => Life::new(talk.at, talk.peer, local, remote),
+        None => Life::new(talk.at, talk.peer, asking.about.local, asking.about.remote),
     };
-    books.put_life(place, life.with_request(request));
+    books.put_life(place, life.with_request(asking.request));
 }
 
-/// After a request, by what it is.
+/// After a request, by what it is and the place of the connection of its two sockets.
 pub(crate) fn after_request(
     talk: Talk,
-    about: About,
-    request: Request,
+    asking: Asking,
+    place: Option<usize>,
     verdict: Verdict,
     books: &mut Books,
 )
-    ensures { books.new ≡ books_after_request talk about.command about.local about.remote request verdict books.old }
+    requires place { place ≡ place_of_talk talk asking.about.local asking.about.remote books.old }
+    requires inside { IfSome place (λ p. p < length books.old.lives) }
+    ensures { books.new ≡ after_asked talk asking verdict books.old }
 {
+    let About {
+        command,
+        local,
+        remote,
+    } = asking.about;
     match verdict {
-        Verdict::Right => asks(talk, about.local, about.remote, request, books),
-        Verdict::Refused(_) => owes(talk, error_wanted(3, 3, &about.command), true, books),
+        Verdict::Right => asks(talk, asking, place, books),
+        Verdict::Refused(_) => owes(talk, error_wanted(3, 3, &command), true, books),
         Verdict::Unclear(_) => {
-            books.rest_pair(talk.at, talk.peer, about.local, about.remote);
-            rests_asked(talk, request, books);
-            owes(talk, error_wanted(3, 3, &about.command), false, books);
+            books.rest_pair(talk.at, talk.peer, local, remote);
+            rests_asked(talk, asking.request, books);
+            owes(talk, error_wanted(3, 3, &command), false, books);
         }
     }
 }
@@ -206,15 +211,14 @@ fn left_verdict(talk: Talk, command: Command, life: Option<Life>) -> Verdict
     }
 }
 
-/// What a CLS of a socket of the host and one of the other is.
-pub(crate) fn cls_verdict(talk: Talk, about: About, books: &Books) -> Verdict
-    ensures { result ≡ cls_verdict talk about.command about.local about.remote books.now }
+/// What a CLS is, by the connection of its two sockets.
+pub(crate) fn cls_verdict(talk: Talk, about: About, life: Option<Life>) -> Verdict
+    ensures { (books : SeenBooks) → life ≡ life_about talk about books → result ≡ cls_verdict_about talk about books }
 {
     let command = about.command;
     if !is_of_sexes(about.local, about.remote) && !is_of_sexes(about.remote, about.local) {
         return Verdict::Refused(Rule::Sex { command });
     }
-    let life = books.life_of(talk.at, talk.peer, about.local, about.remote);
     left_verdict(talk, command, life)
 }
 
@@ -247,7 +251,8 @@ fn link_out_rule(
     }
 }
 
-fn out_rule(
+/// The rule that a CLS breaks that has its effect.
+pub(crate) fn out_rule(
     talk: Talk,
     command: Command,
     kept: &Outbox,
@@ -261,26 +266,6 @@ fn out_rule(
         link_out_rule(talk, command, kept, books, life.link)
     } else {
         None
-    }
-}
-
-/// The rule that a CLS breaks, by what it is.
-pub(crate) fn cls_rule(
-    talk: Talk,
-    about: About,
-    kept: &Outbox,
-    books: &Books,
-    verdict: Verdict,
-) -> Option<Rule>
-    ensures { result ≡ cls_rule talk about.command about.local about.remote kept.now books.now verdict }
-{
-    match verdict {
-        Verdict::Right => {
-            let life = books.life_of(talk.at, talk.peer, about.local, about.remote);
-            out_rule(talk, about.command, kept, books, life)
-        }
-        Verdict::Refused(wrong) => Some(wrong),
-        Verdict::Unclear(wrong) => wrong,
     }
 }
 
@@ -300,15 +285,20 @@ fn leaves(talk: Talk, place: Option<usize>, books: &mut Books)
     }
 }
 
-/// After a CLS, by what it is.
-pub(crate) fn after_cls(talk: Talk, about: About, verdict: Verdict, books: &mut Books)
+/// After a CLS, by what it is and the place of the connection of its two sockets.
+pub(crate) fn after_cls(
+    talk: Talk,
+    about: About,
+    place: Option<usize>,
+    verdict: Verdict,
+    books: &mut Books,
+)
+    requires place { place ≡ place_of_talk talk about.local about.remote books.old }
+    requires inside { IfSome place (λ p. p < length books.old.lives) }
     ensures { books.new ≡ after_cls talk about.command about.local about.remote verdict books.old }
 {
     match verdict {
-        Verdict::Right => {
-            let place = books.place_of_pair(talk.at, talk.peer, about.local, about.remote);
-            leaves(talk, place, books);
-        }
+        Verdict::Right => leaves(talk, place, books),
         Verdict::Refused(_) => owes(talk, error_wanted(3, 3, &about.command), true, books),
         Verdict::Unclear(_) => {
             books.rest_pair(talk.at, talk.peer, about.local, about.remote);

@@ -1,46 +1,89 @@
 //! The rules of what is said while two hosts are up with each other, and what it leaves.
-ghost use Rattle.std.specs.Prelude.{◌≡◌, ◌<◌, length, IfSome};
+ghost use Rattle.std.specs.Prelude.{◌≡◌, ◌<◌, ◌≤◌, ◌+◌, ◌++◌, Some, length, IfSome};
 ghost use Rattle.std.specs.List.{position};
+ghost use Rattle.ncp_umpire.specs.declared.findings.TheConstants.{MAX_FINDINGS};
 ghost use Rattle.ncp_umpire.specs.Replies.{is_about_link};
-ghost use Rattle.ncp_umpire.specs.Scenes.{after_request_about, cls_rule_about, after_cls_about};
-ghost use Rattle.ncp_umpire.specs.Speaking.{is_asking, eco_rule, after_eco, answers_echo, reply_rule, after_reply, command_rule, books_after_command, spoken_rule, after_spoken, after_text_at, books_after_text, lacks_cls, is_owed, reply_left_out, cls_left_out};
+ghost use Rattle.ncp_umpire.specs.Requests.{broken};
+ghost use Rattle.ncp_umpire.specs.Scenes.{after_cls_about};
+ghost use Rattle.ncp_umpire.specs.Speaking.{is_asking, after_eco, answers_echo, after_reply, books_after_command, after_spoken, after_text_at, books_after_text, lacks_cls, is_owed, reply_left_out, cls_left_out};
+ghost use Rattle.ncp_umpire.specs.Telling.{told_rule, found_asking, books_asked, found_cls, found_eco, found_reply, found_command, found_spoken};
 
 use crate::books::Books;
 use crate::due::{Due, Wanted};
 use crate::finding::Rule;
+use crate::findings::Findings;
 use crate::life::{Life, Request, Topic, sends};
 use crate::outbox::Outbox;
 use crate::reply::{fault_wanted, owes};
 use crate::request::{
-    after_cls, after_request, cls_rule, cls_verdict, is_link_busy, is_of_sexes, request_verdict,
+    Asking, after_cls, after_request, cls_verdict, is_link_busy, is_of_sexes, out_rule,
+    request_verdict,
 };
-use crate::talk::{About, Talk};
+use crate::talk::{About, Talk, Verdict};
+use crate::talked::Scene;
 use ncp_terms::{Command, CommandFault};
+
+// Says that a rule is broken; where something found no room, nothing is said.
+fn tell(scene: Scene<'_>, rule: Rule, books: &Books, found: &mut Findings)
+    requires { length found.old < MAX_FINDINGS }
+    ensures found { found.new ≡ found.old ++ told_rule scene.entry.turn books.now (Some rule) }
+    ensures len { length found.new ≤ length found.old + 1 }
+{
+    if !books.is_full() {
+        found.push(scene.turn.finding(rule));
+    }
+}
+
+// Says the rule that a verdict tells to be broken.
+fn tell_verdict(scene: Scene<'_>, verdict: Verdict, books: &Books, found: &mut Findings)
+    requires { length found.old < MAX_FINDINGS }
+    ensures found { found.new ≡ found.old ++ told_rule scene.entry.turn books.now (broken verdict) }
+    ensures len { length found.new ≤ length found.old + 1 }
+{
+    match verdict {
+        Verdict::Right | Verdict::Unclear(None) => {}
+        Verdict::Refused(rule) => tell(scene, rule, books, found),
+        Verdict::Unclear(Some(rule)) => tell(scene, rule, books, found),
+    }
+}
 
 // ---- requests and CLS
 
-// After a request.
-fn after_asking(talk: Talk, about: About, right: bool, request: Request, books: &mut Books)
-    ensures { books.new ≡ after_request_about talk about right request books.old }
+// A request: says the rule that it breaks, and then what it leaves.
+fn judge_request(scene: Scene<'_>, asking: Asking, books: &mut Books, found: &mut Findings)
+    requires { length found.old < MAX_FINDINGS }
+    ensures books { books.new ≡ books_asked scene.entry asking books.old }
+    ensures found { found.new ≡ found.old ++ found_asking scene.entry asking books.old }
+    ensures len { length found.new ≤ length found.old + 1 }
 {
-    let verdict = request_verdict(talk, about, right, request, books);
-    after_request(talk, about, request, verdict, books);
+    let talk = scene.talk;
+    let About { local, remote, .. } = asking.about;
+    let place = books.place_of_pair(talk.at, talk.peer, local, remote);
+    let verdict = request_verdict(talk, asking, books.life_found(place), books);
+    tell_verdict(scene, verdict, books, found);
+    after_request(talk, asking, place, verdict, books);
 }
 
-// The rule that a CLS breaks.
-fn closing_rule(talk: Talk, about: About, kept: &Outbox, books: &Books) -> Option<Rule>
-    ensures { result ≡ cls_rule_about talk about kept.now books.now }
+// A CLS: says the rule that it breaks, and then what it leaves.
+fn judge_cls(scene: Scene<'_>, about: About, books: &mut Books, found: &mut Findings)
+    requires { length found.old < MAX_FINDINGS }
+    ensures books { books.new ≡ after_cls_about scene.entry.talk about books.old }
+    ensures found { found.new ≡ found.old ++ found_cls scene.entry about books.old }
+    ensures len { length found.new ≤ length found.old + 1 }
 {
-    let verdict = cls_verdict(talk, about, books);
-    cls_rule(talk, about, kept, books, verdict)
-}
-
-// After a CLS.
-fn after_closing(talk: Talk, about: About, books: &mut Books)
-    ensures { books.new ≡ after_cls_about talk about books.old }
-{
-    let verdict = cls_verdict(talk, about, books);
-    after_cls(talk, about, verdict, books);
+    let talk = scene.talk;
+    let place = books.place_of_pair(talk.at, talk.peer, about.local, about.remote);
+    let life = books.life_found(place);
+    let verdict = cls_verdict(talk, about, life);
+    match verdict {
+        Verdict::Right => {
+            if let Some(rule) = out_rule(talk, about.command, scene.kept, books, life) {
+                tell(scene, rule, books, found);
+            }
+        }
+        Verdict::Refused(_) | Verdict::Unclear(_) => tell_verdict(scene, verdict, books, found),
+    }
+    after_cls(talk, about, place, verdict, books);
 }
 
 // ---- echoes
@@ -53,21 +96,17 @@ fn is_asking(talk: Talk, books: &Books) -> bool
         && !books.is_marked(talk.at, talk.peer, Topic::EchoesRest { host: talk.sent })
 }
 
-/// The rule that an ECO breaks.
-pub(crate) fn eco_rule(talk: Talk, byte: u8, books: &Books) -> Option<Rule>
-    ensures { result ≡ eco_rule talk byte books.now }
+// An ECO: says the rule that it breaks, and then what it leaves.
+fn judge_eco(scene: Scene<'_>, byte: u8, books: &mut Books, found: &mut Findings)
+    requires { length found.old < MAX_FINDINGS }
+    ensures books { books.new ≡ after_eco scene.entry.talk byte books.old }
+    ensures found { found.new ≡ found.old ++ found_eco scene.entry byte books.old }
+    ensures len { length found.new ≤ length found.old + 1 }
 {
+    let talk = scene.talk;
     if is_asking(talk, books) {
-        Some(Rule::EcoAgain { byte })
-    } else {
-        None
+        tell(scene, Rule::EcoAgain { byte }, books, found);
     }
-}
-
-/// After an ECO.
-pub(crate) fn after_eco(talk: Talk, byte: u8, books: &mut Books)
-    ensures { books.new ≡ after_eco talk byte books.old }
-{
     books.mark(talk.at, talk.peer, Topic::Asks { host: talk.sent });
     owes(talk, Wanted::Echo(byte), true, books);
 }
@@ -86,26 +125,29 @@ pub(crate) fn answers_echo(talk: Talk, books: &mut Books)
 
 // ---- replies
 
-// The rule that a reply breaks: it passes over one that is sure, or nothing asked for it.
-fn reply_rule(talk: Talk, reply: &Command, unasked: Rule, books: &Books) -> Option<Rule>
-    ensures { result ≡ reply_rule talk reply.now unasked books.now }
+// A reply: says the rule that it breaks, that it passes over one that is sure, or that nothing asked for it; and then what
+// it leaves.
+fn judge_answer(
+    scene: Scene<'_>,
+    reply: &Command,
+    unasked: Rule,
+    books: &mut Books,
+    found: &mut Findings,
+)
+    requires { length found.old < MAX_FINDINGS }
+    ensures books { books.new ≡ after_reply scene.entry.talk reply.now books.old }
+    ensures found { found.new ≡ found.old ++ found_reply scene.entry reply.now unasked books.old }
+    ensures len { length found.new ≤ length found.old + 1 }
 {
+    let talk = scene.talk;
     if !books.is_wanted(talk, reply) {
-        return Some(unasked);
+        tell(scene, unasked, books, found);
+        return;
     }
-    match books.skipped(talk, reply) {
-        Some(command) => Some(Rule::Skipped { command }),
-        None => None,
+    if let Some(command) = books.skipped(talk, reply) {
+        tell(scene, Rule::Skipped { command }, books, found);
     }
-}
-
-// After a reply.
-fn after_reply(talk: Talk, reply: &Command, books: &mut Books)
-    ensures { books.new ≡ after_reply talk reply.now books.old }
-{
-    if books.is_wanted(talk, reply) {
-        books.strike(talk, reply);
-    }
+    books.strike(talk, reply);
 }
 
 // Whether an ERR is about a link, of which no rule is known.
@@ -121,112 +163,82 @@ fn is_about_link(code: u8, bytes: &[u8]) -> bool
 
 // ---- commands, and faults of a control text
 
-// The rule that a command breaks.
-fn command_rule(talk: Talk, kept: &Outbox, command: &Command, books: &Books) -> Option<Rule>
-    ensures { result ≡ command_rule talk kept.now command.now books.now }
+// A command: says the rule that it breaks, and then what it leaves.
+fn judge_command(scene: Scene<'_>, command: &Command, books: &mut Books, found: &mut Findings)
+    requires { length found.old < MAX_FINDINGS }
+    ensures books { books.new ≡ books_after_command scene.entry.talk command.now books.old }
+    ensures found { found.new ≡ found.old ++ found_command scene.entry command.now books.old }
+    ensures len { length found.new ≤ length found.old + 1 }
 {
+    let talk = scene.talk;
     match *command {
         Command::Rts {
             receive,
             send,
             link,
-        } => request_verdict(
-            talk,
-            talk.about(command, receive, send),
-            is_of_sexes(receive, send),
-            Request::Link(link),
+        } => judge_request(
+            scene,
+            Asking {
+                about: talk.about(command, receive, send),
+                right: is_of_sexes(receive, send),
+                request: Request::Link(link),
+            },
             books,
-        )
-        .broken(),
-        Command::Str {
-            send,
-            receive,
-            size,
-        } => request_verdict(
-            talk,
-            talk.about(command, send, receive),
-            is_of_sexes(receive, send),
-            Request::Size(size),
-            books,
-        )
-        .broken(),
-        Command::Cls { my, your } => {
-            closing_rule(talk, talk.about(command, my, your), kept, books)
-        }
-        Command::Eco { byte } => eco_rule(talk, byte, books),
-        Command::Erp { byte } => reply_rule(talk, command, Rule::ErpUnasked { byte }, books),
-        Command::Err { code, ref bytes } if is_about_link(code, bytes) => None,
-        Command::Err { code, bytes } => reply_rule(
-            talk,
-            command,
-            Rule::ErrUnjust { code, bytes },
-            books,
-        ),
-        _ => None,
-    }
-}
-
-// After a command.
-fn after_command(talk: Talk, command: &Command, books: &mut Books)
-    ensures { books.new ≡ books_after_command talk command.now books.old }
-{
-    match *command {
-        Command::Rts {
-            receive,
-            send,
-            link,
-        } => after_asking(
-            talk,
-            talk.about(command, receive, send),
-            is_of_sexes(receive, send),
-            Request::Link(link),
-            books,
+            found,
         ),
         Command::Str {
             send,
             receive,
             size,
-        } => after_asking(
-            talk,
-            talk.about(command, send, receive),
-            is_of_sexes(receive, send),
-            Request::Size(size),
+        } => judge_request(
+            scene,
+            Asking {
+                about: talk.about(command, send, receive),
+                right: is_of_sexes(receive, send),
+                request: Request::Size(size),
+            },
             books,
+            found,
         ),
-        Command::Cls { my, your } => after_closing(talk, talk.about(command, my, your), books),
-        Command::Eco { byte } => after_eco(talk, byte, books),
-        Command::Erp { .. } => {
-            after_reply(talk, command, books);
+        Command::Cls { my, your } => judge_cls(scene, talk.about(command, my, your), books, found),
+        Command::Eco { byte } => judge_eco(scene, byte, books, found),
+        Command::Erp { byte } => {
+            judge_answer(scene, command, Rule::ErpUnasked { byte }, books, found);
             answers_echo(talk, books);
         }
         Command::Err { code, ref bytes } if is_about_link(code, bytes) => {}
-        Command::Err { .. } => after_reply(talk, command, books),
+        Command::Err { code, bytes } => {
+            judge_answer(
+                scene,
+                command,
+                Rule::ErrUnjust { code, bytes },
+                books,
+                found,
+            );
+        }
         _ => {}
     }
 }
 
-/// The rule that an item of a control text breaks.
-pub(crate) fn spoken_rule(
-    talk: Talk,
-    kept: &Outbox,
+/// An item of a control text: says its fault, or the rule that it breaks, and then what it leaves; a fault is answered by an
+/// ERR with its code and its bytes.
+pub(crate) fn judge_spoken(
+    scene: Scene<'_>,
     item: &Result<Command, CommandFault>,
-    books: &Books,
-) -> Option<Rule>
-    ensures { result ≡ spoken_rule talk kept.now item.now books.now }
+    books: &mut Books,
+    found: &mut Findings,
+)
+    requires { length found.old < MAX_FINDINGS }
+    ensures books { books.new ≡ after_spoken scene.entry.talk item.now books.old }
+    ensures found { found.new ≡ found.old ++ found_spoken scene.entry item.now books.old }
+    ensures len { length found.new ≤ length found.old + 1 }
 {
     match item {
-        Ok(command) if !books.is_full() => command_rule(talk, kept, command, books),
-        _ => None,
-    }
-}
-
-/// After an item of a control text; a fault is answered by an ERR with its code and its bytes.
-pub(crate) fn after_spoken(talk: Talk, item: &Result<Command, CommandFault>, books: &mut Books)
-    ensures { books.new ≡ after_spoken talk item.now books.old }
-{
-    match item {
-        Ok(command) => after_command(talk, command, books),
-        Err(fault) => owes(talk, fault_wanted(fault), true, books),
+        Ok(command) => judge_command(scene, command, books, found),
+        Err(fault) => {
+            found.push(scene.turn.finding(Rule::Bad { fault: *fault }));
+            owes(scene.talk, fault_wanted(fault), true, books);
+        }
     }
 }
 
@@ -263,10 +275,12 @@ pub(crate) fn after_text(at: u8, peer: u8, link: u8, books: &mut Books)
 fn lacks_cls(at: u8, peer: u8, kept: &Outbox, life: &Life) -> bool
     ensures { result ≡ lacks_cls at peer kept.now life.now }
 {
+    if !life.peer_left {
+        return false;
+    }
     life.at == at
         && life.peer == peer
         && !life.rests
-        && life.peer_left
         && !life.host_left
         && if sends(life.local) {
             !is_link_busy(at, peer, life.link, kept)

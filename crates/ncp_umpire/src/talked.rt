@@ -1,17 +1,24 @@
 //! The items of a control text by the rules of what is said while two hosts are up: what is judged of them, and what they
 //! leave.
-ghost use Rattle.std.specs.Prelude.{◌≡◌};
-ghost use Rattle.ncp_umpire.specs.Talked.{talk_of, reaches, act_reaches, clears, talk_finding, after_talk, missing, tells_left_out, missing_reply, missing_cls, after_left_out, after_talked_text};
+ghost use Rattle.std.specs.Prelude.{◌≡◌, ◌<◌, ◌≤◌, ◌+◌, ◌++◌, length};
+ghost use Rattle.std.specs.Option.{option_to_list};
+ghost use Rattle.ncp_umpire.specs.declared.finding.Thing.TheVariants.{Text};
+ghost use Rattle.ncp_umpire.specs.declared.findings.TheConstants.{MAX_FINDINGS};
+ghost use Rattle.ncp_umpire.specs.Phases.{early_finding, after_thing, after_room};
+ghost use Rattle.ncp_umpire.specs.Speaking.{after_all_said};
+ghost use Rattle.ncp_umpire.specs.Talked.{talk_of, reaches, act_reaches, clears, missing, after_left_out, after_talked_text};
+ghost use Rattle.ncp_umpire.specs.Telling.{found_missing, found_left_out};
 
-use crate::act::{Act, act_of};
+use crate::act::Act;
 use crate::books::Books;
 use crate::finding::{Finding, Rule, Thing};
+use crate::findings::Findings;
 use crate::outbox::Outbox;
-use crate::phase::{Turn, hears_reset, is_early};
-use crate::speaking::{after_spoken, after_text, cls_left_out, reply_left_out, spoken_rule};
+use crate::phase::{Turn, hears_reset, is_early, judge_thing, missing_finding};
+use crate::speaking::{after_text, cls_left_out, reply_left_out};
 use crate::talk::Talk;
-use crate::view::View;
-use ncp_terms::{Command, CommandFault};
+use crate::view::{View, Wait};
+use ncp_terms::Command;
 
 /// A message whose items are judged, who says them to whom, and the messages of all hosts that are out.
 #[derive(Clone, Copy, Drop)]
@@ -36,8 +43,8 @@ pub(crate) fn talk_of(at: u8, peer: u8, turn: &Turn) -> Talk
 }
 
 // Whether it is judged: not what is early, nor at rest, nor what the host drops since it waits for a reply.
-fn reaches(turn: &Turn, thing: Thing, view: View) -> bool
-    ensures { result ≡ reaches turn.now thing view }
+fn reaches(turn: &Turn, thing: Thing, view: &View) -> bool
+    ensures { result ≡ reaches turn.now thing view.now }
 {
     view.told
         && !is_early(turn, thing, view)
@@ -45,8 +52,9 @@ fn reaches(turn: &Turn, thing: Thing, view: View) -> bool
         && (turn.sent || !view.host.wait.is_waiting())
 }
 
-fn act_reaches(turn: &Turn, act: Act, view: View) -> bool
-    ensures { result ≡ act_reaches turn.now act view }
+/// Whether an item is judged so.
+pub(crate) fn act_reaches(turn: &Turn, act: Act, view: &View) -> bool
+    ensures { result ≡ act_reaches turn.now act view.now }
 {
     match act {
         Act::Reset | Act::Reply => false,
@@ -54,9 +62,9 @@ fn act_reaches(turn: &Turn, act: Act, view: View) -> bool
     }
 }
 
-// Whether all that was said is forgotten.
-fn clears(turn: &Turn, act: Act, view: View) -> bool
-    ensures { result ≡ clears turn.now act view }
+/// Whether all that was said is forgotten.
+pub(crate) fn clears(turn: &Turn, act: Act, view: &View) -> bool
+    ensures { result ≡ clears turn.now act view.now }
 {
     match act {
         Act::Reset => hears_reset(turn, view) && (!turn.sent || view.host.wait.more().is_waiting()),
@@ -64,39 +72,23 @@ fn clears(turn: &Turn, act: Act, view: View) -> bool
     }
 }
 
-/// The finding about an item of a control text.
-pub(crate) fn talk_finding(
+/// Judges a text of a connection.
+pub(crate) fn judge_text(
     scene: Scene<'_>,
-    item: &Result<Command, CommandFault>,
-    view: View,
-    books: &Books,
-) -> Option<Finding>
-    ensures { result ≡ talk_finding scene.entry.turn scene.entry.talk scene.entry.kept.now item.now view books.now }
-{
-    if !act_reaches(&scene.turn, act_of(item), view) {
-        return None;
-    }
-    match spoken_rule(scene.talk, scene.kept, item, books) {
-        Some(rule) => Some(scene.turn.finding(rule)),
-        None => None,
-    }
-}
-
-/// After an item of a control text, in the view before it.
-pub(crate) fn after_talk(
-    turn: &Turn,
-    talk: Talk,
-    item: &Result<Command, CommandFault>,
-    view: View,
+    link: u8,
+    view: &mut View,
     books: &mut Books,
+    found: &mut Findings,
 )
-    ensures { books.new ≡ after_talk turn.now talk item.now view books.old }
+    requires { length found.old < MAX_FINDINGS }
+    ensures view { view.new ≡ after_thing scene.entry.turn Text view.old }
+    ensures books { books.new ≡ after_talked_text scene.entry.turn scene.entry.talk link view.old books.old }
+    ensures found { found.new ≡ found.old ++ option_to_list (early_finding scene.entry.turn Text view.old) }
 {
-    let act = act_of(item);
-    if clears(turn, act, view) {
-        books.clear(talk.at, talk.peer);
-    } else if act_reaches(turn, act, view) {
-        after_spoken(talk, item, books);
+    if !reaches(&scene.turn, Thing::Text, view) {
+        judge_thing(&scene.turn, Thing::Text, view, found);
+    } else if !scene.turn.sent {
+        after_text(scene.talk.at, scene.talk.peer, link, books);
     }
 }
 
@@ -110,62 +102,40 @@ fn missing(turn: &Turn, command: Option<Command>) -> Option<Finding>
     }
 }
 
-// Whether a control message tells what the host left out.
-fn tells_left_out(turn: &Turn, room: bool, view: View, books: &Books) -> bool
-    ensures { result ≡ tells_left_out turn.now room view books.now }
+// Says the reply and the CLS that the host left out. No reply of it waits any more.
+fn tell_left_out(scene: Scene<'_>, books: &mut Books, found: &mut Findings)
+    requires { length found.old + 2 ≤ MAX_FINDINGS }
+    ensures books { books.new ≡ after_all_said scene.entry.talk.at scene.entry.talk.peer books.old }
+    ensures found { found.new ≡ found.old ++ found_missing scene.entry books.old }
 {
-    turn.sent && room && view.told && !view.rests && !books.is_full()
+    let Talk { at, peer, .. } = scene.talk;
+    found.push_some(missing(&scene.turn, reply_left_out(at, peer, books)));
+    found.push_some(missing(&scene.turn, cls_left_out(at, peer, scene.kept, books)));
+    books.all_said(at, peer);
 }
 
-/// The reply that the host left out.
-pub(crate) fn missing_reply(
-    turn: &Turn,
-    talk: Talk,
-    room: bool,
-    view: View,
-    books: &Books,
-) -> Option<Finding>
-    ensures { result ≡ missing_reply turn.now talk room view books.now }
-{
-    if !tells_left_out(turn, room, view, books) {
-        return None;
-    }
-    missing(turn, reply_left_out(talk.at, talk.peer, books))
-}
-
-/// The CLS that the host left out.
-pub(crate) fn missing_cls(
+/// Judges what a host left out by a control text, and what it shows that it has room for one more command.
+pub(crate) fn judge_left_out(
     scene: Scene<'_>,
     room: bool,
-    view: View,
-    books: &Books,
-) -> Option<Finding>
-    ensures { result ≡ missing_cls scene.entry.turn scene.entry.talk scene.entry.kept.now room view books.now }
+    view: &mut View,
+    books: &mut Books,
+    found: &mut Findings,
+)
+    requires { length found.old + 3 ≤ MAX_FINDINGS }
+    ensures view { view.new ≡ after_room scene.entry.turn room view.old }
+    ensures books { books.new ≡ after_left_out scene.entry.turn scene.entry.talk room view.old books.old }
+    ensures found { found.new ≡ found.old ++ found_left_out scene.entry room view.old books.old }
 {
-    if !tells_left_out(&scene.turn, room, view, books) {
-        return None;
+    if !scene.turn.sent || !room {
+        return;
     }
-    let talk = scene.talk;
-    missing(
-        &scene.turn,
-        cls_left_out(talk.at, talk.peer, scene.kept, books),
-    )
-}
-
-/// After a control message that tells what was left out.
-pub(crate) fn after_left_out(turn: &Turn, talk: Talk, room: bool, view: View, books: &mut Books)
-    ensures { books.new ≡ after_left_out turn.now talk room view books.old }
-{
-    if tells_left_out(turn, room, view, books) {
-        books.all_said(talk.at, talk.peer);
+    if !view.told {
+        view.host.wait = Wait::Even;
+        return;
     }
-}
-
-/// After a text, in the view before it.
-pub(crate) fn after_talked_text(turn: &Turn, talk: Talk, link: u8, view: View, books: &mut Books)
-    ensures { books.new ≡ after_talked_text turn.now talk link view books.old }
-{
-    if !turn.sent && reaches(turn, Thing::Text, view) {
-        after_text(talk.at, talk.peer, link, books);
+    found.push_some(missing_finding(&scene.turn, room, *view));
+    if !view.rests && !books.is_full() {
+        tell_left_out(scene, books, found);
     }
 }

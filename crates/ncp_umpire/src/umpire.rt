@@ -1,27 +1,27 @@
 //! `Umpire`.
-ghost use Rattle.std.specs.Prelude.{◌≡◌, ◌<◌, ◌≤◌, ◌+◌, ◌%◌, ◌++◌, [], false, length, replicate, option_map, IfOk, IfSome};
+ghost use Rattle.std.specs.Prelude.{◌≡◌, ◌<◌, ◌≤◌, ◌+◌, ◌%◌, ◌++◌, [], false, length, replicate, IfOk, IfSome};
 ghost use Rattle.ncp_umpire.specs.declared.findings.TheConstants.{MAX_FINDINGS};
 ghost use Rattle.ncp_umpire.specs.Slots.{kept_slot, same_at, same_but_host_at, gone_out};
-ghost use Rattle.ncp_umpire.specs.Phases.{broken_by, after_item, after_items};
-ghost use Rattle.ncp_umpire.specs.Talked.{after_talk, after_talked};
+ghost use Rattle.ncp_umpire.specs.Phases.{after_item, after_items};
+ghost use Rattle.ncp_umpire.specs.Talked.{after_talk};
 ghost use Rattle.ncp_umpire.specs.declared.views.TheConstants.{HOSTS};
+ghost use Rattle.ncp_umpire.specs.Telling.{found_alone, after_seeing_out, books_after_items};
 ghost use Rattle.ncp_bits.specs.declared.bits.TheConstants.{MAX_BITS};
-ghost use Rattle.ncp_umpire.specs.Messages.{rule_of_message, judged_reading};
-ghost use Rattle.ncp_umpire.specs.Scenes.{found_of_item, found_of_items, view_after_control, found_of_control, found_of_reading, books_after_scene, found_going_out, found_coming, after_keeping, found_of_regular, after_regular_heard, found_of_message, after_message_heard};
-ghost use Rattle.ncp_umpire.specs.Judged.{new_umpire, view_of, knows_zero, blamed_for, out_rule, is_fresh, changes_slot, by_host, by_imp, fresh_out, is_slot_out, view_after_out, umpire_after_out, false_rule, stray_rule, sees_both, is_crowded, judges_coming, answer_findings, with_answer, umpire_after_answer, unsent_why, with_coming, after_in, turn_at, items_said, after_control, after_read, event_findings, after_event, record_findings, after_record};
+ghost use Rattle.ncp_umpire.specs.Messages.{judged_reading};
+ghost use Rattle.ncp_umpire.specs.Scenes.{found_of_item, found_of_items, view_after_control, found_of_control, found_of_reading, books_after_scene, found_going_out, found_coming, found_of_regular, after_regular_heard, found_of_message, after_message_heard};
+ghost use Rattle.ncp_umpire.specs.Judged.{new_umpire, knows_zero, blamed_for, out_rule, is_fresh, changes_slot, by_host, by_imp, fresh_out, is_slot_out, view_after_out, umpire_after_out, false_rule, stray_rule, sees_both, is_crowded, judges_coming, answer_findings, with_answer, umpire_after_answer, unsent_why, with_coming, after_in, turn_at, items_said, after_control, after_read, event_findings, after_event, record_findings, after_record};
 
+use crate::act::act_of;
 use crate::books::Books;
 use crate::event::{Event, event_of};
-use crate::finding::{Finding, Rule, Thing, Unsent, Who};
+use crate::finding::{Finding, Rule, Unsent, Who};
 use crate::findings::Findings;
-use crate::kept::{Kept, Slot};
+use crate::kept::Slot;
 use crate::message::{Reading, reading_of, rule_of_message};
 use crate::outbox::Outbox;
-use crate::phase::{Turn, after_room, judge_item, judge_thing, missing_finding};
-use crate::talked::{
-    Scene, after_left_out, after_talk, after_talked_text, missing_cls, missing_reply, talk_finding,
-    talk_of,
-};
+use crate::phase::{Turn, judge_item};
+use crate::speaking::judge_spoken;
+use crate::talked::{Scene, act_reaches, clears, judge_left_out, judge_text, talk_of};
 use crate::view::View;
 use crate::views::{HOSTS, Views};
 use crate::way::Way;
@@ -63,13 +63,13 @@ struct Passing {
 
 /// A link between two hosts, as it is seen at the interface of one.
 #[derive(Clone, Copy, Drop)]
-struct Line {
+pub(crate) struct Line {
     /// The host at whose interface it is seen.
-    at: u8,
+    pub at: u8,
     /// The other.
-    peer: u8,
+    pub peer: u8,
     /// The link.
-    link: u8,
+    pub link: u8,
 }
 
 /// A message of which it is judged what it says.
@@ -107,19 +107,6 @@ fn out_rule(slot: Slot, same: bool, link: u8) -> Option<Rule>
                 Some(Rule::Changed { link })
             }
         }
-    }
-}
-
-// A message that goes out.
-fn gone_out(from: u8, to: u8, link: u8, message: &Bits) -> Kept
-    ensures { result ≡ gone_out from to link message.now }
-{
-    Kept {
-        from,
-        to,
-        link,
-        slot: Slot::Out,
-        message: message.whole().to_bits(),
     }
 }
 
@@ -227,108 +214,107 @@ fn view_after_out(view: View, slot: Slot, same: bool) -> View
     }
 }
 
-// Judges an item of a control text by both kinds of rules, and gives the view after it.
+// Judges an item of a control text by both kinds of rules. What is judged by those of what is said is not early, and changes
+// nothing of the phase.
 fn judge_said(
     scene: Scene<'_>,
     item: &Result<Command, CommandFault>,
-    view: View,
+    view: &mut View,
     books: &mut Books,
     found: &mut Findings,
-) -> View
+)
     requires { length found.old + 5 ≤ MAX_FINDINGS }
-    ensures view { result ≡ after_item scene.entry.turn item.now view }
-    ensures books { books.new ≡ after_talk scene.entry.turn scene.entry.talk item.now view books.old }
-    ensures found { found.new ≡ found.old ++ found_of_item scene.entry item.now view books.old }
+    ensures view { view.new ≡ after_item scene.entry.turn item.now view.old }
+    ensures books { books.new ≡ after_talk scene.entry.turn scene.entry.talk item.now view.old books.old }
+    ensures found { found.new ≡ found.old ++ found_of_item scene.entry item.now view.old books.old }
     ensures len { length found.new ≤ length found.old + 5 }
 {
-    let after = judge_item(&scene.turn, item, view, found);
-    found.push_some(talk_finding(scene, item, view, books));
-    after_talk(&scene.turn, scene.talk, item, view, books);
-    after
+    let act = act_of(item);
+    if act_reaches(&scene.turn, act, view) {
+        judge_spoken(scene, item, books, found);
+        return;
+    }
+    if clears(&scene.turn, act, view) {
+        books.clear(scene.talk.at, scene.talk.peer);
+    }
+    judge_item(&scene.turn, item, view, found);
 }
 
-// Judges the items of a control text, and gives the view after them.
+// Judges the items of a control text.
 fn judge_items(
     scene: Scene<'_>,
     text: Part<'_>,
-    view: View,
+    view: &mut View,
     books: &mut Books,
     found: &mut Findings,
-) -> View
+)
     requires whole { length text % 8 ≡ 0 }
     requires few { length found.old ≤ 8 }
-    ensures view { result ≡ after_items scene.entry.turn (items_said text.entry) view }
-    ensures books { books.new ≡ after_talked scene.entry.turn scene.entry.talk (items_said text.entry) view books.old }
-    ensures found { found.new ≡ found.old ++ found_of_items scene.entry text.entry view books.old }
+    ensures view { view.new ≡ after_items scene.entry.turn (items_said text.entry) view.old }
+    ensures books { books.new ≡ books_after_items scene.entry text.entry view.old books.old }
+    ensures found { found.new ≡ found.old ++ found_of_items scene.entry text.entry view.old books.old }
     ensures len { length found.new + 4 ≤ MAX_FINDINGS }
 {
     let _bits = text.len();
-    let mut view = view;
     for item in Commands::new(text) {
-        view = judge_said(scene, &item, view, books, found);
+        judge_said(scene, &item, view, books, found);
     }
-    view
 }
 
-// Judges a control text, and gives the view after it.
+// Judges a control text.
 fn judge_control(
     scene: Scene<'_>,
     text: Part<'_>,
-    view: View,
+    view: &mut View,
     books: &mut Books,
     found: &mut Findings,
-) -> View
+)
     requires whole { length text % 8 ≡ 0 }
     requires few { length found.old ≤ 8 }
-    ensures view { result ≡ view_after_control scene.entry text.entry view }
-    ensures books { books.new ≡ after_control scene.entry.turn scene.entry.talk text.entry view books.old }
-    ensures found { found.new ≡ found.old ++ found_of_control scene.entry text.entry view books.old }
+    ensures view { view.new ≡ view_after_control scene.entry text.entry view.old }
+    ensures books { books.new ≡ after_control scene.entry.turn scene.entry.talk text.entry view.old books.old }
+    ensures found { found.new ≡ found.old ++ found_of_control scene.entry text.entry view.old books.old }
 {
     let room = text.len() <= ROOMY_BITS;
-    let after = judge_items(scene, text, view, books, found);
-    found.push_some(missing_finding(&scene.turn, room, after));
-    found.push_some(missing_reply(&scene.turn, scene.talk, room, after, books));
-    found.push_some(missing_cls(scene, room, after, books));
-    after_left_out(&scene.turn, scene.talk, room, after, books);
-    after_room(&scene.turn, room, after)
+    judge_items(scene, text, view, books, found);
+    judge_left_out(scene, room, view, books, found);
 }
 
-// Judges what is read on of a message, and gives the view after it.
+// Judges what is read on of a message.
 fn judge_read(
     scene: Scene<'_>,
     regular: &Regular<'_>,
-    view: View,
+    view: &mut View,
     books: &mut Books,
     found: &mut Findings,
-) -> View
+)
     requires few { length found.old ≤ 8 }
-    ensures view { result ≡ after_read (judged_reading regular.now) scene.entry.turn regular.now.text view }
-    ensures books { books.new ≡ books_after_scene scene.entry regular.now view books.old }
-    ensures found { found.new ≡ found.old ++ found_of_reading scene.entry regular.now view books.old }
+    ensures view { view.new ≡ after_read (judged_reading regular.now) scene.entry.turn regular.now.text view.old }
+    ensures books { books.new ≡ books_after_scene scene.entry regular.now view.old books.old }
+    ensures found { found.new ≡ found.old ++ found_of_reading scene.entry regular.now view.old books.old }
 {
     match reading_of(regular) {
-        Reading::Stop => view,
-        Reading::Text => {
-            after_talked_text(&scene.turn, scene.talk, regular.leader().link, view, books);
-            judge_thing(&scene.turn, Thing::Text, view, found)
-        }
+        Reading::Stop => {}
+        Reading::Text => judge_text(scene, regular.leader().link, view, books, found),
         Reading::Control => judge_control(scene, regular.text(), view, books, found),
     }
 }
 
-// The rule that a message of so many bits breaks by itself.
-fn message_finding(
+// Judges a message of so many bits by itself.
+fn judge_alone(
     turn: &Turn,
     read: &Result<Regular<'_>, MessageFault>,
     link: u8,
     len: usize,
-) -> Option<Finding>
-    requires { len ≤ MAX_BITS }
-    ensures { result ≡ option_map (broken_by turn.now) (rule_of_message read.now link len) }
+    found: &mut Findings,
+)
+    requires bits { len ≤ MAX_BITS }
+    requires room { length found.old < MAX_FINDINGS }
+    ensures found { found.new ≡ found.old ++ found_alone turn.now read.now link len }
+    ensures len { length found.new ≤ length found.old + 1 }
 {
-    match rule_of_message(read, link, len) {
-        Some(rule) => Some(turn.finding(rule)),
-        None => None,
+    if let Some(rule) = rule_of_message(read, link, len) {
+        found.push(turn.finding(rule));
     }
 }
 
@@ -355,17 +341,6 @@ impl Umpire {
             kept,
             books,
         })
-    }
-
-    // What is seen at a host of a peer.
-    fn view_of(&self, at: u8, peer: u8) -> View
-        ensures { result ≡ view_of self.now at peer }
-    {
-        let view = self.views.of(at, peer);
-        View {
-            told: view.told && !self.full,
-            ..view
-        }
     }
 
     // The slot of a link, by the place of its message.
@@ -410,6 +385,7 @@ impl Umpire {
     }
 
     // A message between a host and a peer, seen at the host.
+    #[inline(always)]
     fn turn_at(&self, at: u8, peer: u8, by: u8, sent: bool) -> Turn
         ensures { result ≡ turn_at self.now at peer by sent }
     {
@@ -442,6 +418,17 @@ impl Umpire {
         !self.full && self.sees_both(peer) && !self.is_crowded(peer, at)
     }
 
+    // A message goes out on a link with this slot: sees what that tells of the session, which is seldom anything.
+    fn see_out(&mut self, line: Line, slot: Slot, same: bool)
+        ensures { self.new ≡ after_seeing_out self.old line slot same }
+    {
+        if changes(slot, same) || is_out(slot) {
+            let view = self.views.of(line.at, line.peer);
+            self.views
+                .set(line.at, line.peer, view_after_out(view, slot, same));
+        }
+    }
+
     // A message goes out: judges its link, and answers whether it goes out for the first time.
     fn judge_out(&mut self, line: Line, message: &Bits, found: &mut Findings) -> bool
         requires { length found.old ≤ 4 }
@@ -454,25 +441,16 @@ impl Umpire {
             return true;
         }
         let Line { at, peer, link } = line;
-        let view = self.views.of(at, peer);
+        let known = self.views.of(at, peer).known;
         let place = self.kept.place_of(at, peer, link);
-        let slot = self.slot_at(view.known, place);
+        let slot = self.slot_at(known, place);
         let same = self.is_same(place, message);
         if let Some(rule) = out_rule(slot, same, link) {
             found.push(by_host(at, rule));
         }
-        let after = view_after_out(view, slot, same);
-        self.keep(after, place, gone_out(at, peer, link, message));
+        self.see_out(line, slot, same);
+        self.full = !self.kept.put(place, line, message);
         is_fresh(slot, same)
-    }
-
-    // Keeps a message that went out, and the view after it.
-    fn keep(&mut self, view: View, place: Option<usize>, new: Kept)
-        requires { IfSome place (λ p. p < length self.old.kept) }
-        ensures { self.new ≡ after_keeping self.old view place new }
-    {
-        self.views.set(new.from, new.to, view);
-        self.full = !self.kept.put(place, new);
     }
 
     // An answer comes: judges it.
@@ -564,14 +542,14 @@ impl Umpire {
             return;
         }
         let Line { at, peer, .. } = heard.line;
-        let view = self.view_of(at, peer);
+        let view = self.views.at(at, peer);
+        view.told = view.told && !self.full;
         let scene = Scene {
             turn: heard.turn,
             talk: talk_of(at, peer, &heard.turn),
             kept: &self.kept,
         };
-        let after = judge_read(scene, regular, view, &mut self.books, found);
-        self.views.set(at, peer, after);
+        judge_read(scene, regular, view, &mut self.books, found);
     }
 
     // Judges a message by itself, and then what it says.
@@ -581,7 +559,7 @@ impl Umpire {
         ensures found { found.new ≡ found.old ++ found_of_message self.old heard message.now }
     {
         let read = read_regular(message);
-        found.push_some(message_finding(&heard.turn, &read, heard.line.link, message.len()));
+        judge_alone(&heard.turn, &read, heard.line.link, message.len(), found);
         if let Ok(regular) = &read {
             self.judge_regular(heard, regular, found);
         }

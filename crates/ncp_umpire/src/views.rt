@@ -1,6 +1,8 @@
 //! `Views`: what is seen at the interface of each host of each other.
 ghost use Rattle.std.specs.Prelude.{◌≡◌, ◌<◌, replicate, length, IfOk};
 ghost use Rattle.ncp_umpire.specs.Tables.{index_of, view_in, with_view};
+ghost use Rattle.std.specs.Borrow.{sem};
+ghost use Rattle.ncp_umpire.specs.ViewLends.{LendsView};
 ghost use Rattle.ncp_umpire.specs.Views.{new_view};
 
 use crate::view::View;
@@ -60,6 +62,14 @@ impl Views {
         ensures { result ≡ view_in self.now at peer }
     {
         self.all[index_of(at, peer)]
+    }
+
+    /// What is seen at a host of a peer is what is left there.
+    pub(crate) fn at(&mut self, at: u8, peer: u8) -> &mut View
+        ensures* writes_back { sem 𝓛 (LendsView self.entry at peer result) }
+        ensures value { result.now ≡ view_in self.old at peer }
+    {
+        &mut self.all[index_of(at, peer)]
     }
 
     /// Sees this at a host of a peer.

@@ -8,8 +8,8 @@ use Rattle.ncp_umpire.specs.Judged.{items_said}
 use Rattle.ncp_umpire.proofs.Items.{found_more, view_more, said_more, fewer}
 use Rattle.ncp_umpire.proofs.umpire.judge_items.Goals as goal
 
-pub judge_said-view-requires : goal.judge_said-view-requires
-judge_said-view-requires c =
+pub judge_said-requires : goal.judge_said-requires
+judge_said-requires c =
     let n = fewer c.loop-item.yielded c.loop-item.item-iterator c.into_iter-item-iterator.result c.in-Some.item c.next.new.self c.loop-item.invariant.items c.in-Some.ensures.steps in
     let m = ap (λ (xs : List (Result Command CommandFault)). length xs) c.into_iter-item-iterator.ensures.into_iter_gives in
     omega (arith, n, m, c.new-item-items.ensures.count, c.len-bits.ensures.len, c.len-bits.ensures.fits, c.loop-item.invariant.len, c.requires.few)
@@ -19,28 +19,28 @@ loop-item-preserved c = record {
   can = tt;
   ends = tt;
   items = append_assoc c.loop-item.yielded (c.in-Some.item ∷ []) c.next.new.self ∙ ap (λ items. c.loop-item.yielded ++ items) (sym c.in-Some.ensures.steps) ∙ c.loop-item.invariant.items;
-  view = view_more c.args.scene.turn c.loop-item.yielded c.in-Some.item c.args.view c.loop-item.view c.judge_said-view.result c.loop-item.invariant.view c.judge_said-view.ensures.view;
-  books = said_more c.args.scene.turn c.args.scene.talk c.loop-item.yielded c.in-Some.item c.args.view c.loop-item.view c.args.books.now c.loop-item.books c.judge_said-view.new.books
-      c.loop-item.invariant.view c.loop-item.invariant.books c.judge_said-view.ensures.books;
-  found = found_more c.args.scene.turn c.args.scene.talk c.args.scene.kept.now c.loop-item.yielded c.in-Some.item c.args.view c.loop-item.view c.args.books.now c.loop-item.books c.args.found.now c.loop-item.found c.judge_said-view.new.found
-      c.loop-item.invariant.view c.loop-item.invariant.books c.loop-item.invariant.found c.judge_said-view.ensures.found;
-  len = let l = length-append c.loop-item.yielded (c.in-Some.item ∷ []) in omega (arith, l, c.judge_said-view.ensures.len, c.loop-item.invariant.len);
+  view = view_more c.args.scene.turn c.loop-item.yielded c.in-Some.item c.args.view.now c.loop-item.view c.judge_said.new.view c.loop-item.invariant.view c.judge_said.ensures.view;
+  books = said_more c.args.scene.turn c.args.scene.talk c.loop-item.yielded c.in-Some.item c.args.view.now c.loop-item.view c.args.books.now c.loop-item.books c.judge_said.new.books
+      c.loop-item.invariant.view c.loop-item.invariant.books c.judge_said.ensures.books;
+  found = found_more c.args.scene.turn c.args.scene.talk c.args.scene.kept.now c.loop-item.yielded c.in-Some.item c.args.view.now c.loop-item.view c.args.books.now c.loop-item.books c.args.found.now c.loop-item.found c.judge_said.new.found
+      c.loop-item.invariant.view c.loop-item.invariant.books c.loop-item.invariant.found c.judge_said.ensures.found;
+  len = let l = length-append c.loop-item.yielded (c.in-Some.item ∷ []) in omega (arith, l, c.judge_said.ensures.len, c.loop-item.invariant.len);
 }
 
 pub returns-clause-view : goal.returns-clause-view
 returns-clause-view c =
     let all : c.loop-item.yielded ≡ items_said c.args.text = sym (append-nil c.loop-item.yielded) ∙ ap (λ items. c.loop-item.yielded ++ items) (sym c.in-None.ensures.steps.0) ∙ c.loop-item.invariant.items ∙ c.into_iter-item-iterator.ensures.into_iter_gives ∙ c.new-item-items.ensures.items in
-    c.loop-item.invariant.view ∙ ap (λ items. after_items c.args.scene.turn items c.args.view) all
+    c.loop-item.invariant.view ∙ ap (λ items. after_items c.args.scene.turn items c.args.view.now) all
 
 pub returns-clause-books : goal.returns-clause-books
 returns-clause-books c =
     let all : c.loop-item.yielded ≡ items_said c.args.text = sym (append-nil c.loop-item.yielded) ∙ ap (λ items. c.loop-item.yielded ++ items) (sym c.in-None.ensures.steps.0) ∙ c.loop-item.invariant.items ∙ c.into_iter-item-iterator.ensures.into_iter_gives ∙ c.new-item-items.ensures.items in
-    c.loop-item.invariant.books ∙ ap (λ items. after_talked c.args.scene.turn c.args.scene.talk items c.args.view c.args.books.now) all
+    c.loop-item.invariant.books ∙ ap (λ items. after_talked c.args.scene.turn c.args.scene.talk items c.args.view.now c.args.books.now) all
 
 pub returns-clause-found : goal.returns-clause-found
 returns-clause-found c =
     let all : c.loop-item.yielded ≡ items_said c.args.text = sym (append-nil c.loop-item.yielded) ∙ ap (λ items. c.loop-item.yielded ++ items) (sym c.in-None.ensures.steps.0) ∙ c.loop-item.invariant.items ∙ c.into_iter-item-iterator.ensures.into_iter_gives ∙ c.new-item-items.ensures.items in
-    c.loop-item.invariant.found ∙ ap (λ items. c.args.found.now ++ talked_findings c.args.scene.turn c.args.scene.talk c.args.scene.kept.now items c.args.view c.args.books.now) all
+    c.loop-item.invariant.found ∙ ap (λ items. c.args.found.now ++ talked_findings c.args.scene.turn c.args.scene.talk c.args.scene.kept.now items c.args.view.now c.args.books.now) all
 
 pub returns-clause-len : goal.returns-clause-len
 returns-clause-len c =
