@@ -21,4 +21,5 @@ pub mod PhaseSeen
 pub mod PhaseWalk
 pub mod Others
 pub mod FileWalk
+pub mod Recorded
 pub mod TwoHosts

@@ -1,16 +1,19 @@
--- A walk over a run, in a file that has records of other interfaces too: by no rule at all is the host found to be wrong.
+-- A walk over a run, in a file that has records of other interfaces too: nothing at all is found in what the host sends, so
+-- that by no rule it is found to be wrong.
 use Rattle.std.proofs.Common.{◌≡◌, ℕ, ◌<◌, ◌==◌, Bool, true, false, if◌then◌else◌, List, [], ◌∷◌, ◌++◌, Option, None, Some, refl, sym, ap, ◌∙◌, subst}
 use Rattle.std.proofs.lemmas.Bool.{eqb-true}
 use Rattle.ncp_leader.specs.Message.{message_in}
 use Rattle.ncp_host.specs.PeerState.{PeerState}
 use Rattle.ncp_host.specs.Host.{Host, state_of, is_one_of, are_distinct, new_host}
 use Rattle.ncp_host.specs.Turns.{next_output}
+use Rattle.ncp_transcript.specs.declared.call.Call.{Call}
 use Rattle.ncp_transcript.specs.declared.input.Input.{Input}
 use Rattle.ncp_transcript.specs.declared.note.HostNote.{HostNote}
 use Rattle.ncp_transcript.specs.After.{after_note}
-use Rattle.ncp_transcript.specs.Noting.{answer_in, note_of_message}
+use Rattle.ncp_transcript.specs.Noting.{CallNoted, answer_in, note_of_bits, note_of_message, note_of_output}
 use Rattle.ncp_transcript.specs.Runs.{IsHostSaid, AreHostNotes}
 use Rattle.ncp_transcript.proofs.Saying.{noted_said}
+use Rattle.ncp_transcript_two.specs.Seen.{CallFits}
 use Rattle.ncp_transcript_two.proofs.Fitting.{note-fits}
 use Rattle.ncp_proof_runs.proofs.Said.{IsOut}
 use Rattle.ncp_proof_runs.proofs.HostRuns.{Holds, out-turn, out-is}
@@ -41,12 +44,12 @@ use Rattle.ncp_proof_umpire_talk.proofs.BooksRecord.{record_reads, record_alike}
 use Rattle.ncp_proof_umpire_talk.proofs.TalkWalk.{AllSpoken, spoken_alike, call_talks, in_talks}
 use Rattle.ncp_proof_umpire_talk.proofs.TalkOut.{out_unsaid, out_talks, talks_begin}
 
--- ---- the records between
+-- ---- what is known of a host at its own interface, through each record of a file
 
 -- what is seen of the phases, and what is known of what is said
-record Followed (me : ℕ) (h : Host) (umpire : Umpire) : Type 0 where
-  watches : Watched me h umpire
-  talks : AllSpoken me h umpire
+pub record Followed (me : ℕ) (h : Host) (umpire : Umpire) : Type 0 where
+  pub watches : Watched me h umpire
+  pub talks : AllSpoken me h umpire
 
 -- a record at another interface
 passed_by : (me : ℕ) (h : Host) (umpire : Umpire) (at : ℕ) (way : Way) (bits : List Bool) → ((n : ℕ) (s : PeerState) → state_of h n ≡ Some s → n < 256) → (at == me) ≡ false → Followed me h umpire → Followed me h (after_record umpire way at bits)
@@ -65,15 +68,104 @@ passed_by me h umpire at way bits small d w =
       };
     }
 
+-- with what the host keeps
+pub record AtOwn (ns : List ℕ) (me : ℕ) (h : Host) (umpire : Umpire) : Type 0 where
+  pub holds : Holds ns h
+  pub followed : Followed me h umpire
+  pub ready : AllReady h
+
+-- a record at another interface
+pub own_elsewhere : (ns : List ℕ) (me : ℕ) (h : Host) (umpire : Umpire) (at : ℕ) (way : Way) (bits : List Bool) → (at == me) ≡ false → AtOwn ns me h umpire → AtOwn ns me h (after_record umpire way at bits)
+own_elsewhere ns me h umpire at way bits d k = record {
+  holds = k.holds;
+  followed = passed_by me h umpire at way bits (λ n s there. (k.holds.good n s there).0) d k.followed;
+  ready = k.ready;
+}
+
+-- a call
+pub own_called : (ns : List ℕ) (me : ℕ) (h : Host) (umpire : Umpire) (call : Call) (note : HostNote) → CallNoted call note h → CallFits call → AtOwn ns me h umpire → AtOwn ns me (after_note note h) umpire
+own_called ns me h umpire call note p f k =
+    let said = noted_said (Input.Call call) note h p in
+    let c = call_noted call note h p in
+    let w = k.followed.watches in
+    record {
+      holds = holds-after ns note h k.holds said;
+      followed = record {
+        watches = record { follows = after_call ns me note h umpire k.holds said c w.follows; seen = call_all ns me note h umpire k.holds said c k.ready w.seen };
+        talks = call_talks ns me note h umpire k.holds said c k.ready w.seen k.followed.talks;
+      };
+      ready = ready_after ns note h k.holds said (note-fits call note h p f) k.ready;
+    }
+
+-- what comes
+pub own_came : (ns : List ℕ) (me : ℕ) (h : Host) (umpire : Umpire) (bits : List Bool) (note : HostNote) → me < 256 → is_one_of me ns ≡ false → note ≡ note_of_bits bits h → AtOwn ns me h umpire → AtOwn ns me (after_note note h) (after_record umpire FromImp me bits)
+own_came ns me h umpire bits note l a p k =
+    let said = noted_said (Input.In bits) note h p in
+    let w = k.followed.watches in
+    record {
+      holds = holds-after ns note h k.holds said;
+      followed = record {
+        watches = record { follows = after_in_of ns me h umpire bits note k.holds a said p w.follows; seen = in_all ns me h umpire bits note k.holds a l said p w.follows w.seen };
+        talks = in_talks ns me h umpire bits note k.holds a l said p w.follows k.ready w.seen k.followed.talks;
+      };
+      ready = ready_after ns note h k.holds said (fits_in (answer_in bits h) bits h note p) k.ready;
+    }
+
+-- what goes out: nothing is found
+none_pass : (found : List Finding) → Pass (λ one. false) found → found ≡ []
+none_pass [] p = refl
+none_pass (one ∷ more) p = absurd (cc p)
+
+pub record WentOut (ns : List ℕ) (me : ℕ) (h : Host) (umpire : Umpire) (message : List Bool) : Type 0 where
+  pub none : record_findings umpire ToImp me message ≡ []
+  pub own : AtOwn ns me (after_note (HostNote.Out message) h) (after_record umpire ToImp me message)
+
+pub own_went : (ns : List ℕ) (me : ℕ) (h : Host) (umpire : Umpire) (message : List Bool) → me < 256 → is_one_of me ns ≡ false → next_output h ≡ Some message → AtOwn ns me h umpire → WentOut ns me h umpire message
+own_went ns me h umpire message l a q k =
+    let note : HostNote = HostNote.Out message in
+    let p : note ≡ note_of_output h = sym (ap note_of_message q) in
+    let said : IsHostSaid note h = noted_said Input.Out note h p in
+    let w = k.followed.watches in
+    let t = out-turn ns h message k.holds q in
+    let is : IsOut t.n message t.s = out-is ns h message k.holds t in
+    let other = peer_of_turn ns me h message k.holds a t in
+    let unsaid = out_unsaid ns me t.n h umpire message t.s is k.holds l a said t.found w.follows k.ready w.seen k.followed.talks other in
+    record {
+      none = none_pass (record_findings umpire ToImp me message)
+          (out_passes (λ one. false) ns me t.n h umpire message t.s is k.holds l a said t.found w.follows k.ready w.seen other
+          (empty_pass (λ one. false) (message_talk (umpire_after_out (sees umpire me) me t.n is.on message) me t.n me true (fresh_out (sees umpire me) me t.n is.on message) (message_in message)) unsaid));
+      own = record {
+        holds = holds-after ns note h k.holds said;
+        followed = record {
+          watches = record {
+            follows = after_out_of ns me t.n is.on h umpire message t.s k.holds said is.leader other t.found w.follows;
+            seen = out_all ns me t.n h umpire message t.s is k.holds l a said t.found w.follows k.ready w.seen other;
+          };
+          talks = out_talks ns me t.n h umpire message t.s is k.holds l a said t.found w.follows k.ready w.seen k.followed.talks other;
+        };
+        ready = ready_after ns note h k.holds said (fits_out (next_output h) note p) k.ready;
+      };
+    }
+
+-- the beginning
+pub own_begins : (ns : List ℕ) (me : ℕ) → are_distinct ns ≡ true → ((n : ℕ) → is_one_of n ns ≡ true → n < 256) → AtOwn ns me (new_host me ns) (new_umpire false)
+own_begins ns me distinct places = record {
+  holds = new-holds me ns distinct places;
+  followed = record { watches = record { follows = follows_begins me ns; seen = seen_begins me ns }; talks = talks_begin me ns };
+  ready = ready_begins me ns;
+}
+
+-- ---- the records between
+
 -- what is found from a record of the host on
 abbrev From : (Rule → Bool) → ℕ → Umpire → Way × List Bool → List (ℕ × Way × List Bool) → Type 0
 From judged me umpire x file = Pass (spares judged me) (record_findings umpire x.0 me x.1 ++ found_at (after_record umpire x.0 me x.1) me file)
 
 -- up to the next record of the host
-skip : (judged : Rule → Bool) (me : ℕ) (h : Host) (file : List (ℕ × Way × List Bool)) (umpire : Umpire) (x : Way × List Bool) (rest : List (Way × List Bool)) → ((n : ℕ) (s : PeerState) → state_of h n ≡ Some s → n < 256) → Followed me h umpire → at_interface me file ≡ x ∷ rest
-    → ((u : Umpire) (more : List (ℕ × Way × List Bool)) → Followed me h u → at_interface me more ≡ rest → From judged me u x more) → Pass (spares judged me) (found_at umpire me file)
-skip judged me h [] umpire x rest small w e k = absurd (cc e)
-skip judged me h (one ∷ more) umpire x rest small w e k = go (one.0 == me) refl (λ u v f. skip judged me h more u x rest small v f k)
+skip : (judged : Rule → Bool) (ns : List ℕ) (me : ℕ) (h : Host) (file : List (ℕ × Way × List Bool)) (umpire : Umpire) (x : Way × List Bool) (rest : List (Way × List Bool)) → AtOwn ns me h umpire → at_interface me file ≡ x ∷ rest
+    → ((u : Umpire) (more : List (ℕ × Way × List Bool)) → AtOwn ns me h u → at_interface me more ≡ rest → From judged me u x more) → Pass (spares judged me) (found_at umpire me file)
+skip judged ns me h [] umpire x rest w e k = absurd (cc e)
+skip judged ns me h (one ∷ more) umpire x rest w e k = go (one.0 == me) refl (λ u v f. skip judged ns me h more u x rest v f k)
   where
     next : Bool → List (Way × List Bool)
     next b = if b then (one.1, one.2) ∷ at_interface me more else at_interface me more
@@ -81,7 +173,7 @@ skip judged me h (one ∷ more) umpire x rest small w e k = go (one.0 == me) ref
     found : Bool → List Finding
     found b = (if b then record_findings umpire one.1 one.0 one.2 else []) ++ found_at (after_record umpire one.1 one.0 one.2) me more
 
-    go : (b : Bool) → (one.0 == me) ≡ b → ((u : Umpire) → Followed me h u → at_interface me more ≡ x ∷ rest → Pass (spares judged me) (found_at u me more)) → Pass (spares judged me) (found_at umpire me (one ∷ more))
+    go : (b : Bool) → (one.0 == me) ≡ b → ((u : Umpire) → AtOwn ns me h u → at_interface me more ≡ x ∷ rest → Pass (spares judged me) (found_at u me more)) → Pass (spares judged me) (found_at umpire me (one ∷ more))
     go true d later =
         let both_same : (one.1, one.2) ∷ at_interface me more ≡ x ∷ rest = sym (ap next d) ∙ e in
         let head : (one.1, one.2) ≡ x = cc both_same in
@@ -91,7 +183,7 @@ skip judged me h (one ∷ more) umpire x rest small w e k = go (one.0 == me) ref
         (subst (λ (y : Way × List Bool). From judged me umpire y more) (sym head) (k umpire more w tail)))
     go false d later =
         subst (λ (b : Bool). Pass (spares judged me) (found b)) (sym d)
-        (later (after_record umpire one.1 one.0 one.2) (passed_by me h umpire one.0 one.1 one.2 small d w) (sym (ap next d) ∙ e))
+        (later (after_record umpire one.1 one.0 one.2) (own_elsewhere ns me h umpire one.0 one.1 one.2 d w) (sym (ap next d) ∙ e))
 
 -- behind the last one
 no_more : (judged : Rule → Bool) (me : ℕ) (file : List (ℕ × Way × List Bool)) (umpire : Umpire) → at_interface me file ≡ [] → Pass (spares judged me) (found_at umpire me file)
@@ -110,67 +202,42 @@ no_more judged me (one ∷ more) umpire e = go (one.0 == me) refl (no_more judge
 
 -- ---- the walk
 
-walk : (judged : Rule → Bool) (ns : List ℕ) (me : ℕ) (given : List Input) (noted : List HostNote) (h : Host) (umpire : Umpire) (file : List (ℕ × Way × List Bool)) → me < 256 → is_one_of me ns ≡ false → Holds ns h → Followed me h umpire → AllReady h → AreFit given → AreHostNotes given noted h
+walk : (judged : Rule → Bool) (ns : List ℕ) (me : ℕ) (given : List Input) (noted : List HostNote) (h : Host) (umpire : Umpire) (file : List (ℕ × Way × List Bool)) → me < 256 → is_one_of me ns ≡ false → AtOwn ns me h umpire → AreFit given → AreHostNotes given noted h
     → at_interface me file ≡ recording given noted → Pass (spares judged me) (found_at umpire me file)
-walk judged ns me [] noted h umpire file l a k w ready f p e = no_more judged me file umpire e
-walk judged ns me (input ∷ given) [] h umpire file l a k w ready f p e = no_more judged me file umpire e
-walk judged ns me (Input.Call call ∷ given) (note ∷ noted) h umpire file l a k w ready f p e =
-    let said = noted_said (Input.Call call) note h p.0 in
-    let c = call_noted call note h p.0 in
-    walk judged ns me given noted (after_note note h) umpire file l a (holds-after ns note h k said) (record {
-      watches = record { follows = after_call ns me note h umpire k said c w.watches.follows; seen = call_all ns me note h umpire k said c ready w.watches.seen };
-      talks = call_talks ns me note h umpire k said c ready w.watches.seen w.talks;
-    }) (ready_after ns note h k said (note-fits call note h p.0 f.0) ready) f.1 p.1 e
-walk judged ns me (Input.In bits ∷ given) (note ∷ noted) h umpire file l a k w ready f p e =
-    let said = noted_said (Input.In bits) note h p.0 in
-    skip judged me h file umpire (FromImp, bits) (recording given noted) (λ n s there. (k.good n s there).0) w e
+walk judged ns me [] noted h umpire file l a k f p e = no_more judged me file umpire e
+walk judged ns me (input ∷ given) [] h umpire file l a k f p e = no_more judged me file umpire e
+walk judged ns me (Input.Call call ∷ given) (note ∷ noted) h umpire file l a k f p e = walk judged ns me given noted (after_note note h) umpire file l a (own_called ns me h umpire call note p.0 f.0 k) f.1 p.1 e
+walk judged ns me (Input.In bits ∷ given) (note ∷ noted) h umpire file l a k f p e =
+    skip judged ns me h file umpire (FromImp, bits) (recording given noted) k e
     (λ u more v d.
     both (spares judged me) (record_findings u FromImp me bits) (found_at (after_record u FromImp me bits) me more) (spared judged me u bits)
-    (walk judged ns me given noted (after_note note h) (after_record u FromImp me bits) more l a (holds-after ns note h k said) (record {
-      watches = record { follows = after_in_of ns me h u bits note k a said p.0 v.watches.follows; seen = in_all ns me h u bits note k a l said p.0 v.watches.follows v.watches.seen };
-      talks = in_talks ns me h u bits note k a l said p.0 v.watches.follows ready v.watches.seen v.talks;
-    }) (ready_after ns note h k said (fits_in (answer_in bits h) bits h note p.0) ready) f p.1 d))
-walk judged ns me (Input.Out ∷ given) (note ∷ noted) h umpire file l a k w ready f p e =
-    let said = noted_said Input.Out note h p.0 in
-    go (next_output h) refl p.0 said e
-    (λ u more v d. walk judged ns me given noted (after_note note h) u more l a (holds-after ns note h k said) v (ready_after ns note h k said (fits_out (next_output h) note p.0) ready) f p.1 d)
+    (walk judged ns me given noted (after_note note h) (after_record u FromImp me bits) more l a (own_came ns me h u bits note l a p.0 v) f p.1 d))
+walk judged ns me (Input.Out ∷ given) (note ∷ noted) h umpire file l a k f p e =
+    go (next_output h) refl p.0 e (λ u more v d. walk judged ns me given noted (after_note note h) u more l a v f p.1 d)
   where
     Rest : HostNote → Type 0
-    Rest x = (u : Umpire) (more : List (ℕ × Way × List Bool)) → Followed me (after_note x h) u → at_interface me more ≡ recording given noted → Pass (spares judged me) (found_at u me more)
+    Rest x = (u : Umpire) (more : List (ℕ × Way × List Bool)) → AtOwn ns me (after_note x h) u → at_interface me more ≡ recording given noted → Pass (spares judged me) (found_at u me more)
 
-    out : (message : List Bool) → next_output h ≡ Some message → IsHostSaid (HostNote.Out message) h → at_interface me file ≡ (ToImp, message) ∷ recording given noted → Rest (HostNote.Out message) → Pass (spares judged me) (found_at umpire me file)
-    out message q said e rest =
-        let t = out-turn ns h message k q in
-        let is : IsOut t.n message t.s = out-is ns h message k t in
-        let other = peer_of_turn ns me h message k a t in
-        skip judged me h file umpire (ToImp, message) (recording given noted) (λ n s there. (k.good n s there).0) w e
+    out : (message : List Bool) → next_output h ≡ Some message → at_interface me file ≡ (ToImp, message) ∷ recording given noted → Rest (HostNote.Out message) → Pass (spares judged me) (found_at umpire me file)
+    out message q e rest =
+        skip judged ns me h file umpire (ToImp, message) (recording given noted) k e
         (λ u more v d.
-        let none = out_unsaid ns me t.n h u message t.s is k l a said t.found v.watches.follows ready v.watches.seen v.talks other in
-        both (spares judged me) (record_findings u ToImp me message) (found_at (after_record u ToImp me message) me more)
-        (out_passes (spares judged me) ns me t.n h u message t.s is k l a said t.found v.watches.follows ready v.watches.seen other (empty_pass (spares judged me) (message_talk (umpire_after_out (sees u me) me t.n is.on message) me t.n me true (fresh_out (sees u me) me t.n is.on message) (message_in message)) none))
-        (rest (after_record u ToImp me message) more (record {
-          watches = record {
-            follows = after_out_of ns me t.n is.on h u message t.s k said is.leader other t.found v.watches.follows;
-            seen = out_all ns me t.n h u message t.s is k l a said t.found v.watches.follows ready v.watches.seen other;
-          };
-          talks = out_talks ns me t.n h u message t.s is k l a said t.found v.watches.follows ready v.watches.seen v.talks other;
-        }) d))
+        let went : WentOut ns me h u message = own_went ns me h u message l a q v in
+        both (spares judged me) (record_findings u ToImp me message) (found_at (after_record u ToImp me message) me more) (empty_pass (spares judged me) (record_findings u ToImp me message) went.none)
+        (rest (after_record u ToImp me message) more went.own d))
 
-    go : (o : Option (List Bool)) → next_output h ≡ o → note ≡ note_of_message o → IsHostSaid note h → at_interface me file ≡ gone_by note ++ recording given noted → Rest note → Pass (spares judged me) (found_at umpire me file)
-    go None q is said e rest = (subst Rest is rest) umpire file w (subst (λ (x : HostNote). at_interface me file ≡ gone_by x ++ recording given noted) is e)
-    go (Some message) q is said e rest =
-        out message q (subst (λ (x : HostNote). IsHostSaid x h) is said) (subst (λ (x : HostNote). at_interface me file ≡ gone_by x ++ recording given noted) is e) (subst Rest is rest)
+    -- where nothing goes out the note changes nothing
+    still : Rest HostNote.Nothing → at_interface me file ≡ recording given noted → Pass (spares judged me) (found_at umpire me file)
+    still rest e = rest umpire file k e
 
--- from the beginning
-run_spared : (judged : Rule → Bool) (ns : List ℕ) (me : ℕ) (given : List Input) (noted : List HostNote) (file : List (ℕ × Way × List Bool)) → are_distinct ns ≡ true → is_one_of me ns ≡ false → ((n : ℕ) → is_one_of n ns ≡ true → n < 256) → me < 256 → AreFit given → AreHostNotes given noted (new_host me ns)
-    → at_interface me file ≡ recording given noted → Pass (spares judged me) (found_at (new_umpire false) me file)
-run_spared judged ns me given noted file distinct away places small fit p here =
-    walk judged ns me given noted (new_host me ns) (new_umpire false) file small away (new-holds me ns distinct places)
-    (record { watches = record { follows = follows_begins me ns; seen = seen_begins me ns }; talks = talks_begin me ns }) (ready_begins me ns) fit p here
+    go : (o : Option (List Bool)) → next_output h ≡ o → note ≡ note_of_message o → at_interface me file ≡ gone_by note ++ recording given noted → Rest note → Pass (spares judged me) (found_at umpire me file)
+    go None q is e rest = still (subst Rest is rest) (subst (λ (x : HostNote). at_interface me file ≡ gone_by x ++ recording given noted) is e)
+    go (Some message) q is e rest = out message q (subst (λ (x : HostNote). at_interface me file ≡ gone_by x ++ recording given noted) is e) (subst Rest is rest)
 
 -- whatever rules are asked for
 pub nobody_blamed : (judged : Rule → Bool) → NobodyBlamed judged
 nobody_blamed judged me ns given now file peers places small fit steps here =
     let w = noted given (begun_alone me ns) now steps in
     let parts = peers_parts me ns peers in
-    run_spared judged ns me given w.0 file parts.0 parts.1 places small fit w.2 (subst (λ (all : List HostNote). at_interface me file ≡ recording given all) w.1 here)
+    walk judged ns me given w.0 (new_host me ns) (new_umpire false) file small parts.1 (own_begins ns me parts.0 places) fit w.2
+    (subst (λ (all : List HostNote). at_interface me file ≡ recording given all) w.1 here)
