@@ -1,6 +1,10 @@
--- In the file of two to eight hosts with the subnet between them nothing is found but of what is said.
-use Rattle.std.proofs.Common.{◌≡◌, ◌≢◌, ◌⊎◌, inl, inr, ℕ, ◌<◌, Bool, true, false, ◌&&◌, nat_le, List, [], ◌∷◌, length, refl, sym, ap, ◌∙◌, subst}
+-- In the file of two to eight hosts with the subnet between them nothing is found that is not found in the file of two of them:
+-- what is known of two hosts and is left by the records of others is known of each two. So nothing is found but of what is
+-- said.
+use Rattle.std.proofs.Common.{◌≡◌, ◌≢◌, ◌⊎◌, inl, inr, ℕ, ◌<◌, Bool, true, false, ◌&&◌, nat_le, List, [], ◌∷◌, length, Ok, refl, sym, ap, ◌∙◌, subst}
 use Rattle.std.proofs.lemmas.Bool.{and_parts}
+use Rattle.ncp_leader.specs.declared.leader.Leader.{Leader}
+use Rattle.ncp_leader.specs.Leader.{leader_in}
 use Rattle.ncp_host.specs.Host.{is_one_of, are_distinct}
 use Rattle.ncp_transcript_two.specs.declared.note.Note.{Note}
 use Rattle.ncp_transcript_two.specs.Between.{Hosts, new_hosts, hosts_after_note, hosts_after_notes}
@@ -25,7 +29,8 @@ use Rattle.ncp_proof_umpire.specs.Recordings.{is_of_messages_and_phase}
 use Rattle.ncp_proof_umpire.specs.Worlds.{passes_between}
 use Rattle.ncp_proof_umpire_many.specs.Files.{findings_in}
 use Rattle.ncp_proof_umpire_many.proofs.Quiet.{phase_quiet, none_by}
-use Rattle.ncp_proof_umpire_many.proofs.Walk.{after_file, found_both}
+use Rattle.ncp_proof_umpire_many.proofs.Walk.{Steps, after_file, found_both}
+use Rattle.ncp_proof_umpire_many.proofs.Between.{Joined}
 use Rattle.ncp_proof_umpire_many.proofs.Both.{Both, each_step, begins}
 use Rattle.ncp_proof_umpire_many.specs.ManyFiles.{passing, many_file, AllFit, RecordsFit, NothingFoundAmongMany}
 use Rattle.ncp_proof_umpire_many.proofs.Elsewhere.{IsOfOthers, record_spares, both_spared}
@@ -33,179 +38,212 @@ use Rattle.ncp_proof_umpire_many.proofs.Named.{IsOff, IsOf, which}
 use Rattle.ncp_proof_umpire_many.proofs.Records.{AllName, passes_fit, names_fit, fit_both}
 use Rattle.ncp_proof_umpire_many.proofs.Crowded.{Whole, whole_after, new_whole, OfTwo, About, about}
 
--- ---- a note of the two
+-- what is known of two hosts, through all that happens between them, and through each record of two others
+pub record Lifts (passes : Finding → Bool) (I : Hosts → Umpire → Type 0) : Type 0 where
+  pub steps : Steps passes I
+  pub begins : (a b : ℕ) → a ≢ b → a < 256 → b < 256 → I (new_hosts a b) (new_umpire false)
+  pub joined : (w : Hosts) (umpire : Umpire) → I w umpire → Joined w
+  pub others : (w : Hosts) (umpire : Umpire) (at : ℕ) (way : Way) (bits : List Bool) (leader : Leader) → at < 256 → leader.host < 256 → leader_in bits ≡ Ok leader
+      → IsOfOthers w.number_a w.number_b at leader.host → I w umpire → I w (after_record umpire way at bits)
 
-record Went (m : Crowd) (umpire : Umpire) (w : Hosts) (n : ManyNote) : Type 0 where
-  two : Note
-  none : Pass phase_quiet (findings_in umpire (passing n))
-  names : AllName w.number_a w.number_b (passing n)
-  agrees : Agrees (after_many n m) (hosts_after_note two w)
-  both : Both (hosts_after_note two w) (after_file umpire (passing n))
+-- of all files of two to eight hosts
+abbrev pub AllPassAmong : (Finding → Bool) → Type 0
+AllPassAmong passes = (notes : List ManyNote) (now : Crowd) → IsManyTranscript notes now → Pass passes (findings_in (new_umpire false) (many_file notes))
 
-went : (m : Crowd) (umpire : Umpire) (w : Hosts) (event : ManyEvent) (n : ManyNote) → Fine m → ManyNoted event n m → Agrees m w → Both w umpire → IsOf w.number_a w.number_b n → Went m umpire w n
-went m umpire w event n f noted g k of =
-    let two : Note = of.0 in
-    let p = subst (λ (ns : List Note). IsRun ns w × Agrees (after_many n m) (hosts_after_notes ns w)) of.1 (paired m f w g event n noted) in
-    let said : IsSaid two w = p.0.0 in
-    let file : List (ℕ × Way × List Bool) = passes_between said.0 two w in
-    let fits = passes_fit said.0 two w said.1 k.joined in
-    let is : file ≡ passing n = sym (ap passing of.2 ∙ fits.0) in
-    let did = each_step said.0 two w umpire said.1 k in
-    record {
-      two = two;
-      none = subst (λ (xs : List (ℕ × Way × List Bool)). Pass phase_quiet (findings_in umpire xs)) is did.0;
-      names = subst (AllName w.number_a w.number_b) is fits.1;
-      agrees = p.1;
-      both = subst (λ (xs : List (ℕ × Way × List Bool)). Both (hosts_after_note two w) (after_file umpire xs)) is did.1;
+module _ (passes : Finding → Bool) (I : Hosts → Umpire → Type 0) (lifts : Lifts passes I) where
+  -- ---- a note of the two
+
+  record Went (m : Crowd) (umpire : Umpire) (w : Hosts) (n : ManyNote) : Type 0 where
+    two : Note
+    none : Pass passes (findings_in umpire (passing n))
+    names : AllName w.number_a w.number_b (passing n)
+    agrees : Agrees (after_many n m) (hosts_after_note two w)
+    known : I (hosts_after_note two w) (after_file umpire (passing n))
+
+  went : (m : Crowd) (umpire : Umpire) (w : Hosts) (event : ManyEvent) (n : ManyNote) → Fine m → ManyNoted event n m → Agrees m w → I w umpire → IsOf w.number_a w.number_b n → Went m umpire w n
+  went m umpire w event n f noted g k of =
+      let two : Note = of.0 in
+      let p = subst (λ (ns : List Note). IsRun ns w × Agrees (after_many n m) (hosts_after_notes ns w)) of.1 (paired m f w g event n noted) in
+      let said : IsSaid two w = p.0.0 in
+      let file : List (ℕ × Way × List Bool) = passes_between said.0 two w in
+      let fits = passes_fit said.0 two w said.1 (lifts.joined w umpire k) in
+      let is : file ≡ passing n = sym (ap passing of.2 ∙ fits.0) in
+      let did = lifts.steps said.0 two w umpire said.1 k in
+      record {
+        two = two;
+        none = subst (λ (xs : List (ℕ × Way × List Bool)). Pass passes (findings_in umpire xs)) is did.0;
+        names = subst (AllName w.number_a w.number_b) is fits.1;
+        agrees = p.1;
+        known = subst (λ (xs : List (ℕ × Way × List Bool)). I (hosts_after_note two w) (after_file umpire xs)) is did.1;
+      }
+
+  -- ---- a note of others
+
+  -- the records of two others leave the two
+  others_leave : (w : Hosts) (c d : ℕ) (file : List (ℕ × Way × List Bool)) (umpire : Umpire) → c < 256 → d < 256 → (c ≡ w.number_a → d ≡ w.number_b → ⊥) → (c ≡ w.number_b → d ≡ w.number_a → ⊥) → AllName c d file → I w umpire → I w (after_file umpire file)
+  others_leave w c d [] umpire i j this that n k = k
+  others_leave w c d (one ∷ more) umpire i j this that n k = others_leave w c d more (after_record umpire one.1 one.0 one.2) i j this that n.1 (go n.0.ends)
+    where
+      host : ℕ
+      host = n.0.leader.host
+
+      done : one.0 < 256 → host < 256 → IsOfOthers w.number_a w.number_b one.0 host → I w (after_record umpire one.1 one.0 one.2)
+      done x y away = lifts.others w umpire one.0 one.1 one.2 n.0.leader x y n.0.led away k
+
+      go : ((one.0 ≡ c) × (host ≡ d)) ⊎ ((one.0 ≡ d) × (host ≡ c)) → I w (after_record umpire one.1 one.0 one.2)
+      go (inl e) =
+          done (subst (λ (x : ℕ). x < 256) (sym e.0) i) (subst (λ (x : ℕ). x < 256) (sym e.1) j)
+          (λ p q. this (sym e.0 ∙ p) (sym e.1 ∙ q), λ p q. that (sym e.0 ∙ q) (sym e.1 ∙ p))
+      go (inr e) =
+          done (subst (λ (x : ℕ). x < 256) (sym e.0) j) (subst (λ (x : ℕ). x < 256) (sym e.1) i)
+          (λ p q. that (sym e.1 ∙ q) (sym e.0 ∙ p), λ p q. this (sym e.1 ∙ p) (sym e.0 ∙ q))
+
+  -- ---- all of them
+
+  -- two of the hosts, as a world of two that has what they have for each other, with all that is known of it
+  record Pair (m : Crowd) (umpire : Umpire) (a b : ℕ) : Type 0 where
+    w : Hosts
+    is_a : w.number_a ≡ a
+    is_b : w.number_b ≡ b
+    agrees : Agrees m w
+    known : I w umpire
+
+  joined_in : {m : Crowd} {umpire : Umpire} {a b : ℕ} → (p : Pair m umpire a b) → Joined p.w
+  joined_in {umpire = umpire} p = lifts.joined p.w umpire p.known
+
+  record Among (m : Crowd) (umpire : Umpire) : Type 0 where
+    fine : Fine m
+    whole : Whole m
+    pairs : (a b : ℕ) → is_there a m ≡ true → is_there b m ≡ true → a ≢ b → Pair m umpire a b
+
+  -- what a note shows of the findings, and of others: its records leave each two that it does not name
+  record Shown (m : Crowd) (umpire : Umpire) (n : ManyNote) : Type 0 where
+    none : Pass passes (findings_in umpire (passing n))
+    fit : AllFit (passing n)
+    leaves : (w : Hosts) → IsOff w.number_a w.number_b n → I w umpire → I w (after_file umpire (passing n))
+
+  module _ (m : Crowd) (umpire : Umpire) (event : ManyEvent) (n : ManyNote) (noted : ManyNoted event n m) (k : Among m umpire) where
+    of_pair : (o : OfTwo m n) → Went m umpire (k.pairs o.c o.d o.there_c o.there_d o.differ).w n
+    of_pair o = go (which w.number_a w.number_b n)
+      where
+        p : Pair m umpire o.c o.d
+        p = k.pairs o.c o.d o.there_c o.there_d o.differ
+
+        w : Hosts
+        w = p.w
+
+        go : IsOff w.number_a w.number_b n ⊎ IsOf w.number_a w.number_b n → Went m umpire w n
+        go (inl off) = absurd (off.forth o.c o.d o.named (sym p.is_a) (sym p.is_b))
+        go (inr of) = went m umpire w event n k.fine noted p.agrees p.known of
+
+    shown : Shown m umpire n
+    shown = go (about event n m noted k.whole)
+      where
+        go : About m n → Shown m umpire n
+        go (inl none) = record {
+          none = subst (λ (xs : List (ℕ × Way × List Bool)). Pass passes (findings_in umpire xs)) (sym none) refl;
+          fit = subst AllFit (sym none) tt;
+          leaves = λ w off x. subst (λ (xs : List (ℕ × Way × List Bool)). I w (after_file umpire xs)) (sym none) x;
+        }
+        go (inr o) =
+            let p = k.pairs o.c o.d o.there_c o.there_d o.differ in
+            let did = of_pair o in
+            record {
+              none = did.none;
+              fit = names_fit p.w.number_a p.w.number_b (passing n) (joined_in p).stand.fits_a (joined_in p).stand.fits_b did.names;
+              leaves = λ w off x.
+                  others_leave w p.w.number_a p.w.number_b (passing n) umpire (joined_in p).stand.fits_a (joined_in p).stand.fits_b
+                  (λ i j. off.forth o.c o.d o.named (sym p.is_a ∙ i) (sym p.is_b ∙ j))
+                  (λ i j. off.back o.c o.d o.named (sym p.is_a ∙ i) (sym p.is_b ∙ j))
+                  did.names x;
+            }
+
+    pair_after : (a b : ℕ) → Pair m umpire a b → Pair (after_many n m) (after_file umpire (passing n)) a b
+    pair_after a b p = go (which p.w.number_a p.w.number_b n)
+      where
+        go : IsOff p.w.number_a p.w.number_b n ⊎ IsOf p.w.number_a p.w.number_b n → Pair (after_many n m) (after_file umpire (passing n)) a b
+        go (inl off) = record {
+          w = p.w;
+          is_a = p.is_a;
+          is_b = p.is_b;
+          agrees = subst (λ (ns : List Note). Agrees (after_many n m) (hosts_after_notes ns p.w)) off.none (paired m k.fine p.w p.agrees event n noted).1;
+          known = shown.leaves p.w off p.known;
+        }
+        go (inr of) =
+            let did = went m umpire p.w event n k.fine noted p.agrees p.known of in
+            record {
+              w = hosts_after_note did.two p.w;
+              is_a = a-stays (did.two ∷ []) p.w ∙ p.is_a;
+              is_b = b-stays (did.two ∷ []) p.w ∙ p.is_b;
+              agrees = did.agrees;
+              known = did.known;
+            }
+
+    among_after : Among (after_many n m) (after_file umpire (passing n))
+    among_after = record {
+      fine = fine-after m k.fine event n noted;
+      whole = whole_after event n m noted k.whole;
+      pairs = λ a b i j differ.
+          (let same : numbers_in (after_many n m) ≡ numbers_in m = numbers-after n m in
+          pair_after a b (k.pairs a b (sym (ap (is_one_of a) same) ∙ i) (sym (ap (is_one_of b) same) ∙ j) differ));
     }
 
--- ---- a note of others
+  -- ---- the walk
 
--- the records of two others leave the two
-others_leave : (w : Hosts) (c d : ℕ) (file : List (ℕ × Way × List Bool)) (umpire : Umpire) → c < 256 → d < 256 → (c ≡ w.number_a → d ≡ w.number_b → ⊥) → (c ≡ w.number_b → d ≡ w.number_a → ⊥) → AllName c d file → Both w umpire → Both w (after_file umpire file)
-others_leave w c d [] umpire i j this that n k = k
-others_leave w c d (one ∷ more) umpire i j this that n k = others_leave w c d more (after_record umpire one.1 one.0 one.2) i j this that n.1 (go n.0.ends)
-  where
-    host : ℕ
-    host = n.0.leader.host
+  walk : (notes : List ManyNote) (m : Crowd) (umpire : Umpire) → IsManyRun notes m → Among m umpire → Pass passes (findings_in umpire (many_file notes))
+  walk [] m umpire r k = refl
+  walk (n ∷ notes) m umpire r k =
+      subst (λ (xs : List Finding). Pass passes xs) (sym (found_both umpire (passing n) (many_file notes)))
+      (both passes (findings_in umpire (passing n)) (findings_in (after_file umpire (passing n)) (many_file notes)) (shown m umpire r.0.0 n r.0.1 k).none
+      (walk notes (after_many n m) (after_file umpire (passing n)) r.1 (among_after m umpire r.0.0 n r.0.1 k)))
 
-    done : one.0 < 256 → host < 256 → IsOfOthers w.number_a w.number_b one.0 host → Both w (after_record umpire one.1 one.0 one.2)
-    done x y away =
-        both_spared w umpire (after_record umpire one.1 one.0 one.2)
-        (record_spares w.number_a w.number_b one.0 one.1 one.2 n.0.leader umpire x y k.joined.stand.fits_b n.0.led away)
-        (record_spares w.number_b w.number_a one.0 one.1 one.2 n.0.leader umpire x y k.joined.stand.fits_a n.0.led (λ p q. away.1 q p, λ p q. away.0 q p)) k
+  walk_fits : (notes : List ManyNote) (m : Crowd) (umpire : Umpire) → IsManyRun notes m → Among m umpire → AllFit (many_file notes)
+  walk_fits [] m umpire r k = tt
+  walk_fits (n ∷ notes) m umpire r k =
+      fit_both (passing n) (many_file notes) (shown m umpire r.0.0 n r.0.1 k).fit
+      (walk_fits notes (after_many n m) (after_file umpire (passing n)) r.1 (among_after m umpire r.0.0 n r.0.1 k))
 
-    go : ((one.0 ≡ c) × (host ≡ d)) ⊎ ((one.0 ≡ d) × (host ≡ c)) → Both w (after_record umpire one.1 one.0 one.2)
-    go (inl e) =
-        done (subst (λ (x : ℕ). x < 256) (sym e.0) i) (subst (λ (x : ℕ). x < 256) (sym e.1) j)
-        (λ p q. this (sym e.0 ∙ p) (sym e.1 ∙ q), λ p q. that (sym e.0 ∙ q) (sym e.1 ∙ p))
-    go (inr e) =
-        done (subst (λ (x : ℕ). x < 256) (sym e.0) j) (subst (λ (x : ℕ). x < 256) (sym e.1) i)
-        (λ p q. that (sym e.1 ∙ q) (sym e.0 ∙ p), λ p q. this (sym e.1 ∙ p) (sym e.0 ∙ q))
-
--- ---- all of them
-
--- two of the hosts, as a world of two that has what they have for each other, with all that is known of it
-record Pair (m : Crowd) (umpire : Umpire) (a b : ℕ) : Type 0 where
-  w : Hosts
-  is_a : w.number_a ≡ a
-  is_b : w.number_b ≡ b
-  agrees : Agrees m w
-  both : Both w umpire
-
-record Among (m : Crowd) (umpire : Umpire) : Type 0 where
-  fine : Fine m
-  whole : Whole m
-  pairs : (a b : ℕ) → is_there a m ≡ true → is_there b m ≡ true → a ≢ b → Pair m umpire a b
-
--- what a note shows of the findings, and of others: its records leave each two that it does not name
-record Shown (m : Crowd) (umpire : Umpire) (n : ManyNote) : Type 0 where
-  none : Pass phase_quiet (findings_in umpire (passing n))
-  fit : AllFit (passing n)
-  leaves : (w : Hosts) → IsOff w.number_a w.number_b n → Both w umpire → Both w (after_file umpire (passing n))
-
-module _ (m : Crowd) (umpire : Umpire) (event : ManyEvent) (n : ManyNote) (noted : ManyNoted event n m) (k : Among m umpire) where
-  of_pair : (o : OfTwo m n) → Went m umpire (k.pairs o.c o.d o.there_c o.there_d o.differ).w n
-  of_pair o = go (which w.number_a w.number_b n)
-    where
-      p : Pair m umpire o.c o.d
-      p = k.pairs o.c o.d o.there_c o.there_d o.differ
-
-      w : Hosts
-      w = p.w
-
-      go : IsOff w.number_a w.number_b n ⊎ IsOf w.number_a w.number_b n → Went m umpire w n
-      go (inl off) = absurd (off.forth o.c o.d o.named (sym p.is_a) (sym p.is_b))
-      go (inr of) = went m umpire w event n k.fine noted p.agrees p.both of
-
-  shown : Shown m umpire n
-  shown = go (about event n m noted k.whole)
-    where
-      go : About m n → Shown m umpire n
-      go (inl none) = record {
-        none = subst (λ (xs : List (ℕ × Way × List Bool)). Pass phase_quiet (findings_in umpire xs)) (sym none) refl;
-        fit = subst AllFit (sym none) tt;
-        leaves = λ w off x. subst (λ (xs : List (ℕ × Way × List Bool)). Both w (after_file umpire xs)) (sym none) x;
-      }
-      go (inr o) =
-          let p = k.pairs o.c o.d o.there_c o.there_d o.differ in
-          let did = of_pair o in
-          record {
-            none = did.none;
-            fit = names_fit p.w.number_a p.w.number_b (passing n) p.both.joined.stand.fits_a p.both.joined.stand.fits_b did.names;
-            leaves = λ w off x.
-                others_leave w p.w.number_a p.w.number_b (passing n) umpire p.both.joined.stand.fits_a p.both.joined.stand.fits_b
-                (λ i j. off.forth o.c o.d o.named (sym p.is_a ∙ i) (sym p.is_b ∙ j))
-                (λ i j. off.back o.c o.d o.named (sym p.is_a ∙ i) (sym p.is_b ∙ j))
-                did.names x;
-          }
-
-  pair_after : (a b : ℕ) → Pair m umpire a b → Pair (after_many n m) (after_file umpire (passing n)) a b
-  pair_after a b p = go (which p.w.number_a p.w.number_b n)
-    where
-      go : IsOff p.w.number_a p.w.number_b n ⊎ IsOf p.w.number_a p.w.number_b n → Pair (after_many n m) (after_file umpire (passing n)) a b
-      go (inl off) = record {
-        w = p.w;
-        is_a = p.is_a;
-        is_b = p.is_b;
-        agrees = subst (λ (ns : List Note). Agrees (after_many n m) (hosts_after_notes ns p.w)) off.none (paired m k.fine p.w p.agrees event n noted).1;
-        both = shown.leaves p.w off p.both;
-      }
-      go (inr of) =
-          let did = went m umpire p.w event n k.fine noted p.agrees p.both of in
-          record {
-            w = hosts_after_note did.two p.w;
-            is_a = a-stays (did.two ∷ []) p.w ∙ p.is_a;
-            is_b = b-stays (did.two ∷ []) p.w ∙ p.is_b;
-            agrees = did.agrees;
-            both = did.both;
-          }
-
-  among_after : Among (after_many n m) (after_file umpire (passing n))
-  among_after = record {
-    fine = fine-after m k.fine event n noted;
-    whole = whole_after event n m noted k.whole;
+  all_begin : (ns : List ℕ) → are_hosts ns ≡ true → ((n : ℕ) → is_one_of n ns ≡ true → n < 256) → Among (new_crowd ns) (new_umpire false)
+  all_begin ns good fits = record {
+    fine = new-fine ns good fits;
+    whole = new_whole ns (and_parts (nat_le 2 (length ns) && nat_le (length ns) MAX_HOSTS) (are_distinct ns) good).1 fits;
     pairs = λ a b i j differ.
-        (let same : numbers_in (after_many n m) ≡ numbers_in m = numbers-after n m in
-        pair_after a b (k.pairs a b (sym (ap (is_one_of a) same) ∙ i) (sym (ap (is_one_of b) same) ∙ j) differ));
+        (let one : is_one_of a ns ≡ true = sym (ap (is_one_of a) (new-numbers ns)) ∙ i in
+        let other : is_one_of b ns ≡ true = sym (ap (is_one_of b) (new-numbers ns)) ∙ j in
+        record {
+          w = new_hosts a b;
+          is_a = refl;
+          is_b = refl;
+          agrees = new-agrees ns good fits a b one other differ;
+          known = lifts.begins a b differ (fits a one) (fits b other);
+        });
   }
 
--- ---- the walk
+  pub all_among : AllPassAmong passes
+  all_among notes now t = walk notes (new_crowd (numbers_in now)) (new_umpire false) t.run (all_begin (numbers_in now) t.hosts t.fits)
 
-walk : (notes : List ManyNote) (m : Crowd) (umpire : Umpire) → IsManyRun notes m → Among m umpire → Pass phase_quiet (findings_in umpire (many_file notes))
-walk [] m umpire r k = refl
-walk (n ∷ notes) m umpire r k =
-    subst (λ (xs : List Finding). Pass phase_quiet xs) (sym (found_both umpire (passing n) (many_file notes)))
-    (both phase_quiet (findings_in umpire (passing n)) (findings_in (after_file umpire (passing n)) (many_file notes)) (shown m umpire r.0.0 n r.0.1 k).none
-    (walk notes (after_many n m) (after_file umpire (passing n)) r.1 (among_after m umpire r.0.0 n r.0.1 k)))
+  pub records_fit : RecordsFit
+  records_fit notes now t = walk_fits notes (new_crowd (numbers_in now)) (new_umpire false) t.run (all_begin (numbers_in now) t.hosts t.fits)
 
-walk_fits : (notes : List ManyNote) (m : Crowd) (umpire : Umpire) → IsManyRun notes m → Among m umpire → AllFit (many_file notes)
-walk_fits [] m umpire r k = tt
-walk_fits (n ∷ notes) m umpire r k =
-    fit_both (passing n) (many_file notes) (shown m umpire r.0.0 n r.0.1 k).fit
-    (walk_fits notes (after_many n m) (after_file umpire (passing n)) r.1 (among_after m umpire r.0.0 n r.0.1 k))
+-- ---- by the rules of messages and of the phase
 
-all_begin : (ns : List ℕ) → are_hosts ns ≡ true → ((n : ℕ) → is_one_of n ns ≡ true → n < 256) → Among (new_crowd ns) (new_umpire false)
-all_begin ns good fits = record {
-  fine = new-fine ns good fits;
-  whole = new_whole ns (and_parts (nat_le 2 (length ns) && nat_le (length ns) MAX_HOSTS) (are_distinct ns) good).1 fits;
-  pairs = λ a b i j differ.
-      (let one : is_one_of a ns ≡ true = sym (ap (is_one_of a) (new-numbers ns)) ∙ i in
-      let other : is_one_of b ns ≡ true = sym (ap (is_one_of b) (new-numbers ns)) ∙ j in
-      record {
-        w = new_hosts a b;
-        is_a = refl;
-        is_b = refl;
-        agrees = new-agrees ns good fits a b one other differ;
-        both = begins a b differ (fits a one) (fits b other);
-      });
+pub both_lifts : Lifts phase_quiet Both
+both_lifts = record {
+  steps = each_step;
+  begins = begins;
+  joined = λ w umpire k. k.joined;
+  others = λ w umpire at way bits leader x y led away k.
+      both_spared w umpire (after_record umpire way at bits)
+      (record_spares w.number_a w.number_b at way bits leader umpire x y k.joined.stand.fits_b led away)
+      (record_spares w.number_b w.number_a at way bits leader umpire x y k.joined.stand.fits_a led (λ p q. away.1 q p, λ p q. away.0 q p))
+      k;
 }
 
-pub all_quiet : (notes : List ManyNote) (now : Crowd) → IsManyTranscript notes now → Pass phase_quiet (findings_in (new_umpire false) (many_file notes))
-all_quiet notes now t = walk notes (new_crowd (numbers_in now)) (new_umpire false) t.run (all_begin (numbers_in now) t.hosts t.fits)
+pub all_quiet : AllPassAmong phase_quiet
+all_quiet = all_among phase_quiet Both both_lifts
 
 pub none_found : NothingFoundAmongMany is_of_messages_and_phase
 none_found notes now t = none_by is_of_messages_and_phase (findings_in (new_umpire false) (many_file notes)) (all_quiet notes now t)
 
 pub all_fit : RecordsFit
-all_fit notes now t = walk_fits notes (new_crowd (numbers_in now)) (new_umpire false) t.run (all_begin (numbers_in now) t.hosts t.fits)
+all_fit = records_fit phase_quiet Both both_lifts

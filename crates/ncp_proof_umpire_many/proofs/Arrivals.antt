@@ -26,7 +26,7 @@ use Rattle.ncp_proof_umpire_many.proofs.Toward.{Opens, Toward, peer_waits, quiet
 use Rattle.ncp_proof_umpire_many.proofs.OwnOut.{Alike, beside_alike}
 use Rattle.ncp_proof_umpire_many.proofs.Moves.{not_zero}
 
-both_ways_off : (b : Bool) → b ≡ true → b ≡ false → ⊥
+pub both_ways_off : (b : Bool) → b ≡ true → b ≡ false → ⊥
 both_ways_off true e f = absurd (cc f)
 both_ways_off false e f = absurd (cc e)
 
@@ -35,7 +35,7 @@ both_ways_off false e f = absurd (cc e)
 abbrev pub goes_lost : ℕ → Holds → World → World
 goes_lost on how v = record v { going = set_at on how v.going }
 
-line_lost : (on : ℕ) (m : List Bool) (as_what : Holds) (v : World) → slot_at v.this.slots on ≡ Slot.Travelling m → v.going on ≡ Accepted m → not_come (Slot.Travelling m) as_what ≡ Some m → line v.this (set_at on as_what v.going) ≡ line v.this v.going
+pub line_lost : (on : ℕ) (m : List Bool) (as_what : Holds) (v : World) → slot_at v.this.slots on ≡ Slot.Travelling m → v.going on ≡ Accepted m → not_come (Slot.Travelling m) as_what ≡ Some m → line v.this (set_at on as_what v.going) ≡ line v.this v.going
 line_lost on m as_what v s e l = go (on == 0) refl
   where
     zero_on : slot_at v.this.slots 0 ≡ Slot.Travelling m → v.going 0 ≡ Accepted m → line v.this (set_at 0 as_what v.going) ≡ line v.this v.going
@@ -69,7 +69,7 @@ module _ (on : ℕ) (m : List Bool) (as_what : Holds) (v : World) (s : slot_at v
 abbrev pub is_told : ℕ → Answer → World → World
 is_told on a v = record v { this = answer_comes on a v.this; going = set_at on Free v.going }
 
-line_told : (on : ℕ) (m : List Bool) (a : Answer) (h : Holds) (v : World) → slot_at v.this.slots on ≡ Slot.Travelling m → v.going on ≡ h → not_come (answered a (Slot.Travelling m)) Free ≡ not_come (Slot.Travelling m) h
+pub line_told : (on : ℕ) (m : List Bool) (a : Answer) (h : Holds) (v : World) → slot_at v.this.slots on ≡ Slot.Travelling m → v.going on ≡ h → not_come (answered a (Slot.Travelling m)) Free ≡ not_come (Slot.Travelling m) h
     → line (is_told on a v).this (is_told on a v).going ≡ line v.this v.going
 line_told on m a h v s e l = go (on == 0) refl
   where
@@ -129,10 +129,10 @@ comes_on on now v = record v { that = now; going = set_at on Delivered v.going }
 
 -- commands
 module _ (m : List Bool) (cs : List Command) (now : PeerState) (v : World) (slots : now.slots ≡ v.that.slots) (s : slot_at v.this.slots 0 ≡ Slot.Travelling m) (is : line v.this v.going ≡ cs) where
-  none_left : line v.this (set_at 0 Delivered v.going) ≡ []
+  pub none_left : line v.this (set_at 0 Delivered v.going) ≡ []
   none_left = ap (λ (x : LinkSlot). commands_out (not_come x Delivered)) s
 
-  line_back : line now v.coming ≡ line v.that v.coming
+  pub line_back : line now v.coming ≡ line v.that v.coming
   line_back = ap (λ (x : LinkSlots). commands_out (not_come (slot_at x 0) (v.coming 0))) slots
 
   pub before_all : (view : View) → Counts v → Beside v.that.peer.phase view → Within v.this.peer.phase (line v.that v.coming) (cs ++ v.this.peer.phase.waiting) view
@@ -179,10 +179,10 @@ module _ (m : List Bool) (cs : List Command) (now : PeerState) (v : World) (slot
 
 -- a text
 module _ (on : ℕ) (now : PeerState) (v : World) (z : (on == 0) ≡ false) (slots : now.slots ≡ v.that.slots) (busy : is_quiet v.this.slots ≡ false) where
-  line_same : line v.this (set_at on Delivered v.going) ≡ line v.this v.going
+  pub line_same : line v.this (set_at on Delivered v.going) ≡ line v.this v.going
   line_same = ap (λ (b : Bool). commands_out (not_come (slot_at v.this.slots 0) (if b then Delivered else v.going 0))) (not_zero on z)
 
-  back_same : line now v.coming ≡ line v.that v.coming
+  pub back_same : line now v.coming ≡ line v.that v.coming
   back_same = ap (λ (x : LinkSlots). commands_out (not_come (slot_at x 0) (v.coming 0))) slots
 
   pub began_before : (view : View) (began : Bool) → Toward v view began → view.peer.began ≡ true

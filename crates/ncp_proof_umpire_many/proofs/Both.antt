@@ -108,7 +108,7 @@ pub record Both (w : Hosts) (umpire : Umpire) : Type 0 where
   pub of_a : umpire.full ≡ false → Toward (seen w) (view_in umpire.views w.number_b w.number_a) (view_in umpire.views w.number_a w.number_b).host.began
   pub of_b : umpire.full ≡ false → Toward (swap (seen w)) (view_in umpire.views w.number_a w.number_b) (view_in umpire.views w.number_b w.number_a).host.began
 
-turn_both : (w : Hosts) (umpire : Umpire) → Both w umpire → Both (turned w) umpire
+pub turn_both : (w : Hosts) (umpire : Umpire) → Both w umpire → Both (turned w) umpire
 turn_both w umpire k = record {
   joined = turned_joined w k.joined;
   ways = turned_ways w.number_a w.number_b w.subnet umpire k.ways;
@@ -125,30 +125,30 @@ module _ (w : Hosts) (umpire : Umpire) (k : Both w umpire) where
   abbrev pub s : PeerState
   s = had_for w.number_b w.a
 
-  there : state_of w.a w.number_b ≡ Some s
+  pub there : state_of w.a w.number_b ≡ Some s
   there = has-peer w.number_b w.a k.joined.stand.a
 
-  own_seen : umpire.full ≡ false → Seen s (view_in umpire.views w.number_a w.number_b)
+  pub own_seen : umpire.full ≡ false → Seen s (view_in umpire.views w.number_a w.number_b)
   own_seen f = k.at_a.watched.seen.each f w.number_b s there
 
-  a_b : (w.number_a == w.number_b) ≡ false
+  pub a_b : (w.number_a == w.number_b) ≡ false
   a_b = ne_eqb w.number_a w.number_b k.joined.stand.differ
 
-  b_a : (w.number_b == w.number_a) ≡ false
+  pub b_a : (w.number_b == w.number_a) ≡ false
   b_a = ne_eqb w.number_b w.number_a (λ e. k.joined.stand.differ (sym e))
 
-  is_ready : Ready s
+  pub is_ready : Ready s
   is_ready = k.at_a.ready w.number_b s there
 
-  counts_now : Counts (seen w)
+  pub counts_now : Counts (seen w)
   counts_now = counts (seen w) k.joined.model
 
-  counts_back : Counts (swap (seen w))
+  pub counts_back : Counts (swap (seen w))
   counts_back = counts (swap (seen w)) (turned_joined w k.joined).model
 
 -- ---- calls
 
-kept_by : (me n : ℕ) (h : Host) (note : HostNote) (umpire : Umpire) → numbers_of h.peers ≡ n ∷ [] → numbers_of (after_note note h).peers ≡ n ∷ [] → IsHostSaid note h → is_of_call note ≡ true → At me n h umpire → Keeps (had_for n h) (had_for n (after_note note h))
+pub kept_by : (me n : ℕ) (h : Host) (note : HostNote) (umpire : Umpire) → numbers_of h.peers ≡ n ∷ [] → numbers_of (after_note note h).peers ≡ n ∷ [] → IsHostSaid note h → is_of_call note ≡ true → At me n h umpire → Keeps (had_for n h) (had_for n (after_note note h))
 kept_by me n h note umpire before now said c k =
     let x = was (n ∷ []) note h n (had_for n (after_note note h)) k.holds said (has-peer n (after_note note h) now) in
     let same : x.0 ≡ had_for n h = some_same (sym x.1 ∙ has-peer n h before) in
@@ -207,7 +207,7 @@ called w umpire call note n k = subst (λ (x : Note). Both (hosts_after_note x w
 -- ---- a message goes out
 
 -- what the commands that go out say, and that there are some
-control_said : (n : ℕ) (cs : List Command) (m : List Bool) → control_message n cs ≡ Some m → (m ≡ control_bits n cs) × (cs ≡ [] → ⊥)
+pub control_said : (n : ℕ) (cs : List Command) (m : List Bool) → control_message n cs ≡ Some m → (m ≡ control_bits n cs) × (cs ≡ [] → ⊥)
 control_said n [] m e = absurd (cc)
 control_said n (c ∷ cs) m e = let is : control_bits n (c ∷ cs) ≡ m = cc in (sym is, λ x. absurd (cc x))
 
@@ -360,14 +360,14 @@ record Come (w : Hosts) (umpire : Umpire) (on : ℕ) (bits : List Bool) : Type 0
 
 module _ (w : Hosts) (umpire : Umpire) (k : Both w umpire) (m : List Bool) where
   -- the layout
-  laid_on : (on size : ℕ) (text : List Bool) → IsText size text → on < 256 → m ≡ message_to w.number_b on size text → slot_at (had_for w.number_b w.a).slots on ≡ Slot.Travelling m → rule_of_message (message_in (from_host w.number_a m)) on (length (from_host w.number_a m)) ≡ None
+  pub laid_on : (on size : ℕ) (text : List Bool) → IsText size text → on < 256 → m ≡ message_to w.number_b on size text → slot_at (had_for w.number_b w.a).slots on ≡ Slot.Travelling m → rule_of_message (message_in (from_host w.number_a m)) on (length (from_host w.number_a m)) ≡ None
   laid_on on size text fits few is slot =
       let whole : rule_of_message (message_in m) on (length m) ≡ None = ((is_ready w umpire k).kept on m (ap kept_message slot)).0 in
       let was : rule_of_message (message_in (message_to w.number_b on size text)) on (length (message_to w.number_b on size text)) ≡ None = subst (λ (x : List Bool). rule_of_message (message_in x) on (length x) ≡ None) is whole in
       let same : from_host w.number_a m ≡ message_to w.number_a on size text = ap (from_host w.number_a) is ∙ from_host-message w.number_a w.number_b on size text in
       subst (λ (x : List Bool). rule_of_message (message_in x) on (length x) ≡ None) (sym same) (laid_alike w.number_b w.number_a on size text k.joined.stand.fits_b k.joined.stand.fits_a few fits was)
 
-  reads_as : (on size : ℕ) (text : List Bool) → IsText size text → on < 256 → m ≡ message_to w.number_b on size text → message_in (from_host w.number_a m) ≡ Ok (message_with (leader_to w.number_a on) size text)
+  pub reads_as : (on size : ℕ) (text : List Bool) → IsText size text → on < 256 → m ≡ message_to w.number_b on size text → message_in (from_host w.number_a m) ≡ Ok (message_with (leader_to w.number_a on) size text)
   reads_as on size text fits few is = ap (λ (x : List Bool). message_in (from_host w.number_a x)) is ∙ ap message_in (from_host-message w.number_a w.number_b on size text) ∙ read w.number_a on size text k.joined.stand.fits_a few fits
 
   abbrev mine_now : View
@@ -537,7 +537,7 @@ arrived w umpire link k = go (transit_of A link w) refl (joined_after (Event.Del
 -- ---- it is lost, or its destination is dead
 
 -- it stands in its slot
-out_slot : (w : Hosts) (link : ℕ) (m : List Bool) → Joined w → transit_at w.subnet w.number_a w.number_b link ≡ Accepted m → slot_at (had_for w.number_b w.a).slots link ≡ Slot.Travelling m
+pub out_slot : (w : Hosts) (link : ℕ) (m : List Bool) → Joined w → transit_at w.subnet w.number_a w.number_b link ≡ Accepted m → slot_at (had_for w.number_b w.a).slots link ≡ Slot.Travelling m
 out_slot w link m k e = go (link == 0) refl
   where
     go : (b : Bool) → (link == 0) ≡ b → slot_at (had_for w.number_b w.a).slots link ≡ Slot.Travelling m
@@ -598,14 +598,14 @@ died w umpire link k = go (transit_of A link w) refl (joined_after (Event.Dead A
 -- ---- it is answered
 
 -- what is in transit, and how its host is answered
-record Told_how (w : Hosts) (link kind : ℕ) : Type 0 where
-  h : Holds
-  m : List Bool
-  is : transit_at w.subnet w.number_a w.number_b link ≡ h
-  slot : slot_at (had_for w.number_b w.a).slots link ≡ Slot.Travelling m
-  same : not_come (answered (answer_of kind) (Slot.Travelling m)) Free ≡ not_come (Slot.Travelling m) h
+pub record Told_how (w : Hosts) (link kind : ℕ) : Type 0 where
+  pub h : Holds
+  pub m : List Bool
+  pub is : transit_at w.subnet w.number_a w.number_b link ≡ h
+  pub slot : slot_at (had_for w.number_b w.a).slots link ≡ Slot.Travelling m
+  pub same : not_come (answered (answer_of kind) (Slot.Travelling m)) Free ≡ not_come (Slot.Travelling m) h
 
-told_how : (w : Hosts) (link kind : ℕ) → Joined w → answer_kind (transit_at w.subnet w.number_a w.number_b link) ≡ Some kind → Told_how w link kind
+pub told_how : (w : Hosts) (link kind : ℕ) → Joined w → answer_kind (transit_at w.subnet w.number_a w.number_b link) ≡ Some kind → Told_how w link kind
 told_how w link kind k e = go (transit_at w.subnet w.number_a w.number_b link) refl e
   where
     go : (h : OnLink) → transit_at w.subnet w.number_a w.number_b link ≡ h → answer_kind h ≡ Some kind → Told_how w link kind
@@ -695,7 +695,7 @@ each_step = both_sides phase_quiet Both turn_both sides
 
 -- ---- the beginning
 
-new_seen : (i : ℕ) (j : ℕ) → view_in (new_umpire false).views i j ≡ new_view false
+pub new_seen : (i : ℕ) (j : ℕ) → view_in (new_umpire false).views i j ≡ new_view false
 new_seen i j = replicated VIEWS (index_of i j) (new_view false)
 
 new_toward : (v : World) (there here : View) → v.this ≡ new_state → v.that ≡ new_state → there ≡ new_view false → here ≡ new_view false → Toward v there here.host.began
@@ -715,7 +715,7 @@ new_toward v there here p q e f =
     quiet : {s : PeerState} → s ≡ new_state → is_quiet s.slots ≡ true
     quiet e = ap (λ (x : PeerState). is_quiet x.slots) e ∙ (is_quiet-tells no_slots).1 (λ l a b. slot_at-no_slots l)
 
-new_had : (n : ℕ) → state_or_new (if n == n then Some new_state else None) ≡ new_state
+pub new_had : (n : ℕ) → state_or_new (if n == n then Some new_state else None) ≡ new_state
 new_had n = ap (λ (b : Bool). state_or_new (if b then Some new_state else None)) (itself n)
 
 pub begins : (a b : ℕ) → a ≢ b → a < 256 → b < 256 → Both (new_hosts a b) (new_umpire false)

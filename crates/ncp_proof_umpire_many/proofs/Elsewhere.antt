@@ -188,7 +188,7 @@ way_spared a b t umpire now k s w = record {
 }
 
 -- the only peer
-only : (n : ℕ) (h : Host) → Holds (n ∷ []) h → (m : ℕ) (s : PeerState) → state_of h m ≡ Some s → n ≡ m
+pub only : (n : ℕ) (h : Host) → Holds (n ∷ []) h → (m : ℕ) (s : PeerState) → state_of h m ≡ Some s → n ≡ m
 only n h k m s there = go (n == m) refl (sym (ap (is_one_of m) k.numbers) ∙ peer_there h.peers m s there)
   where
     go : (c : Bool) → (n == m) ≡ c → (c || false) ≡ true → n ≡ m

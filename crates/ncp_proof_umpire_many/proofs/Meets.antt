@@ -52,10 +52,10 @@ module _ (me n on : ℕ) (bits : List Bool) (x : Message) (u : Umpire) (differ :
   abbrev pub busy : Option ℕ
   busy = busy_link me n A.kept
 
-  views : A.views ≡ u.views
+  pub views : A.views ≡ u.views
   views = in_views (sees u me) me n on
 
-  full_as : A.full ≡ u.full
+  pub full_as : A.full ≡ u.full
   full_as = in_full (sees u me) me n on
 
   pub found : record_findings u FromImp me bits ≡ said_findings A me n (turn_at A me n n false) true (Ok x)

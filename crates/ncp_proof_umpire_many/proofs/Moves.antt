@@ -95,19 +95,19 @@ heard_some m on t u e = go (sender_on on m) refl e
 
 -- the line after it: a message on link 0, and one on another link
 
-line_zero : (m : List Bool) (v : World) → line (goes_on 0 m v).this (goes_on 0 m v).going ≡ commands_of m
+pub line_zero : (m : List Bool) (v : World) → line (goes_on 0 m v).this (goes_on 0 m v).going ≡ commands_of m
 line_zero m v = ap (λ (x : LinkSlot). commands_out (not_come x (Accepted m))) (slot_at-with_slot_same v.this.slots 0 (Slot.Travelling m))
 
 pub not_zero : (on : ℕ) → (on == 0) ≡ false → (0 == on) ≡ false
 not_zero on z = ne_eqb 0 on (λ e. let nay : true ≡ false = sym (eq-eqb on 0 (sym e)) ∙ z in absurd (cc))
 
-line_other : (on : ℕ) (m : List Bool) (v : World) → (on == 0) ≡ false → line (goes_on on m v).this (goes_on on m v).going ≡ line v.this v.going
+pub line_other : (on : ℕ) (m : List Bool) (v : World) → (on == 0) ≡ false → line (goes_on on m v).this (goes_on on m v).going ≡ line v.this v.going
 line_other on m v z =
     ap (λ (x : LinkSlot). commands_out (not_come x (if 0 == on then Accepted m else v.going 0))) (slot_at-with_slot_other v.this.slots on (Slot.Travelling m) 0 (λ e. let nay : true ≡ false = sym (eq-eqb on 0 (sym e)) ∙ z in absurd (cc)))
     ∙ ap (λ (b : Bool). commands_out (not_come (slot_at v.this.slots 0) (if b then Accepted m else v.going 0))) (not_zero on z)
 
 -- again
-line_again : (on : ℕ) (m : List Bool) (v : World) → slot_at v.this.slots on ≡ Slot.Ready m → line (goes_on on m v).this (goes_on on m v).going ≡ line v.this v.going
+pub line_again : (on : ℕ) (m : List Bool) (v : World) → slot_at v.this.slots on ≡ Slot.Ready m → line (goes_on on m v).this (goes_on on m v).going ≡ line v.this v.going
 line_again on m v e = go (on == 0) refl
   where
     zero_on : slot_at v.this.slots 0 ≡ Slot.Ready m → line (goes_on 0 m v).this (goes_on 0 m v).going ≡ line v.this v.going

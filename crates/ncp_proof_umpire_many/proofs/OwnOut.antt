@@ -65,10 +65,10 @@ module _ (me n on : ℕ) (m : List Bool) (slot : LinkSlot) (p : Peer) (u : Umpir
   abbrev pub said : Umpire
   said = after_said A me n (turn_at A me n me true) fresh (message_in m)
 
-  is : after_record u ToImp me m ≡ said
+  pub is : after_record u ToImp me m ≡ said
   is = out_is u me n on m led differ
 
-  full_A : A.full ≡ false
+  pub full_A : A.full ≡ false
   full_A = sym (said_keeps A me n (turn_at A me n me true) fresh (message_in m)).1 ∙ ap (λ (x : Umpire). x.full) (sym is) ∙ full
 
   abbrev pub out_view : View
@@ -81,7 +81,7 @@ module _ (me n on : ℕ) (m : List Bool) (slot : LinkSlot) (p : Peer) (u : Umpir
     kept = with_out u.kept (place_of me n on u.kept) (gone_out me n on m);
   }
 
-  roomy : u.full ≡ false
+  pub roomy : u.full ≡ false
   roomy = by u.full refl full_A
     where
       by : (b : Bool) → u.full ≡ b → (if b then sees u me else put).full ≡ false → b ≡ false
@@ -91,13 +91,13 @@ module _ (me n on : ℕ) (m : List Bool) (slot : LinkSlot) (p : Peer) (u : Umpir
   views : A.views ≡ with_view u.views me n out_view
   views = ap (λ (b : Bool). (if b then sees u me else put).views) roomy
 
-  seen : view_in A.views me n ≡ out_view
+  pub seen : view_in A.views me n ≡ out_view
   seen = ap (λ (x : List View). view_in x me n) views ∙ view_same u.views me n out_view long small few
 
   long_A : length A.views ≡ VIEWS
   long_A = ap (λ (x : List View). length x) views ∙ view_length u.views me n out_view ∙ long
 
-  is_fresh_out : fresh ≡ is_empty slot
+  pub is_fresh_out : fresh ≡ is_empty slot
   is_fresh_out =
       ap (λ (b : Bool). b || is_fresh (slot_of_link (sees u me) me n on) (same_of (sees u me) me n on m)) roomy
       ∙ (subst (λ (b : Bool). New (kept_slot b u.kept (place_of me n on u.kept)) (same_at u.kept (place_of me n on u.kept) m) slot) (sym known)
@@ -120,7 +120,7 @@ module _ (me n on : ℕ) (m : List Bool) (slot : LinkSlot) (p : Peer) (u : Umpir
       by (Err x) = view_alike
 
   -- it is read
-  read_on : (x : Message) → is_empty slot ≡ true → message_in m ≡ Ok x → view_in (after_record u ToImp me m).views me n ≡ after_read (judged_reading x) (turn_at A me n me true) x.text (view_of A me n)
+  pub read_on : (x : Message) → is_empty slot ≡ true → message_in m ≡ Ok x → view_in (after_record u ToImp me m).views me n ≡ after_read (judged_reading x) (turn_at A me n me true) x.text (view_of A me n)
   read_on x e r =
       ap (λ (y : Umpire). view_in y.views me n) is
       ∙ ap (λ (b : Bool). view_in (after_said A me n (turn_at A me n me true) b (message_in m)).views me n) (is_fresh_out ∙ e)

@@ -36,7 +36,7 @@ pub record At (me n : ℕ) (h : Host) (umpire : Umpire) : Type 0 where
   pub watched : Watched me h umpire
   pub ready : AllReady h
 
-one_peer : (me n : ℕ) → (n == me) ≡ false → is_one_of me (n ∷ []) ≡ false
+pub one_peer : (me n : ℕ) → (n == me) ≡ false → is_one_of me (n ∷ []) ≡ false
 one_peer me n d = ap (λ (b : Bool). b || false) d
 
 -- ---- a call
