@@ -1,0 +1,499 @@
+-- Two hosts in a session: what is seen of it at the interface of each, beside what is underway between them; through each
+-- command that goes out of one, or comes to the other.
+use Rattle.std.proofs.Common.{◌≡◌, ℕ, ◌==◌, Bool, true, false, not, ◌&&◌, ◌||◌, if◌then◌else◌, List, [], ◌∷◌, ◌++◌, Option, None, Some, Result, Ok, Err, option_map, option_to_list, append_assoc, append-nil, refl, sym, ap, ◌∙◌, subst, arith}
+use Rattle.std.proofs.Math.Bool.{and-false}
+use Rattle.ncp_terms.specs.declared.command.Command.{Command}
+use Rattle.ncp_terms.specs.declared.fault.CommandFault.{CommandFault}
+use Rattle.ncp_control.specs.Texts.{items_of}
+use Rattle.ncp_umpire.specs.declared.act.Act.{Act}
+use Rattle.ncp_umpire.specs.declared.act.Act.TheVariants.{Reset, Reply, Other}
+use Rattle.ncp_umpire.specs.declared.finding.Finding.{Finding}
+use Rattle.ncp_umpire.specs.declared.finding.Rule.{Rule}
+use Rattle.ncp_umpire.specs.declared.finding.Thing.{Thing}
+use Rattle.ncp_umpire.specs.declared.kept.Kept.{Kept}
+use Rattle.ncp_umpire.specs.declared.phase.Turn.{Turn}
+use Rattle.ncp_umpire.specs.declared.talk.Talk.{Talk}
+use Rattle.ncp_umpire.specs.declared.view.View.{View}
+use Rattle.ncp_umpire.specs.declared.view.Wait.{Wait}
+use Rattle.ncp_umpire.specs.declared.view.Wait.TheVariants.{Answered, Even, Waiting}
+use Rattle.ncp_umpire.specs.Acts.{act_of}
+use Rattle.ncp_umpire.specs.Views.{awaits_reply, is_answered_too_often, more_waiting, new_view}
+use Rattle.ncp_umpire.specs.Lives.{SeenBooks, books_cleared, no_books}
+use Rattle.ncp_umpire.specs.Phases.{broken_by, is_early, after_thing, act_findings, after_act, item_findings, after_item, items_findings, after_items, view_after_reset, after_reset_of_host, after_reset_of_peer, view_after_reply, after_reply_of_host, after_reply_of_peer}
+use Rattle.ncp_umpire.specs.Speaking.{command_rule, spoken_rule, after_spoken, reply_left_out, after_all_said}
+use Rattle.ncp_umpire.specs.Talked.{reaches, act_reaches, clears, talk_finding, after_talk, all_findings, talked_findings, after_talked, missing, tells_left_out, missing_reply, missing_cls, left_out_findings, after_left_out}
+use Rattle.ncp_proof_umpire_talk.proofs.Elsewhere.{Alike, item_alike, cleared_alike, said_alike}
+use Rattle.ncp_proof_umpire_talk.proofs.BooksRead.{talk_reads, items_read}
+use Rattle.ncp_proof_umpire_whole.proofs.NeverRests.{Awake, new_awake, IsThing, by_kind, OwnReset, own_reset, OwnReply, own_reply, TheirReset, their_reset, TheirReply, their_reply, none_early, thing_leaves, own_in_time}
+use Rattle.ncp_proof_umpire_whole.proofs.Said.{unspoken, Legal, after_said_by}
+use Rattle.ncp_proof_umpire_whole.proofs.Diamond.{alike_self}
+use Rattle.ncp_proof_umpire_whole.proofs.AbreastSteps.{unspoken_abreast}
+use Rattle.ncp_proof_umpire_whole.proofs.ReadAs.{ReadAs, read_as_alike, read_cleared, read_none, read_others, read_all_said}
+use Rattle.ncp_proof_umpire_whole.proofs.ReadsSaid.{read_own, read_their, said_room}
+use Rattle.ncp_proof_umpire_whole.proofs.Hears.{crossing}
+use Rattle.ncp_proof_umpire_whole.proofs.SessionSteps.{Session, turn_session, session_books, session_resets, session_replies, session_says, session_reset_heard, session_reply_heard, session_drops, may_hear, session_hears}
+
+-- h, k: the hosts; vh, vk: what is seen of the session at each; hl, kl: what of each is on its way to the other
+pub record Parley (h k : ℕ) (vh vk : View) (b : SeenBooks) (hl kl : List Command) : Type 0 where
+  pub awake_h : Awake vh
+  pub awake_k : Awake vk
+  pub session : Session h k (awaits_reply vh.host.wait) vh.owes (awaits_reply vk.host.wait) vk.owes b hl kl
+
+pub turn_parley : (h k : ℕ) (vh vk : View) (b : SeenBooks) (hl kl : List Command) → Parley h k vh vk b hl kl → Parley k h vk vh b kl hl
+turn_parley h k vh vk b hl kl p = record {
+  awake_h = p.awake_k;
+  awake_k = p.awake_h;
+  session = turn_session h k (awaits_reply vh.host.wait) vh.owes (awaits_reply vk.host.wait) vk.owes b hl kl p.session;
+}
+
+pub begins_parley : (h k : ℕ) → Parley h k (new_view false) (new_view false) no_books [] []
+begins_parley h k = record {
+  awake_h = new_awake;
+  awake_k = new_awake;
+  session = record {
+    matched = record { ours = refl; theirs = refl; behind = refl; behind_theirs = refl };
+    x = unspoken;
+    y = unspoken;
+    at_h = read_none h k;
+    at_k = read_none k h;
+    empty_h = λ e. alike_self unspoken;
+    empty_k = λ e. alike_self unspoken;
+    here = tt;
+    there = tt;
+    abreast = λ e f. unspoken_abreast;
+  };
+}
+
+-- another view of the first, that tells the same
+pub views_parley : (h k : ℕ) (vh wh vk : View) (b : SeenBooks) (hl kl : List Command) → Awake wh → wh.host.wait ≡ vh.host.wait → wh.owes ≡ vh.owes → Parley h k vh vk b hl kl → Parley h k wh vk b hl kl
+views_parley h k vh wh vk b hl kl a wait owes p = record {
+  awake_h = a;
+  awake_k = p.awake_k;
+  session =
+      subst (λ (w : Wait). Session h k (awaits_reply w) wh.owes (awaits_reply vk.host.wait) vk.owes b hl kl) (sym wait)
+      (subst (λ (o : Bool). Session h k (awaits_reply vh.host.wait) o (awaits_reply vk.host.wait) vk.owes b hl kl) (sym owes) p.session);
+}
+
+-- other books, of which the same is read
+pub reads_parley : (h k : ℕ) (vh vk : View) (b now : SeenBooks) (hl kl : List Command) (p : Parley h k vh vk b hl kl) → ReadAs h k now p.session.x → ReadAs k h now p.session.y → Parley h k vh vk now hl kl
+reads_parley h k vh vk b now hl kl p at_h at_k = record {
+  awake_h = p.awake_h;
+  awake_k = p.awake_k;
+  session = session_books h k (awaits_reply vh.host.wait) vh.owes (awaits_reply vk.host.wait) vk.owes b now hl kl p.session at_h at_k;
+}
+
+pub books_parley : (h k : ℕ) (vh vk : View) (b now : SeenBooks) (hl kl : List Command) → Alike h k b now → Alike k h b now → Parley h k vh vk b hl kl → Parley h k vh vk now hl kl
+books_parley h k vh vk b now hl kl at_h at_k p = reads_parley h k vh vk b now hl kl p (read_others h k b now p.session.x at_h p.session.at_h) (read_others k h b now p.session.y at_k p.session.at_k)
+
+-- ---- findings of what is said
+
+-- one that is judged, and not found
+unbroken : (turn : Turn) (x : Bool) (o : Option Rule) → x ≡ true → option_to_list (if x then option_map (broken_by turn) o else None) ≡ [] → o ≡ None
+unbroken turn true None e none = refl
+unbroken turn true (Some r) e none = absurd (cc none)
+unbroken turn false o e none = absurd (cc e)
+
+none_found : (turn : Turn) (x : Bool) (o : Option Rule) → o ≡ None → option_to_list (if x then option_map (broken_by turn) o else None) ≡ []
+none_found turn true o e = ap (λ (r : Option Rule). option_to_list (option_map (broken_by turn) r)) e
+none_found turn false o e = refl
+
+none_judged : (turn : Turn) (x : Bool) (o : Option Rule) → x ≡ false → option_to_list (if x then option_map (broken_by turn) o else None) ≡ []
+none_judged turn x o e = ap (λ (y : Bool). option_to_list (if y then option_map (broken_by turn) o else None)) e
+
+-- where something found no room nothing is judged
+full_unbroken : (talk : Talk) (kept : List Kept) (c : Command) (b : SeenBooks) → b.full ≡ true → spoken_rule talk kept (Ok c) b ≡ None
+full_unbroken talk kept c b f = ap (λ (x : Bool). if x then None else command_rule talk kept c b) f
+
+pub empty_front : {A : Type 0} (xs ys : List A) → xs ++ ys ≡ [] → xs ≡ []
+empty_front [] ys e = refl
+empty_front (x ∷ xs) ys e = absurd (cc e)
+
+pub empty_rest : {A : Type 0} (xs ys : List A) → xs ++ ys ≡ [] → ys ≡ []
+empty_rest [] ys e = e
+empty_rest (x ∷ xs) ys e = absurd (cc e)
+
+-- what clears the books: with a view that is awake each RST
+rst_clears : (turn : Turn) (v : View) → Awake v → clears turn Reset v ≡ true
+rst_clears turn v a = go v.told turn.zero turn.sent v.host.wait a.told a.own_even
+  where
+    go : (t z s : Bool) (w : Wait) → t ≡ true → is_answered_too_often w ≡ false → ((t || (z && not (is_answered_too_often w))) && not (s && not (awaits_reply (more_waiting w)))) ≡ true
+    go false z s w t e = absurd (cc t)
+    go true z s Answered t e = absurd (cc e)
+    go true z true Even t e = refl
+    go true z false Even t e = refl
+    go true z true Waiting t e = refl
+    go true z false Waiting t e = refl
+
+reached : (turn : Turn) (what : Thing) (v : View) → Awake v → is_early turn what v ≡ false → (not turn.sent && awaits_reply v.host.wait) ≡ false → reaches turn what v ≡ true
+reached turn what v a early waits = go v.told (is_early turn what v) v.rests (not turn.sent && awaits_reply v.host.wait) a.told early a.rests waits
+  where
+    go : (t e r w : Bool) → t ≡ true → e ≡ false → r ≡ false → w ≡ false → (t && not e && not r && not w) ≡ true
+    go true false false false t e r w = refl
+    go false e r w t f g i = absurd (cc t)
+    go true true r w t f g i = absurd (cc f)
+    go true false true w t f g i = absurd (cc g)
+    go true false false true t f g i = absurd (cc i)
+
+dropped : (turn : Turn) (what : Thing) (v : View) → (not turn.sent && awaits_reply v.host.wait) ≡ true → reaches turn what v ≡ false
+dropped turn what v w = ap (λ (x : Bool). v.told && not (is_early turn what v) && not v.rests && not x) w ∙ and-false (v.told && not (is_early turn what v) && not v.rests)
+
+module _ (h k by : ℕ) (busy : Option ℕ) (zero : Bool) (kept : List Kept) where
+  -- ---- the first says something
+
+  abbrev going : Turn
+  going = record { by = by; sent = true; busy = busy; zero = zero }
+
+  abbrev saying : Talk
+  saying = record { at = h; peer = k; sent = true }
+
+  -- the books after a command
+  abbrev books_said : Command → Act → View → SeenBooks → SeenBooks
+  books_said c act v b = if clears going act v then books_cleared h k b else if act_reaches going act v then after_spoken saying (Ok c) b else b
+
+  abbrev Goes : Command → Act → Type 0
+  Goes c act =
+      (vh vk : View) (b : SeenBooks) (hl kl : List Command) → (h == k) ≡ false → act_findings going act vh ≡ []
+      → option_to_list (if act_reaches going act vh then option_map (broken_by going) (spoken_rule saying kept (Ok c) b) else None) ≡ [] → (books_said c act vh b).full ≡ false
+      → Parley h k vh vk b hl kl → Parley h k (after_act going act vh) vk (books_said c act vh b) (hl ++ c ∷ []) kl
+
+  from_here : (h == k) ≡ false → (h == k && k == h) ≡ false
+  from_here e = ap (λ (x : Bool). x && k == h) e
+
+  rst_goes : Goes Command.Rst Reset
+  rst_goes vh vk b hl kl apart none unsaid room p =
+      subst (λ (x : Bool). Parley h k now vk (if x then books_cleared h k b else b) (hl ++ Command.Rst ∷ []) kl) (sym (rst_clears going vh p.awake_h))
+      (record { awake_h = r.awake; awake_k = p.awake_k; session = turned })
+    where
+      now : View
+      now = view_after_reset going vh
+
+      r : OwnReset vh now
+      r = own_reset by busy zero vh p.awake_h none
+
+      wk : Bool
+      wk = awaits_reply vk.host.wait
+
+      s : Session h k false vh.owes wk vk.owes b hl kl
+      s = subst (λ (w : Bool). Session h k w vh.owes wk vk.owes b hl kl) r.before p.session
+
+      turned : Session h k (awaits_reply now.host.wait) now.owes wk vk.owes (books_cleared h k b) (hl ++ Command.Rst ∷ []) kl
+      turned =
+          subst (λ (w : Bool). Session h k w now.owes wk vk.owes (books_cleared h k b) (hl ++ Command.Rst ∷ []) kl) (sym r.after)
+          (subst (λ (o : Bool). Session h k true o wk vk.owes (books_cleared h k b) (hl ++ Command.Rst ∷ []) kl) (sym r.owes)
+          (session_resets h k vh.owes wk vk.owes b (books_cleared h k b) hl kl s (read_cleared h k b)
+          (read_others k h b (books_cleared h k b) s.y (cleared_alike k h h k (from_here apart) b) s.at_k)))
+
+  rrp_goes : Goes Command.Rrp Reply
+  rrp_goes vh vk b hl kl apart none unsaid room p = record { awake_h = r.awake; awake_k = p.awake_k; session = turned }
+    where
+      now : View
+      now = view_after_reply going vh
+
+      r : OwnReply vh now
+      r = own_reply by busy zero vh p.awake_h none
+
+      wh : Bool
+      wh = awaits_reply vh.host.wait
+
+      wk : Bool
+      wk = awaits_reply vk.host.wait
+
+      turned : Session h k (awaits_reply now.host.wait) now.owes wk vk.owes b (hl ++ Command.Rrp ∷ []) kl
+      turned =
+          subst (λ (w : Bool). Session h k w now.owes wk vk.owes b (hl ++ Command.Rrp ∷ []) kl) (sym r.waits)
+          (subst (λ (o : Bool). Session h k wh o wk vk.owes b (hl ++ Command.Rrp ∷ []) kl) (sym r.after)
+          (session_replies h k wh wk vk.owes b hl kl (subst (λ (o : Bool). Session h k wh o wk vk.owes b hl kl) r.before p.session)))
+
+  thing_goes : (c : Command) (t : IsThing c) → Goes c (Other t.what)
+  thing_goes c t vh vk b hl kl apart none unsaid room p =
+      subst (λ (v : View). Parley h k v vk (books_said c (Other t.what) vh b) (hl ++ c ∷ []) kl) (sym same)
+      (subst (λ (x : Bool). Parley h k vh vk (if x then now else b) (hl ++ c ∷ []) kl) (sym reach)
+      (record { awake_h = p.awake_h; awake_k = p.awake_k; session = turned }))
+    where
+      wk : Bool
+      wk = awaits_reply vk.host.wait
+
+      now : SeenBooks
+      now = after_spoken saying (Ok c) b
+
+      early : is_early going t.what vh ≡ false
+      early = none_early going t.what vh p.awake_h.told none
+
+      same : after_thing going t.what vh ≡ vh
+      same = thing_leaves going t.what vh early
+
+      in_time : (awaits_reply vh.host.wait ≡ false) × (vh.owes ≡ false)
+      in_time = own_in_time by busy zero t.what vh p.awake_h.rests early
+
+      reach : reaches going t.what vh ≡ true
+      reach = reached going t.what vh p.awake_h early refl
+
+      rule : spoken_rule saying kept (Ok c) b ≡ None
+      rule = unbroken going (reaches going t.what vh) (spoken_rule saying kept (Ok c) b) reach unsaid
+
+      room_now : now.full ≡ false
+      room_now = subst (λ (x : Bool). (if x then now else b).full ≡ false) reach room
+
+      s : Session h k false false wk vk.owes b hl kl
+      s = subst (λ (o : Bool). Session h k false o wk vk.owes b hl kl) in_time.1 (subst (λ (w : Bool). Session h k w vh.owes wk vk.owes b hl kl) in_time.0 p.session)
+
+      read : Legal true c s.x × (now.full ≡ false → ReadAs h k now (after_said_by true c s.x))
+      read = read_own h k kept c b s.x (said_room h k true c b room_now) s.at_h rule
+
+      turned : Session h k (awaits_reply vh.host.wait) vh.owes wk vk.owes now (hl ++ c ∷ []) kl
+      turned =
+          subst (λ (w : Bool). Session h k w vh.owes wk vk.owes now (hl ++ c ∷ []) kl) (sym in_time.0)
+          (subst (λ (o : Bool). Session h k false o wk vk.owes now (hl ++ c ∷ []) kl) (sym in_time.1)
+          (session_says h k wk vk.owes b now c hl kl s t.not_rst t.not_rrp read.0 (read.1 room_now) (read_others k h b now s.y (item_alike k h h k (from_here apart) true (Ok c) b) s.at_k)))
+
+  each_goes : (c : Command) → Goes c (act_of (Ok c))
+  each_goes = by_kind (λ (c : Command). Goes c (act_of (Ok c))) rst_goes rrp_goes (λ c t. subst (Goes c) (sym t.act) (thing_goes c t))
+
+  -- a list of them
+  pub own_items : (cs : List Command) (vh vk : View) (b : SeenBooks) (hl kl : List Command) → (h == k) ≡ false → talked_findings going saying kept (items_of cs None) vh b ≡ []
+      → (after_talked going saying (items_of cs None) vh b).full ≡ false → Parley h k vh vk b hl kl
+      → Parley h k (after_items going (items_of cs None) vh) vk (after_talked going saying (items_of cs None) vh b) (hl ++ cs) kl
+  own_items [] vh vk b hl kl apart none room p = subst (λ (l : List Command). Parley h k vh vk b l kl) (sym (append-nil hl)) p
+  own_items (c ∷ cs) vh vk b hl kl apart none room p =
+      let v : View = after_item going (Ok c) vh in
+      let now : SeenBooks = after_talk going saying (Ok c) vh b in
+      let found : List Finding = talked_findings going saying kept (items_of cs None) v now in
+      let one = empty_front (all_findings going saying kept (Ok c) vh b) found none in
+      let of_phase = empty_front (item_findings going (Ok c) vh) (option_to_list (talk_finding going saying kept (Ok c) vh b)) one in
+      let of_talk = empty_rest (item_findings going (Ok c) vh) (option_to_list (talk_finding going saying kept (Ok c) vh b)) one in
+      let rest = empty_rest (all_findings going saying kept (Ok c) vh b) found none in
+      subst (λ (l : List Command). Parley h k (after_items going (items_of cs None) v) vk (after_talked going saying (items_of cs None) v now) l kl) (append_assoc hl (c ∷ []) cs)
+      (own_items cs v vk now (hl ++ c ∷ []) kl apart rest room
+      (each_goes c vh vk b hl kl apart of_phase of_talk ((items_read h k going (items_of cs None) v now).room room) p))
+
+  -- and behind them
+  pub own_room : (full_room : Bool) (v vk : View) (b : SeenBooks) (hl kl : List Command) → (h == k) ≡ false → left_out_findings going saying kept full_room v b ≡ [] → Parley h k v vk b hl kl
+      → Parley h k v vk (after_left_out going saying full_room v b) hl kl
+  own_room full_room v vk b hl kl apart none p = go (tells_left_out going full_room v b) refl
+    where
+      left : List Finding
+      left = option_to_list (missing_cls going saying kept full_room v b)
+
+      no_missing : (x : Bool) (o : Option Command) → x ≡ true → option_to_list (if x then missing going o else None) ≡ [] → o ≡ None
+      no_missing true None e f = refl
+      no_missing true (Some c) e f = absurd (cc f)
+      no_missing false o e f = absurd (cc e)
+
+      go : (x : Bool) → tells_left_out going full_room v b ≡ x → Parley h k v vk (if x then after_all_said h k b else b) hl kl
+      go false e = p
+      go true e =
+          let s = p.session in
+          let reply = no_missing (tells_left_out going full_room v b) (reply_left_out h k b) e (empty_front (option_to_list (missing_reply going saying full_room v b)) left none) in
+          reads_parley h k v vk b (after_all_said h k b) hl kl p (read_all_said h k b s.x reply s.at_h) (read_others k h b (after_all_said h k b) s.y (said_alike k h h k (from_here apart) b) s.at_k)
+
+  -- ---- it comes to the second
+
+  abbrev coming : Turn
+  coming = record { by = by; sent = false; busy = busy; zero = zero }
+
+  abbrev hearing : Talk
+  hearing = record { at = k; peer = h; sent = false }
+
+  abbrev books_heard : Command → Act → View → SeenBooks → SeenBooks
+  books_heard c act v b = if clears coming act v then books_cleared k h b else if act_reaches coming act v then after_spoken hearing (Ok c) b else b
+
+  abbrev Comes : Command → Act → Type 0
+  Comes c act =
+      (vh vk : View) (b : SeenBooks) (hl kl : List Command) → (h == k) ≡ false → act_findings coming act vk ≡ [] → (books_heard c act vk b).full ≡ false
+      → Parley h k vh vk b (c ∷ hl) kl → Parley h k vh (after_act coming act vk) (books_heard c act vk b) hl kl
+
+  from_there : (h == k) ≡ false → (k == h && h == k) ≡ false
+  from_there e = ap (λ (x : Bool). k == h && x) e ∙ and-false (k == h)
+
+  rst_comes : Comes Command.Rst Reset
+  rst_comes vh vk b hl kl apart none room p =
+      subst (λ (x : Bool). Parley h k vh now (if x then cleared else b) hl kl) (sym (rst_clears coming vk p.awake_k))
+      (record { awake_h = p.awake_h; awake_k = r.awake; session = turned })
+    where
+      now : View
+      now = view_after_reset coming vk
+
+      cleared : SeenBooks
+      cleared = books_cleared k h b
+
+      r : TheirReset vk now
+      r = their_reset by busy zero vk p.awake_k none
+
+      wh : Bool
+      wh = awaits_reply vh.host.wait
+
+      wk : Bool
+      wk = awaits_reply vk.host.wait
+
+      s : Session h k wh vh.owes wk false b (Command.Rst ∷ hl) kl
+      s = subst (λ (o : Bool). Session h k wh vh.owes wk o b (Command.Rst ∷ hl) kl) r.before p.session
+
+      empty : ReadAs h k cleared unspoken
+      empty =
+          read_others h k b cleared unspoken (cleared_alike h k k h (from_there apart) b)
+          (read_as_alike h k b s.x unspoken (s.empty_h (crossing wh vh.owes wk false (Command.Rst ∷ hl) kl (omega arith) s.matched).waits) s.at_h)
+
+      turned : Session h k wh vh.owes (awaits_reply now.host.wait) now.owes cleared hl kl
+      turned =
+          subst (λ (w : Bool). Session h k wh vh.owes w now.owes cleared hl kl) (sym r.waits)
+          (subst (λ (o : Bool). Session h k wh vh.owes wk o cleared hl kl) (sym r.after)
+          (session_reset_heard h k wh vh.owes wk b cleared hl kl s empty (read_cleared k h b)))
+
+  rrp_comes : Comes Command.Rrp Reply
+  rrp_comes vh vk b hl kl apart none room p = record { awake_h = p.awake_h; awake_k = r.awake; session = turned }
+    where
+      now : View
+      now = view_after_reply coming vk
+
+      r : TheirReply vk now
+      r = their_reply by busy zero vk p.awake_k none
+
+      wh : Bool
+      wh = awaits_reply vh.host.wait
+
+      turned : Session h k wh vh.owes (awaits_reply now.host.wait) now.owes b hl kl
+      turned =
+          subst (λ (w : Bool). Session h k wh vh.owes w now.owes b hl kl) (sym r.after)
+          (subst (λ (o : Bool). Session h k wh vh.owes false o b hl kl) (sym r.owes)
+          (session_reply_heard h k wh vh.owes vk.owes b hl kl (subst (λ (w : Bool). Session h k wh vh.owes w vk.owes b (Command.Rrp ∷ hl) kl) r.before p.session)))
+
+  thing_comes : (c : Command) (t : IsThing c) → Comes c (Other t.what)
+  thing_comes c t vh vk b hl kl apart none room p =
+      subst (λ (v : View). Parley h k vh v (books_heard c (Other t.what) vk b) hl kl) (sym same)
+      (record { awake_h = p.awake_h; awake_k = p.awake_k; session = turned (awaits_reply vk.host.wait) refl })
+    where
+      wh : Bool
+      wh = awaits_reply vh.host.wait
+
+      now : SeenBooks
+      now = after_spoken hearing (Ok c) b
+
+      early : is_early coming t.what vk ≡ false
+      early = none_early coming t.what vk p.awake_k.told none
+
+      same : after_thing coming t.what vk ≡ vk
+      same = thing_leaves coming t.what vk early
+
+      turned : (w : Bool) → awaits_reply vk.host.wait ≡ w → Session h k wh vh.owes (awaits_reply vk.host.wait) vk.owes (if reaches coming t.what vk then now else b) hl kl
+      turned true e =
+          subst (λ (x : Bool). Session h k wh vh.owes (awaits_reply vk.host.wait) vk.owes (if x then now else b) hl kl) (sym (dropped coming t.what vk e))
+          (subst (λ (w : Bool). Session h k wh vh.owes w vk.owes b hl kl) (sym e)
+          (session_drops h k wh vh.owes vk.owes b c hl kl t.not_rst t.not_rrp (subst (λ (w : Bool). Session h k wh vh.owes w vk.owes b (c ∷ hl) kl) e p.session)))
+      turned false e =
+          let reach : reaches coming t.what vk ≡ true = reached coming t.what vk p.awake_k early e in
+          let room_now : now.full ≡ false = subst (λ (x : Bool). (if x then now else b).full ≡ false) reach room in
+          let s : Session h k wh vh.owes false vk.owes b (c ∷ hl) kl = subst (λ (w : Bool). Session h k wh vh.owes w vk.owes b (c ∷ hl) kl) e p.session in
+          let legal : Legal false c s.y = (may_hear h k wh vh.owes vk.owes b c hl kl t.not_rst t.not_rrp s).0 in
+          let read = read_their k h kept c b s.y s.at_k legal in
+          subst (λ (x : Bool). Session h k wh vh.owes (awaits_reply vk.host.wait) vk.owes (if x then now else b) hl kl) (sym reach)
+          (subst (λ (w : Bool). Session h k wh vh.owes w vk.owes now hl kl) (sym e)
+          (session_hears h k wh vh.owes vk.owes b now c hl kl t.not_rst t.not_rrp s (read_others h k b now s.x (item_alike h k k h (from_there apart) false (Ok c) b) s.at_h) (read.1 room_now)))
+
+  each_comes : (c : Command) → Comes c (act_of (Ok c))
+  each_comes = by_kind (λ (c : Command). Comes c (act_of (Ok c))) rst_comes rrp_comes (λ c t. subst (Comes c) (sym t.act) (thing_comes c t))
+
+  -- nothing is found in it
+  abbrev Unfound : Command → Act → Type 0
+  Unfound c act =
+      (vh vk : View) (b : SeenBooks) (hl kl : List Command) → act_findings coming act vk ≡ [] → (b.full ≡ false → Parley h k vh vk b (c ∷ hl) kl)
+      → option_to_list (if act_reaches coming act vk then option_map (broken_by coming) (spoken_rule hearing kept (Ok c) b) else None) ≡ []
+
+  thing_unfound : (c : Command) (t : IsThing c) → Unfound c (Other t.what)
+  thing_unfound c t vh vk b hl kl none p = go b.full refl
+    where
+      rule : Option Rule
+      rule = spoken_rule hearing kept (Ok c) b
+
+      go : (f : Bool) → b.full ≡ f → option_to_list (if reaches coming t.what vk then option_map (broken_by coming) rule else None) ≡ []
+      go true f = none_found coming (reaches coming t.what vk) rule (full_unbroken hearing kept c b f)
+      go false f = by_wait (awaits_reply vk.host.wait) refl
+        where
+          wh : Bool
+          wh = awaits_reply vh.host.wait
+
+          by_wait : (w : Bool) → awaits_reply vk.host.wait ≡ w → option_to_list (if reaches coming t.what vk then option_map (broken_by coming) rule else None) ≡ []
+          by_wait true e = none_judged coming (reaches coming t.what vk) rule (dropped coming t.what vk e)
+          by_wait false e =
+              let s : Session h k wh vh.owes false vk.owes b (c ∷ hl) kl = subst (λ (w : Bool). Session h k wh vh.owes w vk.owes b (c ∷ hl) kl) e (p f).session in
+              none_found coming (reaches coming t.what vk) rule (read_their k h kept c b s.y s.at_k (may_hear h k wh vh.owes vk.owes b c hl kl t.not_rst t.not_rrp s).0).0
+
+  each_unfound : (c : Command) → Unfound c (act_of (Ok c))
+  each_unfound = by_kind (λ (c : Command). Unfound c (act_of (Ok c))) (λ vh vk b hl kl none p. refl) (λ vh vk b hl kl none p. refl) (λ c t. subst (Unfound c) (sym t.act) (thing_unfound c t))
+
+  pub their_item : (c : Command) (vh vk : View) (b : SeenBooks) (hl kl : List Command) → (h == k) ≡ false → item_findings coming (Ok c) vk ≡ [] → (after_talk coming hearing (Ok c) vk b).full ≡ false
+      → Parley h k vh vk b (c ∷ hl) kl → Parley h k vh (after_item coming (Ok c) vk) (after_talk coming hearing (Ok c) vk b) hl kl
+  their_item c = each_comes c
+
+  pub their_items : (cs : List Command) (vh vk : View) (b : SeenBooks) (hl kl : List Command) → (h == k) ≡ false → items_findings coming (items_of cs None) vk ≡ []
+      → (after_talked coming hearing (items_of cs None) vk b).full ≡ false → Parley h k vh vk b (cs ++ hl) kl
+      → Parley h k vh (after_items coming (items_of cs None) vk) (after_talked coming hearing (items_of cs None) vk b) hl kl
+  their_items [] vh vk b hl kl apart none room p = p
+  their_items (c ∷ cs) vh vk b hl kl apart none room p =
+      let v : View = after_item coming (Ok c) vk in
+      let now : SeenBooks = after_talk coming hearing (Ok c) vk b in
+      let one = empty_front (item_findings coming (Ok c) vk) (items_findings coming (items_of cs None) v) none in
+      let rest = empty_rest (item_findings coming (Ok c) vk) (items_findings coming (items_of cs None) v) none in
+      their_items cs vh v now hl kl apart rest room (their_item c vh vk b (cs ++ hl) kl apart one ((items_read k h coming (items_of cs None) v now).room room) p)
+
+  pub their_quiet : (cs : List Command) (vh vk : View) (b : SeenBooks) (hl kl : List Command) → (h == k) ≡ false → items_findings coming (items_of cs None) vk ≡ []
+      → (b.full ≡ false → Parley h k vh vk b (cs ++ hl) kl) → talked_findings coming hearing kept (items_of cs None) vk b ≡ []
+  their_quiet [] vh vk b hl kl apart none p = refl
+  their_quiet (c ∷ cs) vh vk b hl kl apart none p =
+      let v : View = after_item coming (Ok c) vk in
+      let now : SeenBooks = after_talk coming hearing (Ok c) vk b in
+      let found : List Finding = talked_findings coming hearing kept (items_of cs None) v now in
+      let of_talk : List Finding = option_to_list (talk_finding coming hearing kept (Ok c) vk b) in
+      let one = empty_front (item_findings coming (Ok c) vk) (items_findings coming (items_of cs None) v) none in
+      let rest = empty_rest (item_findings coming (Ok c) vk) (items_findings coming (items_of cs None) v) none in
+      let before : now.full ≡ false → b.full ≡ false = (talk_reads k h coming (Ok c) vk b).room in
+      ap (λ (xs : List Finding). (xs ++ of_talk) ++ found) one ∙ ap (λ (xs : List Finding). xs ++ found) (each_unfound c vh vk b (cs ++ hl) kl one p)
+      ∙ their_quiet cs vh v now hl kl apart rest (λ f. each_comes c vh vk b (cs ++ hl) kl apart one f (p (before f)))
+
+-- ---- once too much is out, nothing that is said is judged
+
+record Unjudged (turn : Turn) (talk : Talk) (kept : List Kept) (item : Result Command CommandFault) (v : View) (b : SeenBooks) : Type 0 where
+  none : option_to_list (talk_finding turn talk kept item v b) ≡ []
+  told : (after_item turn item v).told ≡ false
+
+thing_unjudged : (turn : Turn) (what : Thing) (v : View) (o : Option Rule) → v.told ≡ false → option_to_list (if reaches turn what v then option_map (broken_by turn) o else None) ≡ []
+thing_unjudged turn what v o t =
+    none_judged turn (reaches turn what v) o (ap (λ (x : Bool). x && not (is_early turn what v) && not v.rests && not (not turn.sent && awaits_reply v.host.wait)) t)
+
+unjudged : (turn : Turn) (talk : Talk) (kept : List Kept) (item : Result Command CommandFault) (v : View) (b : SeenBooks) → v.told ≡ false → turn.zero ≡ false → Unjudged turn talk kept item v b
+unjudged turn talk kept (Err fault) v b t z = record { none = thing_unjudged turn Thing.Bad v (spoken_rule talk kept (Err fault) b) t; told = t }
+unjudged turn talk kept (Ok c) v b t z = by_kind (λ (d : Command). Unjudged turn talk kept (Ok d) v b) rst rrp thing c
+  where
+    rst : Unjudged turn talk kept (Ok Command.Rst) v b
+    rst = record { none = refl; told = go v.told turn.zero t z }
+      where
+        go : (x y : Bool) → x ≡ false → y ≡ false → (if x || (y && not (is_answered_too_often v.host.wait)) then if turn.sent then after_reset_of_host turn v else after_reset_of_peer turn v else v).told ≡ false
+        go true y e f = absurd (cc e)
+        go false true e f = absurd (cc f)
+        go false false e f = t
+
+    rrp : Unjudged turn talk kept (Ok Command.Rrp) v b
+    rrp = record { none = refl; told = go v.told turn.sent t }
+      where
+        go : (x s : Bool) → x ≡ false → (if x then if turn.sent then after_reply_of_host turn v else after_reply_of_peer v else if s then v else record v { host = record v.host { wait = Answered } }).told ≡ false
+        go true s e = absurd (cc e)
+        go false true e = t
+        go false false e = t
+
+    thing : (d : Command) → IsThing d → Unjudged turn talk kept (Ok d) v b
+    thing d k = record {
+      none =
+          subst (λ (a : Act). option_to_list (if act_reaches turn a v then option_map (broken_by turn) (spoken_rule talk kept (Ok d) b) else None) ≡ []) (sym k.act)
+          (thing_unjudged turn k.what v (spoken_rule talk kept (Ok d) b) t);
+      told = subst (λ (a : Act). (after_act turn a v).told ≡ false) (sym k.act) t;
+    }
+
+pub untold_quiet : (turn : Turn) (talk : Talk) (kept : List Kept) (items : List (Result Command CommandFault)) (v : View) (b : SeenBooks) → v.told ≡ false → turn.zero ≡ false
+    → talked_findings turn talk kept items v b ≡ items_findings turn items v
+untold_quiet turn talk kept [] v b t z = refl
+untold_quiet turn talk kept (item ∷ items) v b t z =
+    let one = unjudged turn talk kept item v b t z in
+    let v' : View = after_item turn item v in
+    let now : SeenBooks = after_talk turn talk item v b in
+    ap (λ (xs : List Finding). (item_findings turn item v ++ xs) ++ talked_findings turn talk kept items v' now) one.none
+    ∙ ap (λ (xs : List Finding). xs ++ talked_findings turn talk kept items v' now) (append-nil (item_findings turn item v))
+    ∙ ap (λ (xs : List Finding). item_findings turn item v ++ xs) (untold_quiet turn talk kept items v' now one.told z)
