@@ -1,0 +1,83 @@
+-- In the file of two to eight hosts with the subnet between them nothing is found, by any rule: what is known of two hosts is left
+-- by the records of others, so it is known of each two.
+use Rattle.std.proofs.Common.{◌≡◌, ◌<◌, ℕ, false, List, Bool, Ok, sym, subst}
+use Rattle.ncp_leader.specs.declared.leader.Leader.{Leader}
+use Rattle.ncp_leader.specs.Leader.{leader_in}
+use Rattle.ncp_transcript_two.specs.Between.{Hosts}
+use Rattle.ncp_transcript_two.specs.Seen.{seen}
+use Rattle.ncp_transcript_two.proofs.SeenRuns.{turned}
+use Rattle.ncp_umpire.specs.declared.finding.Rule.{Rule}
+use Rattle.ncp_umpire.specs.declared.umpire.Umpire.{Umpire}
+use Rattle.ncp_umpire.specs.declared.view.View.{View}
+use Rattle.ncp_umpire.specs.declared.way.Way.{Way}
+use Rattle.ncp_umpire.specs.Judged.{new_umpire, after_record}
+use Rattle.ncp_umpire.specs.Tables.{view_in}
+use Rattle.ncp_proof_umpire_talk.proofs.BooksRecord.{record_reads}
+use Rattle.ncp_proof_umpire_talk.proofs.Elsewhere.{Alike}
+use Rattle.ncp_proof_umpire_talk.proofs.SeenBooks.{seen_of}
+use Rattle.ncp_proof_umpire_many.specs.Files.{findings_in}
+use Rattle.ncp_proof_umpire_many.specs.ManyFiles.{many_file, NothingFoundAmongMany}
+use Rattle.ncp_proof_umpire_many.proofs.Among.{Lifts, all_among, both_lifts}
+use Rattle.ncp_proof_umpire_many.proofs.Counts.{line}
+use Rattle.ncp_proof_umpire_many.proofs.Elsewhere.{Spares, IsOfOthers, record_spares}
+use Rattle.ncp_proof_umpire_whole.proofs.Bystanders.{books_left, room_before_record, talks_left}
+use Rattle.ncp_proof_umpire_whole.proofs.Parleys.{ParleyOf, Known}
+use Rattle.ncp_proof_umpire_whole.proofs.SendsOn.{same_sends}
+use Rattle.ncp_proof_umpire_whole.proofs.Sessions.{Parley, books_parley}
+use Rattle.ncp_proof_umpire_whole.proofs.TextsKept.{Texts, seen_alike}
+use Rattle.ncp_proof_umpire_whole.proofs.WholeWalk.{never, none_of, each_known, known_begins}
+
+-- the texts of the one that are out
+texts_left : (w : Hosts) (umpire now : Umpire) → (now.full ≡ false → umpire.full ≡ false) → (now.books.full ≡ false → umpire.books.full ≡ false) → Alike w.number_a w.number_b umpire.books now.books → Texts w umpire → Texts w now
+texts_left w umpire now full room alike t = λ f r owe on unlike filled.
+    same_sends (seen_of w.number_a w.number_b umpire.books) (seen_of w.number_a w.number_b now.books) on (seen_alike w.number_a w.number_b umpire.books now.books alike) (t (full f) (room r) owe on unlike filled)
+
+module _ (w : Hosts) (umpire : Umpire) (at : ℕ) (way : Way) (bits : List Bool) (leader : Leader) (x : at < 256) (y : leader.host < 256) (led : leader_in bits ≡ Ok leader) (away : IsOfOthers w.number_a w.number_b at leader.host) (k : Known w umpire) where
+  abbrev now : Umpire
+  now = after_record umpire way at bits
+
+  back : IsOfOthers w.number_b w.number_a at leader.host
+  back = (λ p q. away.1 q p, λ p q. away.0 q p)
+
+  going : Spares w.number_a w.number_b umpire now
+  going = record_spares w.number_a w.number_b at way bits leader umpire x y k.0.joined.stand.fits_b led away
+
+  coming : Spares w.number_b w.number_a umpire now
+  coming = record_spares w.number_b w.number_a at way bits leader umpire x y k.0.joined.stand.fits_a led back
+
+  at_a : Alike w.number_a w.number_b umpire.books now.books
+  at_a = books_left w.number_a w.number_b at way bits leader umpire led away
+
+  at_b : Alike w.number_b w.number_a umpire.books now.books
+  at_b = books_left w.number_b w.number_a at way bits leader umpire led back
+
+  room : now.books.full ≡ false → umpire.books.full ≡ false
+  room = room_before_record umpire way at bits
+
+  parley_left : now.full ≡ false → now.books.full ≡ false → ParleyOf w now (line (seen w).this (seen w).going) (line (seen w).that (seen w).coming)
+  parley_left f r =
+      subst (λ (v : View). Parley w.number_a w.number_b v (view_in now.views w.number_b w.number_a) now.books (line (seen w).this (seen w).going) (line (seen w).that (seen w).coming)) (sym going.view)
+      (subst (λ (v : View). Parley w.number_a w.number_b (view_in umpire.views w.number_a w.number_b) v now.books (line (seen w).this (seen w).going) (line (seen w).that (seen w).coming)) (sym coming.view)
+      (books_parley w.number_a w.number_b (view_in umpire.views w.number_a w.number_b) (view_in umpire.views w.number_b w.number_a) umpire.books now.books
+      (line (seen w).this (seen w).going)
+      (line (seen w).that (seen w).coming) at_a at_b
+      (k.1.parley (going.full f) (room r))))
+
+  pub known_left : Known w now
+  known_left = (
+    both_lifts.others w umpire at way bits leader x y led away k.0,
+    record {
+      talks_a = talks_left w.number_a w.number_b w.a umpire now k.0.at_a.holds going room (record_reads umpire way at bits).tidy at_a k.1.talks_a;
+      talks_b = talks_left w.number_b w.number_a w.b umpire now k.0.at_b.holds coming room (record_reads umpire way at bits).tidy at_b k.1.talks_b;
+      parley = parley_left;
+      texts_a = texts_left w umpire now going.full room at_a k.1.texts_a;
+      texts_b = texts_left (turned w) umpire now coming.full room at_b k.1.texts_b;
+    },
+  )
+
+known_lifts : Lifts never Known
+known_lifts = record { steps = each_known; begins = known_begins; joined = λ w umpire k. k.0.joined; others = known_left }
+
+-- by whatever rules
+pub none_among : (judged : Rule → Bool) → NothingFoundAmongMany judged
+none_among judged notes now t = none_of judged (findings_in (new_umpire false) (many_file notes)) (all_among never Known known_lifts notes now t)
