@@ -1,8 +1,7 @@
--- What is recorded of many hosts is read again, and what is found in it is by no rule of messages and the phase.
-use Rattle.std.proofs.Common.{◌≡◌, ℕ, Bool, false, not, ◌&&◌, if◌then◌else◌, List, [], ◌∷◌, ◌++◌, map, option_to_list, All, Option, None, refl, sym, ap, ◌∙◌, subst}
+-- What is recorded of many hosts is read again, and nothing is found in it.
+use Rattle.std.proofs.Common.{◌≡◌, ℕ, Bool, true, false, not, ◌&&◌, List, [], ◌∷◌, ◌++◌, map, option_to_list, All, Option, None, refl, sym, ap, ◌∙◌, subst}
 use Rattle.std.proofs.lemmas.List.Elements.{All-nil, All-cons}
-use Rattle.std.proofs.lemmas.Bool.{and_parts}
-use Rattle.std.specs.List.{flat_map, list_any, list_all, filter}
+use Rattle.std.specs.List.{flat_map, list_any}
 use Rattle.ncp_play_files.specs.declared.file.Direction.{Direction}
 use Rattle.ncp_play_files.specs.declared.file.FileFault.{FileFault}
 use Rattle.ncp_play_files.specs.declared.version.Version.TheVariants.{Two}
@@ -12,7 +11,7 @@ use Rattle.ncp_play_files.proofs.Contents.{by_once}
 use Rattle.ncp_play_files.proofs.Again.{holds_written}
 use Rattle.ncp_play_page.specs.Lines.{number_after}
 use Rattle.ncp_play_audit.specs.FindingLines.{is_told, told_line}
-use Rattle.ncp_play_audit.specs.Audited.{host_of, findings_of, umpire_after, audit_lines, is_clean, AuditedAs, HasVerdict}
+use Rattle.ncp_play_audit.specs.Audited.{audit_lines, is_clean, AuditedAs, HasVerdict}
 use Rattle.ncp_play_script.specs.declared.first_lines.TwoHosts.{TwoHosts}
 use Rattle.ncp_play_world_lines.specs.Recorded.{recorded_of, records_of, file_of_notes, record_of_many, records_of_many, file_of_many_notes}
 use Rattle.ncp_transcript.specs.declared.note.HostNote.{HostNote}
@@ -31,15 +30,11 @@ use Rattle.ncp_umpire.specs.declared.umpire.Umpire.{Umpire}
 use Rattle.ncp_umpire.specs.declared.way.Way.{Way}
 use Rattle.ncp_umpire.specs.declared.way.Way.TheVariants.{ToImp, FromImp}
 use Rattle.ncp_umpire.specs.Judged.{new_umpire, record_findings, after_record}
-use Rattle.ncp_umpire.proofs.Passing.{Pass}
-use Rattle.ncp_umpire.proofs.Parted.{pass_parts}
-use Rattle.ncp_proof_umpire.specs.Recordings.{is_of_messages_and_phase}
 use Rattle.ncp_proof_umpire.specs.Worlds.{goes_from}
 use Rattle.ncp_proof_umpire_many.specs.Files.{findings_in, found_by}
 use Rattle.ncp_proof_umpire_many.specs.ManyFiles.{came_at, passing, many_file, AllFit}
-use Rattle.ncp_proof_umpire_many.proofs.Quiet.{phase_quiet}
-use Rattle.ncp_proof_umpire_many.proofs.Among.{all_quiet, all_fit}
-use Rattle.ncp_proof_audit.specs.ByRules.{any_rule, other_rules, lines_by, is_clean_by}
+use Rattle.ncp_proof_umpire_many.proofs.Among.{all_fit}
+use Rattle.ncp_proof_umpire_whole.proofs.ManyWhole.{none_among}
 
 -- ---- the two forms of a record
 
@@ -116,63 +111,36 @@ fit_all : (file : List (ℕ × Way × List Bool)) → AllFit file → All (IsOf 
 fit_all [] k = All-nil (IsOf Two)
 fit_all (one ∷ more) k = All-cons (IsOf Two) (as_record one) (as_records more) (one.0, refl, k.1) (fit_all more k.2)
 
--- ---- what is found in it is by other rules
+-- ---- nothing is found in it
 
--- where each passes, all are kept
-kept_all : (P : Finding → Bool) (found : List Finding) → Pass P found → filter P found ≡ found
-kept_all P [] p = refl
-kept_all P (f ∷ found) p =
-    let parts = and_parts (P f) (list_all P found) p in
-    ap (λ (b : Bool). if b then f ∷ filter P found else filter P found) parts.0 ∙ ap (λ (fs : List Finding). f ∷ fs) (kept_all P found parts.1)
+-- what is found by any rule is all that is found
+all_found : (found : List Finding) → found_by (λ rule. true) found ≡ found
+all_found [] = refl
+all_found (f ∷ found) = ap (λ (fs : List Finding). f ∷ fs) (all_found found)
 
-abbrev Others : Bool → Umpire → ℕ → List Recorded → Type 0
-Others standard umpire number records =
-    (audit_lines standard umpire number records ≡ lines_by (other_rules is_of_messages_and_phase) standard umpire number records)
-    × (is_clean standard umpire records ≡ is_clean_by (other_rules is_of_messages_and_phase) standard umpire records)
+empty_front : (xs ys : List Finding) → xs ++ ys ≡ [] → (xs ≡ []) × (ys ≡ [])
+empty_front [] ys e = (refl, e)
+empty_front (x ∷ xs) ys e = absurd (cc e)
 
-clean : (standard : Bool) (file : List (ℕ × Way × List Bool)) (umpire : Umpire) (number : ℕ) → Pass phase_quiet (findings_in umpire file) → Others standard umpire number (as_records file)
-clean standard [] umpire number p = (refl, refl)
-clean standard ((host, ToImp, bits) ∷ more) umpire number p =
-    let found = record_findings umpire ToImp host bits in
+abbrev WritesNothing : Bool → Umpire → ℕ → List Recorded → Type 0
+WritesNothing standard umpire number records = (audit_lines standard umpire number records ≡ []) × (is_clean standard umpire records ≡ true)
+
+clean : (standard : Bool) (file : List (ℕ × Way × List Bool)) (umpire : Umpire) (number : ℕ) → findings_in umpire file ≡ [] → WritesNothing standard umpire number (as_records file)
+clean standard [] umpire number e = (refl, refl)
+clean standard ((host, ToImp, bits) ∷ more) umpire number e =
     let after = after_record umpire ToImp host bits in
-    let parts = pass_parts phase_quiet found (findings_in after more) p in
-    let same = sym (kept_all phase_quiet found parts.0) in
+    let parts = empty_front (record_findings umpire ToImp host bits) (findings_in after more) e in
     let rest = clean standard more after (number_after number) parts.1 in (
-      ap (λ (fs : List Finding). flat_map (told_line standard number host) fs ++ audit_lines standard after (number_after number) (as_records more)) same
-          ∙ ap (λ (ls : List ℕ). flat_map (told_line standard number host) (filter phase_quiet found) ++ ls) rest.0,
-      ap (λ (fs : List Finding). not (list_any (is_told standard) fs) && is_clean standard after (as_records more)) same
-          ∙ ap (λ (b : Bool). not (list_any (is_told standard) (filter phase_quiet found)) && b) rest.1,
+      ap (λ (fs : List Finding). flat_map (told_line standard number host) fs ++ audit_lines standard after (number_after number) (as_records more)) parts.0 ∙ rest.0,
+      ap (λ (fs : List Finding). not (list_any (is_told standard) fs) && is_clean standard after (as_records more)) parts.0 ∙ rest.1,
     )
-clean standard ((host, FromImp, bits) ∷ more) umpire number p =
-    let found = record_findings umpire FromImp host bits in
+clean standard ((host, FromImp, bits) ∷ more) umpire number e =
     let after = after_record umpire FromImp host bits in
-    let parts = pass_parts phase_quiet found (findings_in after more) p in
-    let same = sym (kept_all phase_quiet found parts.0) in
+    let parts = empty_front (record_findings umpire FromImp host bits) (findings_in after more) e in
     let rest = clean standard more after (number_after number) parts.1 in (
-      ap (λ (fs : List Finding). flat_map (told_line standard number host) fs ++ audit_lines standard after (number_after number) (as_records more)) same
-          ∙ ap (λ (ls : List ℕ). flat_map (told_line standard number host) (filter phase_quiet found) ++ ls) rest.0,
-      ap (λ (fs : List Finding). not (list_any (is_told standard) fs) && is_clean standard after (as_records more)) same
-          ∙ ap (λ (b : Bool). not (list_any (is_told standard) (filter phase_quiet found)) && b) rest.1,
+      ap (λ (fs : List Finding). flat_map (told_line standard number host) fs ++ audit_lines standard after (number_after number) (as_records more)) parts.0 ∙ rest.0,
+      ap (λ (fs : List Finding). not (list_any (is_told standard) fs) && is_clean standard after (as_records more)) parts.0 ∙ rest.1,
     )
-
--- by all rules all is written
-pub all_written : (standard : Bool) (records : List Recorded) (umpire : Umpire) (number : ℕ)
-    → (lines_by any_rule standard umpire number records ≡ audit_lines standard umpire number records) × (is_clean_by any_rule standard umpire records ≡ is_clean standard umpire records)
-all_written standard [] umpire number = (refl, refl)
-all_written standard (seen ∷ more) umpire number =
-    let found = findings_of umpire seen in
-    let after = umpire_after umpire seen in
-    let same = all_found found in
-    let rest = all_written standard more after (number_after number) in (
-      ap (λ (fs : List Finding). flat_map (told_line standard number (host_of seen.passage.at)) fs ++ lines_by any_rule standard after (number_after number) more) same
-          ∙ ap (λ (ls : List ℕ). flat_map (told_line standard number (host_of seen.passage.at)) found ++ ls) rest.0,
-      ap (λ (fs : List Finding). not (list_any (is_told standard) fs) && is_clean_by any_rule standard after more) same
-          ∙ ap (λ (b : Bool). not (list_any (is_told standard) found) && b) rest.1,
-    )
-  where
-    all_found : (found : List Finding) → found_by any_rule found ≡ found
-    all_found [] = refl
-    all_found (f ∷ found) = ap (λ (fs : List Finding). f ∷ fs) (all_found found)
 
 -- ---- both
 
@@ -180,18 +148,19 @@ module _ (standard : Bool) (notes : List ManyNote) (now : Crowd) (t : IsManyTran
   held : HoldsBy (next_in Two) (flat_map bytes_of_record (records_of_many notes)) (records_of_many notes) None
   held = holds_written Two (records_of_many notes) (subst (All (IsOf Two)) (sym (all_are notes)) (fit_all (many_file notes) (all_fit notes now t)))
 
-  found : Others standard (new_umpire false) 1 (records_of_many notes)
-  found = subst (Others standard (new_umpire false) 1) (sym (all_are notes)) (clean standard (many_file notes) (new_umpire false) 1 (all_quiet notes now t))
+  none : findings_in (new_umpire false) (many_file notes) ≡ []
+  none = sym (all_found (findings_in (new_umpire false) (many_file notes))) ∙ none_among (λ rule. true) notes now t
 
-  pub other_lines : (text : List ℕ) (fault : Option FileFault) → AuditedAs standard (new_umpire false) (file_of_many_notes notes) text fault
-      → (text ≡ lines_by (other_rules is_of_messages_and_phase) standard (new_umpire false) 1 (records_of_many notes)) × (fault ≡ None)
-  other_lines text fault a =
+  found : WritesNothing standard (new_umpire false) 1 (records_of_many notes)
+  found = subst (WritesNothing standard (new_umpire false) 1) (sym (all_are notes)) (clean standard (many_file notes) (new_umpire false) 1 none)
+
+  pub no_line : (text : List ℕ) (fault : Option FileFault) → AuditedAs standard (new_umpire false) (file_of_many_notes notes) text fault → (text ≡ []) × (fault ≡ None)
+  no_line text fault a =
       let once = by_once (next_in Two) (flat_map bytes_of_record (records_of_many notes)) a.0 (records_of_many notes) fault None a.1 held in
       (a.2 ∙ ap (audit_lines standard (new_umpire false) 1) once.0 ∙ found.0, once.1)
 
-  pub other_verdict : (good : Bool) → HasVerdict standard (new_umpire false) (file_of_many_notes notes) good
-      → good ≡ is_clean_by (other_rules is_of_messages_and_phase) standard (new_umpire false) (records_of_many notes)
-  other_verdict good v =
+  pub good_verdict : (good : Bool) → HasVerdict standard (new_umpire false) (file_of_many_notes notes) good → good ≡ true
+  good_verdict good v =
       let once = by_once (next_in Two) (flat_map bytes_of_record (records_of_many notes)) v.0 (records_of_many notes) None None v.2 held in
       v.3 ∙ ap (is_clean standard (new_umpire false)) once.0 ∙ found.1
 
@@ -229,14 +198,10 @@ module _ (standard : Bool) (notes : List Note) (w : Hosts) (t : IsTranscript not
   same_file : file_of_notes hosts notes ≡ file_of_many_notes all
   same_file = ap (file_bytes Two) (same_records hosts notes)
 
-  pub other_lines_of_two : (text : List ℕ) (fault : Option FileFault) → AuditedAs standard (new_umpire false) (file_of_notes hosts notes) text fault
-      → (text ≡ lines_by (other_rules is_of_messages_and_phase) standard (new_umpire false) 1 (records_of hosts notes)) × (fault ≡ None)
-  other_lines_of_two text fault a =
-      let done = other_lines standard all (crowd_of w) (two-by-numbers notes w t) text fault (subst (λ (bytes : List ℕ). AuditedAs standard (new_umpire false) bytes text fault) same_file a) in
-      (done.0 ∙ ap (lines_by (other_rules is_of_messages_and_phase) standard (new_umpire false) 1) (sym (same_records hosts notes)), done.1)
+  pub no_line_of_two : (text : List ℕ) (fault : Option FileFault) → AuditedAs standard (new_umpire false) (file_of_notes hosts notes) text fault → (text ≡ []) × (fault ≡ None)
+  no_line_of_two text fault a =
+      no_line standard all (crowd_of w) (two-by-numbers notes w t) text fault (subst (λ (bytes : List ℕ). AuditedAs standard (new_umpire false) bytes text fault) same_file a)
 
-  pub other_verdict_of_two : (good : Bool) → HasVerdict standard (new_umpire false) (file_of_notes hosts notes) good
-      → good ≡ is_clean_by (other_rules is_of_messages_and_phase) standard (new_umpire false) (records_of hosts notes)
-  other_verdict_of_two good v =
-      other_verdict standard all (crowd_of w) (two-by-numbers notes w t) good (subst (λ (bytes : List ℕ). HasVerdict standard (new_umpire false) bytes good) same_file v)
-      ∙ ap (is_clean_by (other_rules is_of_messages_and_phase) standard (new_umpire false)) (sym (same_records hosts notes))
+  pub good_verdict_of_two : (good : Bool) → HasVerdict standard (new_umpire false) (file_of_notes hosts notes) good → good ≡ true
+  good_verdict_of_two good v =
+      good_verdict standard all (crowd_of w) (two-by-numbers notes w t) good (subst (λ (bytes : List ℕ). HasVerdict standard (new_umpire false) bytes good) same_file v)

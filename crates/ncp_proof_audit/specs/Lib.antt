@@ -1,1 +1,1 @@
-pub mod ByRules
+pub mod CleanRecords

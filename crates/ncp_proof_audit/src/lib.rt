@@ -1,9 +1,8 @@
-//! What `ncp record` writes of two to eight hosts, `ncp audit` reads whole, and finds nothing in it by the rules of messages and
-//! the phase. Each law is the contract of a function that does nothing.
+//! What `ncp record` writes of two to eight hosts, `ncp audit` reads whole, and finds nothing in it. Each law is the contract of
+//! a function that does nothing.
 //!
 //! - *Use:* the two ends of a pipe, `ncp record | ncp audit`, as bytes.
-//! - *Proved:* the laws of `recorded`. Not that nothing is found by the rules of requests, CLS, replies, ERR and echo: that is
-//!   tested.
+//! - *Proved:* the laws of `recorded`.
 //! - *Tests:* recordings of scripts are audited in `audits` of `ncp_test_files`.
 #![tactic(auto)]
 

@@ -1,8 +1,8 @@
-use Rattle.ncp_proof_audit.proofs.Clean.{other_lines_of_two, other_verdict_of_two}
+use Rattle.ncp_proof_audit.proofs.Clean.{no_line_of_two, good_verdict_of_two}
 use Rattle.ncp_proof_audit.proofs.recorded.what_is_recorded_of_two_is_clean.Goals as goal
 
 pub returns-clause-lines : goal.returns-clause-lines
-returns-clause-lines c standard notes w text fault t a = other_lines_of_two standard notes w t text fault a
+returns-clause-lines c = λ notes w t standard. no_line_of_two standard notes w t
 
 pub returns-clause-verdict : goal.returns-clause-verdict
-returns-clause-verdict c standard notes w good t v = other_verdict_of_two standard notes w t good v
+returns-clause-verdict c = λ notes w t standard. good_verdict_of_two standard notes w t

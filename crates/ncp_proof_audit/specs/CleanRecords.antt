@@ -1,0 +1,33 @@
+-- What `audit` says of a file, with `--standard` and without; and the files of what is recorded of hosts with the subnet between
+-- them.
+use Rattle.std.specs.Prelude.{◌≡◌, ℕ, Bool, true, false, List, [], Option, None}
+use Rattle.ncp_play_files.specs.declared.file.FileFault.{FileFault}
+use Rattle.ncp_play_audit.specs.Audited.{AuditedAs, HasVerdict}
+use Rattle.ncp_play_world_lines.specs.Recorded.{file_of_notes, file_of_many_notes}
+use Rattle.ncp_transcript_two.specs.declared.note.Note.{Note}
+use Rattle.ncp_transcript_two.specs.Between.{Hosts}
+use Rattle.ncp_transcript_two.specs.Transcript.{IsTranscript}
+use Rattle.ncp_transcript_many.specs.declared.many_note.ManyNote.{ManyNote}
+use Rattle.ncp_transcript_many.specs.Crowd.{Crowd}
+use Rattle.ncp_transcript_many.specs.ManyTranscript.{IsManyTranscript}
+use Rattle.ncp_umpire.specs.Judged.{new_umpire}
+
+-- it writes no line of the file, which has no fault
+abbrev pub WritesNoLine : List ℕ → Type 0
+WritesNoLine file =
+    (standard : Bool) (text : List ℕ) (fault : Option FileFault) → AuditedAs standard (new_umpire false) file text fault
+    → (text ≡ []) × (fault ≡ None)
+
+-- it answers that there is no finding
+abbrev pub AnswersNoFinding : List ℕ → Type 0
+AnswersNoFinding file = (standard good : Bool) → HasVerdict standard (new_umpire false) file good → good ≡ true
+
+-- so it is with each file of the notes of two to eight hosts
+abbrev pub EachFileOfMany : (List ℕ → Type 0) → Type 0
+EachFileOfMany IsSo = (notes : List ManyNote) (now : Crowd) → IsManyTranscript notes now → IsSo (file_of_many_notes notes)
+
+-- and of two
+abbrev pub EachFileOfTwo : (List ℕ → Type 0) → Type 0
+EachFileOfTwo IsSo =
+    (notes : List Note) (w : Hosts) → IsTranscript notes w
+    → IsSo (file_of_notes (record { a = w.number_a; b = w.number_b }) notes)
