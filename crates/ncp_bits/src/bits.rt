@@ -123,6 +123,16 @@ impl Bits {
         Ok(())
     }
 
+    /// Becomes the bits of a part, and costs a copy of them.
+    pub fn copy_from_part(&mut self, part: Part<'_>)
+        ensures { self.new ≡ part.entry }
+    {
+        // A part is short enough.
+        let _len = part.len();
+        self.copy_from_bytes(&[], 0).unwrap();
+        self.append(part).unwrap();
+    }
+
     /// How many bits there are.
     pub fn len(&self) -> usize
         ensures len { result ≡ length self.now }

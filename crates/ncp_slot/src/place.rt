@@ -7,20 +7,10 @@ ghost use Rattle.ncp_slot.specs.PlaceLends.{LendsTravelling};
 ghost use Rattle.std.specs.Borrow.{sem};
 
 use crate::slot::{Busy, Slot, Stray};
-use ncp_bits::{Bits, Part};
+use ncp_bits::Bits;
 use ncp_terms::Answer;
 use std::fmt;
 use std::marker::Model;
-
-/// Writes bits over others. It costs a copy of those that come.
-pub(crate) fn write_over(bits: &mut Bits, part: Part<'_>)
-    ensures { bits.new ≡ part.entry }
-{
-    // A part is short enough.
-    let _len = part.len();
-    bits.copy_from_bytes(&[], 0).unwrap();
-    bits.append(part).unwrap();
-}
 
 /// The place of a slot: how it stands, and room for a message, which is written where it stays. What an empty slot
 /// had before is not looked at.
@@ -58,7 +48,7 @@ impl Place {
     {
         let mut place = Place::empty();
         if let Some(message) = self.kept() {
-            write_over(&mut place.message, message.whole());
+            place.message.copy_from_part(message.whole());
         }
         place.slot = self.slot.copy();
         place
@@ -73,7 +63,7 @@ impl Place {
         if !self.is_empty() {
             return Err(Busy);
         }
-        write_over(&mut self.message, bits.whole());
+        self.message.copy_from_part(bits.whole());
         self.slot = Slot::Ready(());
         Ok(())
     }

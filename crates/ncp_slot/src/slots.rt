@@ -8,7 +8,7 @@ ghost use Rattle.ncp_slot.specs.Links.{HasItsLinks};
 ghost use Rattle.ncp_slot.specs.Lends.{LendsMessage};
 ghost use Rattle.ncp_slot.specs.Slots.{HasSlot, no_slots, slot_at, with_slot, all_woken, OtherSlotsStay, IsReady, IsHeld, IsFirstReady, IsQuiet, is_quiet, link_of_place};
 
-use crate::place::{Place, write_over};
+use crate::place::Place;
 use crate::slot::{Busy, Slot, Stray};
 use ncp_bits::Bits;
 use ncp_terms::{Answer, DATA_LINKS, LAST_LINK, UNUSED_LINK};
@@ -167,7 +167,7 @@ impl Slots {
         requires empty { slot_at self.old link ≡ Slot.Empty }
         ensures { self.new ≡ with_slot self.old link (Slot.Travelling bits.now) }
     {
-        write_over(self.begin(link), bits.whole());
+        self.begin(link).copy_from_part(bits.whole());
     }
 
     /// Takes the subnet's answer to the message that went out on a link. After Ready For Next

@@ -221,6 +221,16 @@ fn appends_parts(rt: HostRuntime) {
 }
 
 #[test]
+fn takes_one_part_after_the_other(rt: HostRuntime) {
+    let row = long_byte(&rt);
+    let mut bits = bits_in(&rt, "1010");
+    bits.copy_from_part(row.whole());
+    assert!(rt; bits == row);
+    bits.copy_from_part(run(&rt, &row, 72, 8));
+    assert!(rt; is_spelled(&bits, "00010010"));
+}
+
+#[test]
 fn reads_parts(rt: HostRuntime) {
     const SECOND: &[(usize, usize, u64)] = &[(0, 8, 0x23)];
     let row = long_byte(&rt);
