@@ -58,9 +58,9 @@ others_apart at peer local remote a b d life e =
 -- ---- a request
 
 -- the one that is there, or a new one
-abbrev pub or_life : ℕ → ℕ → ℕ → ℕ → Option Life → Life
-or_life at peer local remote None = unasked_life at peer local remote
-or_life at peer local remote (Some life) = life
+abbrev pub or_life : ℕ → ℕ → ℕ → ℕ → ℕ → Option Life → Life
+or_life at peer local remote number None = record (unasked_life at peer local remote) { since = number }
+or_life at peer local remote number (Some life) = life
 
 itself : (at peer local remote : ℕ) → is_of_sockets at peer local remote (unasked_life at peer local remote) ≡ true
 itself at peer local remote = rw (eq-eqb at at refl, eq-eqb peer peer refl, eq-eqb local local refl, eq-eqb remote remote refl) refl
@@ -82,10 +82,10 @@ module _ (talk : Talk) (local remote : ℕ) (request : Request) (books : SeenBoo
   its = is_of_sockets talk.at talk.peer local remote
 
   abbrev begun : Life
-  begun = with_request_sent (unasked_life talk.at talk.peer local remote) request
+  begun = with_request_sent (record (unasked_life talk.at talk.peer local remote) { since = books.number }) request
 
   begun_is : its begun ≡ true
-  begun_is = asked_is talk.at talk.peer local remote (unasked_life talk.at talk.peer local remote) request ∙ itself talk.at talk.peer local remote
+  begun_is = asked_is talk.at talk.peer local remote (record (unasked_life talk.at talk.peer local remote) { since = books.number }) request ∙ itself talk.at talk.peer local remote
 
   abbrev asked : ℕ → Life
   asked i = with_request_sent (life_in_place books.lives i) request
@@ -94,7 +94,7 @@ module _ (talk : Talk) (local remote : ℕ) (request : Request) (books : SeenBoo
   asked_its i e = asked_is talk.at talk.peer local remote (life_in_place books.lives i) request ∙ (position-Some its books.lives i (unasked_life 0 0 0 0) e).1
 
   pub asks_at : (o : Option ℕ) → position its books.lives ≡ o → (asks talk local remote request books o).full ≡ false
-      → first its (asks talk local remote request books o).lives ≡ Some (with_request_sent (or_life talk.at talk.peer local remote (life_found books.lives o)) request)
+      → first its (asks talk local remote request books o).lives ≡ Some (with_request_sent (or_life talk.at talk.peer local remote books.number (life_found books.lives o)) request)
   asks_at None e f = ap (first its) (with_room books begun f) ∙ first_behind its books.lives begun (none_first its books.lives e) ∙ ap (λ (b : Bool). if b then Some begun else None) begun_is
   asks_at (Some i) e f =
       ap (first its) (set_found its (asked i) books.lives i (unasked_life 0 0 0 0) e)

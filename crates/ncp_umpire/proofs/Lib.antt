@@ -2,15 +2,14 @@ pub mod Events
 pub mod Items
 pub mod Adding
 pub mod Striking
-pub mod Covers
 pub mod Shapes
 pub mod Firsts
 pub mod BooksAt
 pub mod Seeing
-pub mod RepliesAt
 pub mod LinkOrder
 pub mod Passing
 pub mod Parted
 pub mod Following
 pub mod Reached
 pub mod Keeping
+pub mod Showing

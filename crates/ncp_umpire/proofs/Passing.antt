@@ -1,6 +1,6 @@
 -- Findings that all pass a test, part by part: of what a message says, of the message by itself, and of a record.
 use Rattle.std.proofs.Common.{◌≡◌, ℕ, ◌==◌, Bool, true, false, not, ◌&&◌, ◌||◌, if◌then◌else◌, List, [], ◌∷◌, ◌++◌, length, Option, None, Some, Result, Ok, Err, option_map, option_to_list, is_some, refl, sym, ap, ◌∙◌, subst}
-use Rattle.std.specs.Prelude.{nat_le}
+use Rattle.std.specs.Prelude.{nat_le, nat_lt, map}
 use Rattle.std.specs.List.{list_all, list_any}
 use Rattle.std.proofs.lemmas.Bool.{and_parts}
 use Rattle.ncp_leader.specs.declared.fault.MessageFault.{MessageFault}
@@ -38,11 +38,19 @@ use Rattle.ncp_umpire.specs.declared.view.View.{View}
 use Rattle.ncp_umpire.specs.Acts.{act_of}
 use Rattle.ncp_umpire.specs.Views.{awaits_reply}
 use Rattle.ncp_umpire.specs.Phases.{broken_by, sender, is_early, early_rule, early_finding, hears_reset, again_finding, unquiet_finding, first_finding, reset_findings, unasked_finding, reply_findings, bad_finding, act_findings, item_findings, after_item, after_items, missing_finding}
-use Rattle.ncp_umpire.specs.Lives.{SeenBooks, is_senders, has_sent_cls, has_sent_request, life_of, user_of, is_marked}
-use Rattle.ncp_umpire.specs.Replies.{is_own, is_wanted, skipped, is_about_link}
+use Rattle.ncp_umpire.specs.Lives.{SeenBooks, is_senders, has_sent_cls, has_sent_request, life_in_place, life_of, user_of, is_marked}
+use Rattle.ncp_umpire.specs.Replies.{is_own, is_wanted, skipped}
 use Rattle.ncp_umpire.specs.Requests.{broken, is_of_sexes, range_rule, link_rests, used_verdict, link_verdict, life_verdict, ranged_verdict, request_verdict, left_verdict, cls_verdict, is_busy_on, link_out_rule, text_out_rule, cls_rule}
-use Rattle.ncp_umpire.specs.Speaking.{here_of, there_of, closing_verdict, is_asking, reply_rule, command_rule, spoken_rule, reply_left_out, cls_left_out}
-use Rattle.ncp_umpire.specs.Talked.{talk_of, act_reaches, talk_finding, after_talk, all_findings, talked_findings, after_talked, missing, tells_left_out, missing_reply, missing_cls, left_out_findings}
+use Rattle.ncp_umpire.specs.Speaking.{here_of, there_of, closing_verdict, is_asking, reply_rule, command_rule, spoken_rule, spoken_numbers, reply_left_out, cls_left_out}
+use Rattle.ncp_umpire.specs.Talked.{talk_of, reaches, act_reaches, talk_finding, number_findings, text_findings, after_talk, all_findings, talked_findings, after_talked, missing, tells_left_out, missing_reply, missing_cls, left_out_findings}
+use Rattle.ncp_umpire.specs.declared.due.Due.{Due}
+use Rattle.ncp_umpire.specs.declared.due.Wanted.{Wanted}
+use Rattle.ncp_umpire.specs.declared.due.Wanted.TheVariants as wanted
+use Rattle.ncp_umpire.specs.declared.lead.Channel.{Channel}
+use Rattle.ncp_umpire.specs.declared.lead.Lead.{Lead}
+use Rattle.ncp_umpire.specs.declared.lead.Lead.TheVariants as lead
+use Rattle.ncp_umpire.specs.Allocation.{kept_sum, lead_on, from_receiver, from_sender, open_rule, led_rule, link_rule, numbers_due, other_rule, over_rule, returned_rules, led_numbers, number_rules}
+use Rattle.ncp_umpire.specs.Texts.{is_error_admitted, text_lead, size_rule, uses_too_much, over_text_rule, led_text_rules, text_rules}
 use Rattle.ncp_umpire.specs.Messages.{rule_of_message, judged_reading}
 use Rattle.ncp_umpire.specs.Events.{is_answer, event_behind, event_of}
 use Rattle.ncp_umpire.specs.Judged.{by_host, by_imp, view_of, is_roomy, items_said, control_findings, read_findings, said_findings, message_findings, sees, sees_both, is_crowded, judges_coming, slot_of_link, out_finding, fresh_out, umpire_after_out, false_rule, false_finding, stray_rule, stray_finding, answer_findings, unsent_at, unsent_finding, after_in, turn_at, event_findings, record_findings}
@@ -112,12 +120,21 @@ is_of_talk (rule.ErrUnjust code bytes) = true
 is_of_talk (rule.Sex c) = true
 is_of_talk (rule.LinkRange c) = true
 is_of_talk (rule.SizeZero c) = true
-is_of_talk (rule.AskedAgain c) = true
-is_of_talk (rule.Unended c) = true
+is_of_talk (rule.AskedAgain c since) = true
+is_of_talk (rule.Unended c since) = true
 is_of_talk (rule.LinkUsed c local remote) = true
 is_of_talk (rule.ClsUnknown c) = true
-is_of_talk (rule.ClsAgain c) = true
+is_of_talk (rule.ClsAgain c since) = true
 is_of_talk (rule.TextOut c link) = true
+is_of_talk (rule.NotOpen c why) = true
+is_of_talk (rule.OverLimit c messages bits) = true
+is_of_talk (rule.GvbAgain c) = true
+is_of_talk (rule.RetUnasked c) = true
+is_of_talk (rule.RetOther c messages bits) = true
+is_of_talk (rule.RetOver c messages bits) = true
+is_of_talk (rule.TextNotOpen link why) = true
+is_of_talk (rule.TextSize link size asked) = true
+is_of_talk (rule.TextOver link messages bits of_bits) = true
 is_of_talk other = false
 
 abbrev pub is_said : Rule → Bool
@@ -204,7 +221,7 @@ life_told talk c request books None = link_told talk c request books
 life_told talk c request books (Some life) = go life.rests (has_sent_cls life talk.sent) (has_sent_request life request)
   where
     go : (rests left asked : Bool)
-        → told (broken (if rests then Unclear None else if left then Unclear (Some (rule.Unended c)) else if asked then Refused (rule.AskedAgain c) else link_verdict talk c request books)) ≡ true
+        → told (broken (if rests then Unclear None else if left then Unclear (Some (rule.Unended c life.since)) else if asked then Refused (rule.AskedAgain c life.since) else link_verdict talk c request books)) ≡ true
     go true left asked = refl
     go false true asked = refl
     go false false true = refl
@@ -234,7 +251,7 @@ left_told : (talk : Talk) (c : Command) (life : Option Life) → told (broken (l
 left_told talk c None = refl
 left_told talk c (Some life) = go life.rests (has_sent_cls life talk.sent)
   where
-    go : (rests left : Bool) → told (broken (if rests then Unclear None else if left then Unclear (Some (rule.ClsAgain c)) else Right)) ≡ true
+    go : (rests left : Bool) → told (broken (if rests then Unclear None else if left then Unclear (Some (rule.ClsAgain c life.since)) else Right)) ≡ true
     go true left = refl
     go false true = refl
     go false false = refl
@@ -272,6 +289,34 @@ error_told : (talk : Talk) (code : ℕ) (bytes : List ℕ) (books : SeenBooks) (
 error_told talk code bytes books true = refl
 error_told talk code bytes books false = reply_told talk (commands.Err code bytes) (rule.ErrUnjust code bytes) books refl
 
+open_told : (talk : Talk) (c : Command) (life : Life) (books : SeenBooks) → told (open_rule talk c life books) ≡ true
+open_told talk (commands.All link messages bits) life books =
+    where_told (nat_lt 65535 (kept_sum life.messages messages) || nat_lt 65536 (kept_sum life.bits bits))
+    (rule.OverLimit (commands.All link messages bits) (kept_sum life.messages messages) (kept_sum life.bits bits)) refl
+open_told talk (commands.Gvb link fm fb) life books = where_told life.recall (rule.GvbAgain (commands.Gvb link fm fb)) refl
+open_told talk (commands.Ret link messages bits) life books = reply_told talk (commands.Ret link messages bits) (rule.RetUnasked (commands.Ret link messages bits)) books refl
+open_told talk (commands.Rts receive send link) life books = refl
+open_told talk (commands.Str send receive size) life books = refl
+open_told talk (commands.Cls my your) life books = refl
+open_told talk (commands.Eco byte) life books = refl
+open_told talk (commands.Erp byte) life books = refl
+open_told talk (commands.Err code bytes) life books = refl
+open_told talk (commands.Inr link) life books = refl
+open_told talk (commands.Ins link) life books = refl
+open_told talk commands.Nop life books = refl
+open_told talk commands.Rst life books = refl
+open_told talk commands.Rrp life books = refl
+
+led_told : (talk : Talk) (c : Command) (books : SeenBooks) (led : Lead) → told (led_rule talk c books led) ≡ true
+led_told talk c books lead.Rests = refl
+led_told talk c books lead.Nobody = refl
+led_told talk c books lead.Closed = refl
+led_told talk c books (lead.Unasked place) = refl
+led_told talk c books (lead.Open place) = open_told talk c (life_in_place books.lives place) books
+
+link_rule_told : (talk : Talk) (c : Command) (channel : Channel) (books : SeenBooks) → told (link_rule talk c channel books) ≡ true
+link_rule_told talk c channel books = led_told talk c books (lead_on talk channel books)
+
 command_told : (talk : Talk) (kept : List Kept) (c : Command) (books : SeenBooks) → told (command_rule talk kept c books) ≡ true
 command_told talk kept (commands.Rts receive send link) books =
     request_told talk (commands.Rts receive send link) (here_of talk receive send) (there_of talk receive send) (is_of_sexes receive send) (Link link) books
@@ -282,13 +327,13 @@ command_told talk kept (commands.Cls my your) books =
     (cls_told talk (commands.Cls my your) (here_of talk my your) (there_of talk my your) books)
 command_told talk kept (commands.Eco byte) books = where_told (is_asking talk books) (rule.EcoAgain byte) refl
 command_told talk kept (commands.Erp byte) books = reply_told talk (commands.Erp byte) (rule.ErpUnasked byte) books refl
-command_told talk kept (commands.Err code bytes) books = error_told talk code bytes books (is_about_link code bytes)
+command_told talk kept (commands.Err code bytes) books = error_told talk code bytes books (is_error_admitted talk code bytes books)
 command_told talk kept commands.Nop books = refl
-command_told talk kept (commands.All link messages bits) books = refl
-command_told talk kept (commands.Gvb link fm fb) books = refl
-command_told talk kept (commands.Ret link messages bits) books = refl
-command_told talk kept (commands.Inr link) books = refl
-command_told talk kept (commands.Ins link) books = refl
+command_told talk kept (commands.All link messages bits) books = link_rule_told talk (commands.All link messages bits) (from_receiver talk link) books
+command_told talk kept (commands.Gvb link fm fb) books = link_rule_told talk (commands.Gvb link fm fb) (from_receiver talk link) books
+command_told talk kept (commands.Ret link messages bits) books = link_rule_told talk (commands.Ret link messages bits) (from_sender talk link) books
+command_told talk kept (commands.Inr link) books = link_rule_told talk (commands.Inr link) (from_receiver talk link) books
+command_told talk kept (commands.Ins link) books = link_rule_told talk (commands.Ins link) (from_sender talk link) books
 command_told talk kept commands.Rst books = refl
 command_told talk kept commands.Rrp books = refl
 
@@ -300,6 +345,100 @@ spoken_told talk kept (Ok c) books = go books.full
     go true = refl
     go false = command_told talk kept c books
 
+-- several at once
+
+all_told : (P : Finding → Bool) (turn : Turn) → SaysTalk P turn → (rules : List Rule) → list_all is_of_talk rules ≡ true → Pass P (map (broken_by turn) rules)
+all_told P turn s [] k = refl
+all_told P turn s (r ∷ rules) k =
+    let parts = and_parts (is_of_talk r) (list_all is_of_talk rules) k in
+    ap (λ (c : Bool). c && list_all P (map (broken_by turn) rules)) (s r parts.0) ∙ all_told P turn s rules parts.1
+
+two_told : (one other : Option Rule) → told one ≡ true → told other ≡ true → list_all is_of_talk (option_to_list one ++ option_to_list other) ≡ true
+two_told None None k l = refl
+two_told None (Some r) k l = ap (λ (c : Bool). c && true) l
+two_told (Some q) None k l = ap (λ (c : Bool). c && true) k
+two_told (Some q) (Some r) k l = ap (λ (c : Bool). c && (is_of_talk r && true)) k ∙ ap (λ (c : Bool). c && true) l
+
+other_told : (talk : Talk) (c : Command) (messages bits : ℕ) (what : Option Wanted) → told (other_rule talk c messages bits what) ≡ true
+other_told talk c messages bits (Some (wanted.Return link most most_bits)) =
+    where_told (if talk.sent then not (messages == most && bits == most_bits) else nat_lt most messages || nat_lt most_bits bits) (rule.RetOther c most most_bits) refl
+other_told talk c messages bits (Some (wanted.Echo byte)) = refl
+other_told talk c messages bits (Some (wanted.Error code or bytes)) = refl
+other_told talk c messages bits None = refl
+
+returned_told : (talk : Talk) (c : Command) (messages bits : ℕ) (life : Life) (dues : List Due) → list_all is_of_talk (returned_rules talk c messages bits life dues) ≡ true
+returned_told talk c messages bits life dues = go (is_wanted (is_own talk) c dues)
+  where
+    both_told : list_all is_of_talk (option_to_list (other_rule talk c messages bits (numbers_due (is_own talk) c dues)) ++ option_to_list (over_rule talk c messages bits life)) ≡ true
+    both_told = two_told (other_rule talk c messages bits (numbers_due (is_own talk) c dues)) (over_rule talk c messages bits life)
+        (other_told talk c messages bits (numbers_due (is_own talk) c dues))
+        (where_told (not talk.sent && (nat_lt life.messages messages || nat_lt life.bits bits)) (rule.RetOver c life.messages life.bits) refl)
+
+    go : (b : Bool) → list_all is_of_talk (if b then option_to_list (other_rule talk c messages bits (numbers_due (is_own talk) c dues)) ++ option_to_list (over_rule talk c messages bits life) else []) ≡ true
+    go true = both_told
+    go false = refl
+
+led_numbers_told : (talk : Talk) (c : Command) (messages bits : ℕ) (books : SeenBooks) (led : Lead) → list_all is_of_talk (led_numbers talk c messages bits books led) ≡ true
+led_numbers_told talk c messages bits books lead.Rests = refl
+led_numbers_told talk c messages bits books lead.Nobody = refl
+led_numbers_told talk c messages bits books lead.Closed = refl
+led_numbers_told talk c messages bits books (lead.Unasked place) = refl
+led_numbers_told talk c messages bits books (lead.Open place) = returned_told talk c messages bits (life_in_place books.lives place) books.dues
+
+numbers_told : (talk : Talk) (c : Command) (books : SeenBooks) → list_all is_of_talk (number_rules talk c books) ≡ true
+numbers_told talk (commands.Ret link messages bits) books = led_numbers_told talk (commands.Ret link messages bits) messages bits books (lead_on talk (from_sender talk link) books)
+numbers_told talk (commands.All link messages bits) books = refl
+numbers_told talk (commands.Gvb link fm fb) books = refl
+numbers_told talk (commands.Rts receive send link) books = refl
+numbers_told talk (commands.Str send receive size) books = refl
+numbers_told talk (commands.Cls my your) books = refl
+numbers_told talk (commands.Eco byte) books = refl
+numbers_told talk (commands.Erp byte) books = refl
+numbers_told talk (commands.Err code bytes) books = refl
+numbers_told talk (commands.Inr link) books = refl
+numbers_told talk (commands.Ins link) books = refl
+numbers_told talk commands.Nop books = refl
+numbers_told talk commands.Rst books = refl
+numbers_told talk commands.Rrp books = refl
+
+unless_told : (b : Bool) (rules : List Rule) → list_all is_of_talk rules ≡ true → list_all is_of_talk (if b then [] else rules) ≡ true
+unless_told true rules k = refl
+unless_told false rules k = k
+
+spoken_numbers_told : (talk : Talk) (item : Result Command CommandFault) (books : SeenBooks) → list_all is_of_talk (spoken_numbers talk item books) ≡ true
+spoken_numbers_told talk (Err fault) books = refl
+spoken_numbers_told talk (Ok c) books = unless_told books.full (number_rules talk c books) (numbers_told talk c books)
+
+pub numbers_pass : (P : Finding → Bool) (turn : Turn) → SaysTalk P turn → (talk : Talk) (item : Result Command CommandFault) (view : View) (books : SeenBooks) → Pass P (number_findings turn talk item view books)
+numbers_pass P turn s talk item view books =
+    all_where P (act_reaches turn (act_of item) view) (map (broken_by turn) (spoken_numbers talk item books)) (all_told P turn s (spoken_numbers talk item books) (spoken_numbers_told talk item books))
+
+-- those of a text
+
+size_told : (link size : ℕ) (asked : Option ℕ) → told (size_rule link size asked) ≡ true
+size_told link size None = refl
+size_told link size (Some asked) = go (size == asked)
+  where
+    go : (b : Bool) → told (if b then None else Some (rule.TextSize link size asked)) ≡ true
+    go true = refl
+    go false = refl
+
+led_text_told : (link : ℕ) (message : Message) (books : SeenBooks) (led : Lead) → list_all is_of_talk (led_text_rules link message books led) ≡ true
+led_text_told link message books lead.Rests = refl
+led_text_told link message books lead.Nobody = refl
+led_text_told link message books lead.Closed = refl
+led_text_told link message books (lead.Unasked place) = refl
+led_text_told link message books (lead.Open place) =
+    let life = life_in_place books.lives place in
+    two_told (size_rule link message.size life.size) (over_text_rule link (length message.text) life) (size_told link message.size life.size)
+    (where_told (uses_too_much (length message.text) life) (rule.TextOver link life.messages (length message.text) life.bits) refl)
+
+pub text_pass : (P : Finding → Bool) (turn : Turn) → SaysTalk P turn → (talk : Talk) (link : ℕ) (message : Message) (view : View) (books : SeenBooks) → Pass P (text_findings turn talk link message view books)
+text_pass P turn s talk link message view books =
+    all_where P (reaches turn thing.Text view) (map (broken_by turn) (text_rules talk link message books))
+    (all_told P turn s (text_rules talk link message books)
+    (unless_told books.full (led_text_rules link message books (text_lead talk link books)) (led_text_told link message books (text_lead talk link books))))
+
 pub talk_pass : (P : Finding → Bool) (turn : Turn) → SaysTalk P turn → (talk : Talk) (kept : List Kept) (item : Result Command CommandFault) (view : View) (books : SeenBooks) → Pass P (option_to_list (talk_finding turn talk kept item view books))
 talk_pass P turn s talk kept item view books = told_pass P turn s (act_reaches turn (act_of item) view) (spoken_rule talk kept item books) (spoken_told talk kept item books)
 
@@ -307,11 +446,13 @@ pub items : (P : Finding → Bool) (turn : Turn) → Says P turn → (talk : Tal
 items P turn s talk kept [] view books = refl
 items P turn s talk kept (item ∷ said) view books =
     let next = after_item turn item view in
-    let now = after_talk turn talk item view books in
+    let now = after_talk turn talk kept item view books in
     both P (all_findings turn talk kept item view books) (talked_findings turn talk kept said next now)
+    (both P (item_findings turn item view ++ option_to_list (talk_finding turn talk kept item view books)) (number_findings turn talk item view books)
     (both P (item_findings turn item view) (option_to_list (talk_finding turn talk kept item view books))
     (both P (option_to_list (bad_finding turn item)) (act_findings turn (act_of item) view) (bad P turn s item) (act P turn s (act_of item) view))
     (talk_pass P turn (of_all P turn s) talk kept item view books))
+    (numbers_pass P turn (of_all P turn s) talk item view books))
     (items P turn s talk kept said next now)
 
 left_out : (P : Finding → Bool) (turn : Turn) → SaysTalk P turn → (o : Option Command) → (b : Bool) → Pass P (option_to_list (if b then missing turn o else None))
@@ -329,24 +470,26 @@ left_out_pass P turn s talk kept room view books =
 control : (P : Finding → Bool) (turn : Turn) → Says P turn → (talk : Talk) (kept : List Kept) (text : List Bool) (view : View) (books : SeenBooks) → Pass P (control_findings turn talk kept text view books)
 control P turn s talk kept text view books =
     let after = after_items turn (items_said text) view in
-    let now = after_talked turn talk (items_said text) view books in
+    let now = after_talked turn talk kept (items_said text) view books in
     let room = is_roomy text in
     both P (talked_findings turn talk kept (items_said text) view books ++ option_to_list (missing_finding turn room after)) (left_out_findings turn talk kept room after now)
     (both P (talked_findings turn talk kept (items_said text) view books) (option_to_list (missing_finding turn room after)) (items P turn s talk kept (items_said text) view books)
     (where_so P (turn.sent && room && after.told && after.owes && not after.rests && not (is_some turn.busy)) (broken_by turn rule.MissingRrp) (s rule.MissingRrp refl)))
     (left_out_pass P turn (of_all P turn s) talk kept room after now)
 
-read : (P : Finding → Bool) (turn : Turn) → Says P turn → (reading : Reading) (talk : Talk) (kept : List Kept) (text : List Bool) (view : View) (books : SeenBooks) → Pass P (read_findings reading turn talk kept text view books)
-read P turn s Stop talk kept text view books = refl
-read P turn s Text talk kept text view books = early P turn s thing.Text view
-read P turn s Control talk kept text view books = control P turn s talk kept text view books
+read : (P : Finding → Bool) (turn : Turn) → Says P turn → (reading : Reading) (talk : Talk) (kept : List Kept) (message : Message) (view : View) (books : SeenBooks) → Pass P (read_findings turn talk kept message view books reading)
+read P turn s Stop talk kept message view books = refl
+read P turn s Text talk kept message view books =
+    both P (option_to_list (early_finding turn thing.Text view)) (text_findings turn talk message.leader.link message view books)
+    (early P turn s thing.Text view) (text_pass P turn (of_all P turn s) talk message.leader.link message view books)
+read P turn s Control talk kept message view books = control P turn s talk kept message.text view books
 
 said : (P : Finding → Bool) (turn : Turn) → Says P turn → (umpire : Umpire) (at peer : ℕ) (fresh : Bool) (r : Result Message MessageFault) → Pass P (said_findings umpire at peer turn fresh r)
 said P turn s umpire at peer fresh (Err fault) = refl
 said P turn s umpire at peer fresh (Ok message) =
     let talk = talk_of at peer turn in
-    all_where P fresh (read_findings (judged_reading message) turn talk umpire.kept message.text (view_of umpire at peer) umpire.books)
-    (read P turn s (judged_reading message) talk umpire.kept message.text (view_of umpire at peer) umpire.books)
+    all_where P fresh (read_findings turn talk umpire.kept message (view_of umpire at peer) umpire.books (judged_reading message))
+    (read P turn s (judged_reading message) talk umpire.kept message (view_of umpire at peer) umpire.books)
 
 -- ---- a message
 

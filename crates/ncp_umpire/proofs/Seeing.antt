@@ -49,10 +49,10 @@ pub own_right : (talk : Talk) (c : Command) (request : Request) (books : SeenBoo
     → legal (Ask (number_in request)) (Some (of_life life)) ≡ true → life_verdict talk c request books (Some life) ≡ link_verdict talk c request books
 own_right talk c request books life s k r l =
     let parts = and_parts (not (is_some (of_life life).own)) (not life.host_left) l in
-    ap (λ (b : Bool). if b then Unclear None else if has_sent_cls life talk.sent then Unclear (Some (rule.Unended c)) else if has_sent_request life request then Refused (rule.AskedAgain c) else link_verdict talk c request books) r
-    ∙ ap (λ (b : Bool). if (if b then life.host_left else life.peer_left) then Unclear (Some (rule.Unended c)) else if has_sent_request life request then Refused (rule.AskedAgain c) else link_verdict talk c request books) s
-    ∙ ap (λ (b : Bool). if b then Unclear (Some (rule.Unended c)) else if has_sent_request life request then Refused (rule.AskedAgain c) else link_verdict talk c request books) (isnt life.host_left parts.1)
-    ∙ ap (λ (b : Bool). if b then Refused (rule.AskedAgain c) else link_verdict talk c request books) (own_number life request k ∙ isnt (is_some (of_life life).own) parts.0)
+    ap (λ (b : Bool). if b then Unclear None else if has_sent_cls life talk.sent then Unclear (Some (rule.Unended c life.since)) else if has_sent_request life request then Refused (rule.AskedAgain c life.since) else link_verdict talk c request books) r
+    ∙ ap (λ (b : Bool). if (if b then life.host_left else life.peer_left) then Unclear (Some (rule.Unended c life.since)) else if has_sent_request life request then Refused (rule.AskedAgain c life.since) else link_verdict talk c request books) s
+    ∙ ap (λ (b : Bool). if b then Unclear (Some (rule.Unended c life.since)) else if has_sent_request life request then Refused (rule.AskedAgain c life.since) else link_verdict talk c request books) (isnt life.host_left parts.1)
+    ∙ ap (λ (b : Bool). if b then Refused (rule.AskedAgain c life.since) else link_verdict talk c request books) (own_number life request k ∙ isnt (is_some (of_life life).own) parts.0)
   where
     isnt : (b : Bool) → not b ≡ true → b ≡ false
     isnt true e = absurd (cc e)
@@ -104,10 +104,10 @@ their_asked life (Size size) k = go (is_senders life.local) k
 pub their_right : (talk : Talk) (c : Command) (request : Request) (books : SeenBooks) (life : Life) → talk.sent ≡ false → is_of (is_senders life.local) false request ≡ true
     → life_verdict talk c request books (Some life) ≡ Right → (life.rests ≡ false) × (their_legal (Ask (number_in request)) (Some (of_life life)) ≡ true)
 their_right talk c request books life s k v = go life.rests life.peer_left (has_sent_request life request) refl refl refl
-    (sym (ap (λ (b : Bool). if life.rests then Unclear None else if (if b then life.host_left else life.peer_left) then Unclear (Some (rule.Unended c)) else if has_sent_request life request then Refused (rule.AskedAgain c) else link_verdict talk c request books) s) ∙ v)
+    (sym (ap (λ (b : Bool). if life.rests then Unclear None else if (if b then life.host_left else life.peer_left) then Unclear (Some (rule.Unended c life.since)) else if has_sent_request life request then Refused (rule.AskedAgain c life.since) else link_verdict talk c request books) s) ∙ v)
   where
     go : (r p a : Bool) → life.rests ≡ r → life.peer_left ≡ p → has_sent_request life request ≡ a
-        → (if r then Unclear None else if p then Unclear (Some (rule.Unended c)) else if a then Refused (rule.AskedAgain c) else link_verdict talk c request books) ≡ Right
+        → (if r then Unclear None else if p then Unclear (Some (rule.Unended c life.since)) else if a then Refused (rule.AskedAgain c life.since) else link_verdict talk c request books) ≡ Right
         → (life.rests ≡ false) × ((not (is_some (of_life life).others) && not life.peer_left) ≡ true)
     go true p a x y z e = absurd (cc e)
     go false true a x y z e = absurd (cc e)
@@ -132,19 +132,19 @@ their_left life = go life.host_left
 
 pub own_leaves : (talk : Talk) (c : Command) (life : Life) → talk.sent ≡ true → life.rests ≡ false → legal Leave (Some (of_life life)) ≡ true → left_verdict talk c (Some life) ≡ Right
 own_leaves talk c life s r l =
-    ap (λ (b : Bool). if b then Unclear None else if has_sent_cls life talk.sent then Unclear (Some (rule.ClsAgain c)) else Right) r
-    ∙ ap (λ (b : Bool). if (if b then life.host_left else life.peer_left) then Unclear (Some (rule.ClsAgain c)) else Right) s
+    ap (λ (b : Bool). if b then Unclear None else if has_sent_cls life talk.sent then Unclear (Some (rule.ClsAgain c life.since)) else Right) r
+    ∙ ap (λ (b : Bool). if (if b then life.host_left else life.peer_left) then Unclear (Some (rule.ClsAgain c life.since)) else Right) s
     ∙ go life.host_left l
   where
-    go : (b : Bool) → not b ≡ true → (if b then Unclear (Some (rule.ClsAgain c)) else Right) ≡ Right
+    go : (b : Bool) → not b ≡ true → (if b then Unclear (Some (rule.ClsAgain c life.since)) else Right) ≡ Right
     go true e = absurd (cc e)
     go false e = refl
 
 pub their_leaves : (talk : Talk) (c : Command) (life : Life) → talk.sent ≡ false → left_verdict talk c (Some life) ≡ Right → (life.rests ≡ false) × (their_legal Leave (Some (of_life life)) ≡ true)
 their_leaves talk c life s v = go life.rests life.peer_left refl refl
-    (sym (ap (λ (b : Bool). if life.rests then Unclear None else if (if b then life.host_left else life.peer_left) then Unclear (Some (rule.ClsAgain c)) else Right) s) ∙ v)
+    (sym (ap (λ (b : Bool). if life.rests then Unclear None else if (if b then life.host_left else life.peer_left) then Unclear (Some (rule.ClsAgain c life.since)) else Right) s) ∙ v)
   where
-    go : (r p : Bool) → life.rests ≡ r → life.peer_left ≡ p → (if r then Unclear None else if p then Unclear (Some (rule.ClsAgain c)) else Right) ≡ Right → (life.rests ≡ false) × (not life.peer_left ≡ true)
+    go : (r p : Bool) → life.rests ≡ r → life.peer_left ≡ p → (if r then Unclear None else if p then Unclear (Some (rule.ClsAgain c life.since)) else Right) ≡ Right → (life.rests ≡ false) × (not life.peer_left ≡ true)
     go true p x y e = absurd (cc e)
     go false true x y e = absurd (cc e)
     go false false x y e = (x, ap not y)

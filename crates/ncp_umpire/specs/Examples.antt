@@ -1,7 +1,7 @@
 -- Messages by which the definitions show what they mean: at the interface of host 1, of host 1 to host 2 and back.
 use Rattle.std.specs.Prelude.{ℕ, Bool, true, false, List, [], ◌∷◌, None, Some, Result, Ok}
 use Rattle.ncp_terms.specs.declared.command.Command.{Command}
-use Rattle.ncp_terms.specs.declared.command.Command.TheVariants.{Nop, Rts, Str, Cls, Eco, Rst, Rrp}
+use Rattle.ncp_terms.specs.declared.command.Command.TheVariants.{Nop, Rts, Str, Cls, All, Gvb, Ret, Eco, Rst, Rrp}
 use Rattle.ncp_terms.specs.declared.fault.CommandFault.{CommandFault}
 use Rattle.ncp_umpire.specs.declared.phase.Turn.{Turn}
 use Rattle.ncp_umpire.specs.declared.umpire.Umpire.{Umpire}
@@ -11,7 +11,9 @@ use Rattle.ncp_umpire.specs.Views.{new_view}
 use Rattle.ncp_umpire.specs.Judged.{umpire_after_out, after_in}
 use Rattle.ncp_umpire.specs.declared.talk.Talk.{Talk}
 use Rattle.ncp_umpire.specs.Lives.{SeenBooks, no_books}
-use Rattle.ncp_umpire.specs.Speaking.{books_after_command, books_after_text}
+use Rattle.ncp_umpire.specs.Speaking.{books_after_command}
+use Rattle.ncp_umpire.specs.Texts.{books_after_text}
+use Rattle.ncp_leader.specs.Message.{Message}
 
 -- while no data link of host 1 is busy, and its link 0 is known
 
@@ -82,7 +84,7 @@ peer_says = record { at = 1; peer = 2; sent = false }
 
 abbrev pub books_after_commands : Talk → List Command → SeenBooks → SeenBooks
 books_after_commands talk [] books = books
-books_after_commands talk (c ∷ cs) books = books_after_commands talk cs (books_after_command talk c books)
+books_after_commands talk (c ∷ cs) books = books_after_commands talk cs (books_after_command talk [] c books)
 
 -- host 1 receives on link 2, with sockets 2 there and 3 here
 abbrev pub open_books : SeenBooks
@@ -106,13 +108,17 @@ cls_shown = 3 ∷ 0 ∷ 0 ∷ 0 ∷ 3 ∷ 0 ∷ 0 ∷ 0 ∷ 2 ∷ 0 ∷ []
 abbrev pub over_books : SeenBooks
 over_books = books_after_commands peer_says (Cls 3 2 ∷ []) (books_after_commands host_says (Cls 2 3 ∷ []) open_books)
 
+-- a text of one byte of host 2, on link 2
+abbrev pub text_of_byte : Message
+text_of_byte = record { leader = record { flags = 0; kind = 0; host = 2; link = 2; low = 0 }; size = 8; count = 1; text = false ∷ true ∷ true ∷ false ∷ false ∷ false ∷ false ∷ true ∷ [] }
+
 -- the other has closed, and sends a text behind its CLS. Host 1 had closed too, and gave link 2 to its sockets 4 and 5; its
 -- CLS and its RTS were waiting, and go out after the text. Then the other closes that connection, of which host 1 holds the
 -- text
 abbrev pub text_behind_cls : SeenBooks
 text_behind_cls =
     books_after_commands peer_says (Cls 5 4 ∷ [])
-    (books_after_commands host_says (Cls 2 3 ∷ Rts 4 5 2 ∷ []) (books_after_text 1 2 2 (books_after_commands peer_says (Str 5 4 8 ∷ []) (books_after_commands peer_says (Cls 3 2 ∷ []) open_books))))
+    (books_after_commands host_says (Cls 2 3 ∷ Rts 4 5 2 ∷ []) (books_after_text peer_says 2 text_of_byte (books_after_commands peer_says (Str 5 4 8 ∷ []) (books_after_commands peer_says (Cls 3 2 ∷ []) open_books))))
 
 -- one echo of host 2 for host 1, and two
 abbrev pub one_echo : SeenBooks
@@ -120,3 +126,66 @@ one_echo = books_after_commands peer_says (Eco 1 ∷ []) no_books
 
 abbrev pub two_echoes : SeenBooks
 two_echoes = books_after_commands peer_says (Eco 1 ∷ Eco 2 ∷ []) no_books
+
+-- two messages and 16 bits, for link 2 and for link 3; more messages than a sender may be allowed; and a RET of one bit too many
+abbrev pub an_all : Command
+an_all = All 2 2 16
+
+abbrev pub all_on_3 : Command
+all_on_3 = All 3 2 16
+
+abbrev pub too_many : Command
+too_many = All 2 65534 0
+
+abbrev pub a_ret : Command
+a_ret = Ret 2 1 9
+
+-- host 1 alone has asked
+abbrev pub half_asked : SeenBooks
+half_asked = books_after_commands host_says (Rts 2 3 2 ∷ []) no_books
+
+-- host 1 sends on link 2, with sockets 3 here and 2 there, in bytes of 8 bits
+abbrev pub sending_books : SeenBooks
+sending_books = books_after_commands host_says (Str 3 2 8 ∷ []) (books_after_commands peer_says (Rts 2 3 2 ∷ []) no_books)
+
+-- two messages and 16 bits are allocated; and half of each is asked back
+abbrev pub allocated_books : SeenBooks
+allocated_books = books_after_commands peer_says (an_all ∷ []) sending_books
+
+abbrev pub recalled_books : SeenBooks
+recalled_books = books_after_commands peer_says (Gvb 2 64 64 ∷ []) allocated_books
+
+-- that much is given back
+abbrev pub returned_books : SeenBooks
+returned_books = books_after_commands host_says (Ret 2 1 8 ∷ []) recalled_books
+
+-- both messages are sent, a byte each
+abbrev pub used_books : SeenBooks
+used_books = books_after_text host_says 2 text_of_byte (books_after_text host_says 2 text_of_byte allocated_books)
+
+-- the same eight bits, as one byte of another size
+abbrev pub text_of_seven : Message
+text_of_seven = record text_of_byte { size = 7 }
+
+-- a text of host 2 came on a link that nobody has
+abbrev pub text_for_nobody : SeenBooks
+text_for_nobody = books_after_text peer_says 3 text_of_byte no_books
+
+-- host 1, which sends, closes before it gives that much back
+abbrev pub closing_books : SeenBooks
+closing_books = books_after_commands host_says (Cls 3 2 ∷ []) recalled_books
+
+-- host 2 allocates more than host 1 takes
+abbrev pub refused_books : SeenBooks
+refused_books = books_after_commands peer_says (too_many ∷ []) allocated_books
+
+-- host 1 receives, and allocates one message of a byte; and asks for all of it back
+abbrev pub granted_books : SeenBooks
+granted_books = books_after_commands host_says (All 2 1 8 ∷ []) open_books
+
+abbrev pub asked_books : SeenBooks
+asked_books = books_after_commands host_says (Gvb 2 128 128 ∷ []) granted_books
+
+-- a text of host 2 came that only an ALL that waits allocates, and this goes out after it
+abbrev pub text_before_all : SeenBooks
+text_before_all = books_after_commands host_says (All 2 1 8 ∷ []) (books_after_text peer_says 2 text_of_byte open_books)

@@ -1,5 +1,5 @@
 -- What a record shows: the rules that are seen broken by it, in order, and what is known behind it.
-use Rattle.std.specs.Prelude.{ℕ, ◌==◌, not, ◌&&◌, ◌||◌, nat_le, Bool, true, false, List, [], ◌∷◌, ◌++◌, length, replicate, get_or, slice_set, Option, Some, None, option_map, Result, Ok, Err, if◌then◌else◌}
+use Rattle.std.specs.Prelude.{ℕ, ◌+◌, ◌-◌, ◌^◌, min, ◌==◌, not, ◌&&◌, ◌||◌, nat_le, Bool, true, false, List, [], ◌∷◌, ◌++◌, length, replicate, get_or, slice_set, Option, Some, None, option_map, Result, Ok, Err, if◌then◌else◌}
 use Rattle.std.specs.Option.{option_to_list}
 use Rattle.ncp_numbers.specs.Bytes.{bytes_of}
 use Rattle.ncp_leader.specs.declared.fault.MessageFault.{MessageFault}
@@ -35,7 +35,7 @@ use Rattle.ncp_umpire.specs.Slots.{place_of, kept_slot, same_at, same_but_host_a
 use Rattle.ncp_umpire.specs.Phases.{broken_by, early_finding, after_thing, after_items, after_room, missing_finding}
 use Rattle.ncp_umpire.specs.declared.talk.Talk.{Talk}
 use Rattle.ncp_umpire.specs.Lives.{SeenBooks, no_books}
-use Rattle.ncp_umpire.specs.Talked.{talk_of, talked_findings, after_talked, left_out_findings, after_left_out, after_talked_text}
+use Rattle.ncp_umpire.specs.Talked.{talk_of, talked_findings, after_talked, left_out_findings, after_left_out, text_findings, after_talked_text}
 use Rattle.ncp_umpire.specs.Events.{event_of}
 use Rattle.ncp_umpire.specs.Messages.{rule_of_message, judged_reading}
 
@@ -229,38 +229,39 @@ control_findings turn talk kept text view books =
     let items = items_said text in
     talked_findings turn talk kept items view books
     ++ option_to_list (missing_finding turn (is_roomy text) (after_items turn items view))
-    ++ left_out_findings turn talk kept (is_roomy text) (after_items turn items view) (after_talked turn talk items view books)
+    ++ left_out_findings turn talk kept (is_roomy text) (after_items turn items view) (after_talked turn talk kept items view books)
 
-abbrev pub after_control : Turn → Talk → List Bool → View → SeenBooks → SeenBooks
-after_control turn talk text view books =
-    let items = items_said text in after_left_out turn talk (is_roomy text) (after_items turn items view) (after_talked turn talk items view books)
+abbrev pub after_control : Turn → Talk → List Kept → List Bool → View → SeenBooks → SeenBooks
+after_control turn talk kept text view books =
+    let items = items_said text in after_left_out turn talk (is_roomy text) (after_items turn items view) (after_talked turn talk kept items view books)
 
 -- the findings of what is read on of a message, and what is known after it
-abbrev pub read_findings : Reading → Turn → Talk → List Kept → List Bool → View → SeenBooks → List Finding
-read_findings Stop turn talk kept text view books = []
-read_findings Text turn talk kept text view books = option_to_list (early_finding turn thing.Text view)
-read_findings Control turn talk kept text view books = control_findings turn talk kept text view books
+abbrev pub read_findings : Turn → Talk → List Kept → Message → View → SeenBooks → Reading → List Finding
+read_findings turn talk kept message view books Stop = []
+read_findings turn talk kept message view books Text =
+    option_to_list (early_finding turn thing.Text view) ++ text_findings turn talk message.leader.link message view books
+read_findings turn talk kept message view books Control = control_findings turn talk kept message.text view books
 
 abbrev pub after_read : Reading → Turn → List Bool → View → View
 after_read Stop turn text view = view
 after_read Text turn text view = after_thing turn thing.Text view
 after_read Control turn text view = after_room turn (is_roomy text) (after_items turn (items_said text) view)
 
-abbrev pub books_after_read : Reading → Turn → Talk → ℕ → List Bool → View → SeenBooks → SeenBooks
-books_after_read Stop turn talk link text view books = books
-books_after_read Text turn talk link text view books = after_talked_text turn talk link view books
-books_after_read Control turn talk link text view books = after_control turn talk text view books
+abbrev pub books_after_read : Turn → Talk → List Kept → Message → View → SeenBooks → Reading → SeenBooks
+books_after_read turn talk kept message view books Stop = books
+books_after_read turn talk kept message view books Text = after_talked_text turn talk message.leader.link message view books
+books_after_read turn talk kept message view books Control = after_control turn talk kept message.text view books
 
 -- a message that goes out again says nothing new
 abbrev pub regular_findings : Umpire → ℕ → ℕ → Turn → Bool → Message → List Finding
 regular_findings umpire at peer turn fresh message =
-    if fresh then read_findings (judged_reading message) turn (talk_of at peer turn) umpire.kept message.text (view_of umpire at peer) umpire.books else []
+    if fresh then read_findings turn (talk_of at peer turn) umpire.kept message (view_of umpire at peer) umpire.books (judged_reading message) else []
 
 abbrev pub after_regular : Umpire → ℕ → ℕ → Turn → Bool → Message → Umpire
 after_regular umpire at peer turn fresh message =
     if fresh then record umpire {
       views = with_view umpire.views at peer (after_read (judged_reading message) turn message.text (view_of umpire at peer));
-      books = books_after_read (judged_reading message) turn (talk_of at peer turn) message.leader.link message.text (view_of umpire at peer) umpire.books;
+      books = books_after_read turn (talk_of at peer turn) umpire.kept message (view_of umpire at peer) umpire.books (judged_reading message);
     }
     else umpire
 
@@ -282,8 +283,12 @@ after_message umpire at peer turn fresh bits = after_said umpire at peer turn fr
 
 -- ---- records
 
+-- the next record is judged; the number stays at the largest
+abbrev pub next_number : SeenBooks → SeenBooks
+next_number books = record books { number = min (books.number + 1) (2 ^ 32 - 1) }
+
 abbrev pub sees : Umpire → ℕ → Umpire
-sees umpire at = record umpire { seen = slice_set umpire.seen at true }
+sees umpire at = record umpire { seen = slice_set umpire.seen at true; books = next_number umpire.books }
 
 abbrev pub event_findings : Umpire → Way → ℕ → List Bool → Event → List Finding
 event_findings umpire way at bits event.Short = (record { who = blamed_for way at; rule = rule.Short (length bits) }) ∷ []

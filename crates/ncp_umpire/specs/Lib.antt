@@ -9,6 +9,8 @@ pub mod Judged
 pub mod Lives
 pub mod Replies
 pub mod Requests
+pub mod Allocation
+pub mod Texts
 pub mod Speaking
 pub mod Talked
 pub mod Scenes

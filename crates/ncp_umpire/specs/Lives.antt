@@ -3,6 +3,7 @@
 -- ends when both have sent a CLS.
 use Rattle.std.specs.Prelude.{ℕ, ◌==◌, ◌%◌, not, ◌&&◌, nat_lt, Bool, true, false, List, [], ◌∷◌, ◌++◌, length, get_or, slice_set, Option, Some, None, is_some, if◌then◌else◌}
 use Rattle.std.specs.List.{position, list_any, filter}
+use Rattle.std.specs.Cmp.Lexicographic.{pointwise}
 use Rattle.std.proofs.Math.Bool.{beq}
 use Rattle.ncp_umpire.specs.declared.life.Life.{Life}
 use Rattle.ncp_umpire.specs.declared.life.Request.{Request}
@@ -11,6 +12,8 @@ use Rattle.ncp_umpire.specs.declared.life.Topic.{Topic}
 use Rattle.ncp_umpire.specs.declared.life.Topic.TheVariants as topic
 use Rattle.ncp_umpire.specs.declared.life.Mark.{Mark}
 use Rattle.ncp_umpire.specs.declared.due.Due.{Due}
+use Rattle.ncp_umpire.specs.declared.due.Wanted.{Wanted}
+use Rattle.ncp_umpire.specs.declared.due.Wanted.TheVariants as wanted
 use Rattle.ncp_umpire.specs.declared.books.TheConstants.{MAX_BOOKS}
 
 -- ---- one connection
@@ -28,6 +31,10 @@ unasked_life at peer local remote = record {
   peer_left = false;
   came = false;
   rests = false;
+  messages = 0;
+  bits = 0;
+  recall = false;
+  since = 0;
 }
 
 abbrev pub is_of_sockets : ℕ → ℕ → ℕ → ℕ → Life → Bool
@@ -60,10 +67,14 @@ abbrev pub with_request_sent : Life → Request → Life
 with_request_sent life (Link link) = record life { link = Some link }
 with_request_sent life (Size size) = record life { size = Some size }
 
+abbrev pub same_bytes : List ℕ → List ℕ → Bool
+same_bytes = pointwise (λ a b. a == b)
+
 abbrev pub same_topic : Topic → Topic → Bool
 same_topic (topic.LinkRests host link) (topic.LinkRests other on) = beq host other && link == on
 same_topic (topic.EchoesRest host) (topic.EchoesRest other) = beq host other
 same_topic (topic.Asks host) (topic.Asks other) = beq host other
+same_topic (topic.Admits host bytes) (topic.Admits other shown) = beq host other && same_bytes bytes shown
 same_topic one other = false
 
 abbrev pub is_topic : ℕ → ℕ → Topic → Mark → Bool
@@ -72,15 +83,16 @@ is_topic at peer what mark = mark.at == at && mark.peer == peer && same_topic ma
 -- ---- all of a capture
 
 -- the connections, what is known between two hosts, and the replies that are owed or admitted; nothing is judged by them any more where one
--- of them found no room
+-- of them found no room; and the number of the record that is judged
 pub record SeenBooks : Type 0 where
   pub lives : List Life
   pub marks : List Mark
   pub dues : List Due
   pub full : Bool
+  pub number : ℕ
 
 abbrev pub no_books : SeenBooks
-no_books = record { lives = []; marks = []; dues = []; full = false }
+no_books = record { lives = []; marks = []; dues = []; full = false; number = 0 }
 
 abbrev pub life_in_place : List Life → ℕ → Life
 life_in_place lives place = get_or lives place (unasked_life 0 0 0 0)
@@ -134,13 +146,31 @@ abbrev pub with_due : SeenBooks → Due → SeenBooks
 with_due books due =
     if nat_lt (length books.dues) MAX_BOOKS then record books { dues = books.dues ++ due ∷ [] } else record books { full = true }
 
+-- a RET that is due for a link
+
+abbrev pub is_return_on : ℕ → Wanted → Bool
+is_return_on link (wanted.Return on messages bits) = on == link
+is_return_on link what = false
+
+-- of the host, or of the other
+abbrev pub is_return : ℕ → ℕ → Bool → ℕ → Due → Bool
+is_return at peer host link due = due.at == at && due.peer == peer && beq due.host host && is_return_on link due.wanted
+
+-- none is due for it any more
+abbrev pub returns_dropped : ℕ → ℕ → Bool → ℕ → SeenBooks → SeenBooks
+returns_dropped at peer host link books = record books { dues = filter (λ due. not (is_return at peer host link due)) books.dues }
+
+-- nothing is judged any more of a link on which the host receives, or the other
+abbrev pub link_rests_now : ℕ → ℕ → Bool → ℕ → SeenBooks → SeenBooks
+link_rests_now at peer host link books = returns_dropped at peer (not host) link (marks_now at peer (topic.LinkRests host link) books)
+
 -- the link of a connection rests with it
 abbrev pub rests_link : ℕ → ℕ → Life → SeenBooks → SeenBooks
 rests_link at peer life books = go life.link
   where
     go : Option ℕ → SeenBooks
     go None = books
-    go (Some link) = marks_now at peer (topic.LinkRests (not (is_senders life.local)) link) books
+    go (Some link) = link_rests_now at peer (not (is_senders life.local)) link books
 
 -- a connection rests, though nothing of it was seen
 abbrev pub rests_pair : ℕ → ℕ → ℕ → ℕ → SeenBooks → SeenBooks

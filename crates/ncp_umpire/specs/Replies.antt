@@ -1,33 +1,34 @@
 -- The replies of a side, in the order of what they answer (NIC 8246, ECO, ERP and ERR; the codes of ERR, its data, and that
 -- replies come in this order are this profile's). A reply is sure where what it answers leaves no choice; else it is only
 -- admitted.
-use Rattle.std.specs.Prelude.{ℕ, ◌==◌, not, ◌&&◌, ◌||◌, nat_le, Bool, true, false, List, [], ◌∷◌, get_or, map, Option, Some, None, if◌then◌else◌}
+use Rattle.std.specs.Prelude.{ℕ, ◌==◌, not, ◌&&◌, ◌||◌, min, Bool, true, false, List, [], ◌∷◌, get_or, map, Option, Some, None, option_map, if◌then◌else◌}
 use Rattle.std.specs.List.{list_any}
-use Rattle.std.specs.Cmp.Lexicographic.{pointwise}
 use Rattle.std.proofs.Math.Bool.{beq}
 use Rattle.ncp_terms.specs.declared.command.Command.{Command}
-use Rattle.ncp_terms.specs.declared.command.Command.TheVariants.{Erp, Err}
+use Rattle.ncp_terms.specs.declared.command.Command.TheVariants.{Ret, Erp, Err}
 use Rattle.ncp_terms.specs.declared.fault.CommandFault.{CommandFault}
 use Rattle.ncp_terms.specs.Spelling.{error_data}
 use Rattle.ncp_umpire.specs.declared.due.Due.{Due}
 use Rattle.ncp_umpire.specs.declared.due.Wanted.{Wanted}
-use Rattle.ncp_umpire.specs.declared.due.Wanted.TheVariants.{Echo, Error}
+use Rattle.ncp_umpire.specs.declared.due.Wanted.TheVariants.{Echo, Error, Return}
+use Rattle.ncp_umpire.specs.declared.finding.Rule.{Rule}
+use Rattle.ncp_umpire.specs.declared.finding.Rule.TheVariants as rule
 use Rattle.ncp_umpire.specs.declared.talk.Talk.{Talk}
 use Rattle.ncp_umpire.specs.Lives.{SeenBooks, with_due}
-
-abbrev pub same_bytes : List ℕ → List ℕ → Bool
-same_bytes = pointwise (λ a b. a == b)
+pub use Rattle.ncp_umpire.specs.Lives.{same_bytes}
 
 -- a reply says what is wanted
 abbrev pub says_wanted : Wanted → Command → Bool
 says_wanted (Echo byte) (Erp other) = other == byte
 says_wanted (Error code or bytes) (Err other shown) = (other == code || other == or) && same_bytes shown bytes
+says_wanted (Return link messages bits) (Ret on of_messages of_bits) = on == link
 says_wanted wanted c = false
 
--- the reply as a command: where two codes fit, that with the first
+-- the reply as a command: where two codes fit, that with the first; a RET has no place for more messages
 abbrev pub reply_wanted : Wanted → Command
 reply_wanted (Echo byte) = Erp byte
 reply_wanted (Error code or bytes) = Err code bytes
+reply_wanted (Return link messages bits) = Ret link (min messages 65535) bits
 
 -- ---- whose
 
@@ -92,7 +93,12 @@ no_due = record { at = 0; peer = 0; host = false; wanted = Echo 0; sure = false 
 abbrev pub due_at : List Due → ℕ → Due
 due_at dues place = get_or dues place no_due
 
--- no rule is known of an ERR about a link: one with code 5, or with code 3 about a command that names a link (opcodes 4
--- to 8: ALL, GVB, RET, INR and INS)
-abbrev pub is_about_link : ℕ → List ℕ → Bool
-is_about_link code shown = code == 5 || (code == 3 && nat_le 4 (get_or shown 0 0) && nat_le (get_or shown 0 0) 8)
+-- ---- what a reply breaks, and what it leaves
+
+-- it passes over one that is sure, or nothing asked for it
+abbrev pub reply_rule : Talk → Command → Rule → SeenBooks → Option Rule
+reply_rule talk c unasked books =
+    if is_wanted (is_own talk) c books.dues then option_map (λ d. rule.Skipped d) (skipped (is_own talk) c books.dues) else Some unasked
+
+abbrev pub after_reply : Talk → Command → SeenBooks → SeenBooks
+after_reply talk c books = if is_wanted (is_own talk) c books.dues then record books { dues = dues_left (is_own talk) c books.dues } else books

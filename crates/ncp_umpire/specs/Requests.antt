@@ -15,7 +15,7 @@ use Rattle.ncp_umpire.specs.declared.talk.Talk.{Talk}
 use Rattle.ncp_umpire.specs.declared.talk.Verdict.{Verdict}
 use Rattle.ncp_umpire.specs.declared.talk.Verdict.TheVariants.{Right, Refused, Unclear}
 use Rattle.ncp_umpire.specs.Slots.{is_of, is_slot_empty}
-use Rattle.ncp_umpire.specs.Lives.{SeenBooks, unasked_life, is_senders, has_sent_cls, with_cls_sent, has_sent_request, with_request_sent, life_in_place, place_with_sockets, life_of, user_of, is_marked, put_life, marks_now, rests_pair}
+use Rattle.ncp_umpire.specs.Lives.{SeenBooks, unasked_life, is_senders, has_sent_cls, with_cls_sent, has_sent_request, with_request_sent, life_in_place, place_with_sockets, life_of, user_of, is_marked, put_life, link_rests_now, rests_pair}
 use Rattle.ncp_umpire.specs.Replies.{owes, error_wanted}
 
 -- the rule that a verdict tells to be broken
@@ -55,8 +55,8 @@ abbrev pub life_verdict : Talk → Command → Request → SeenBooks → Option 
 life_verdict talk c request books None = link_verdict talk c request books
 life_verdict talk c request books (Some life) =
     if life.rests then Unclear None
-    else if has_sent_cls life talk.sent then Unclear (Some (rule.Unended c))
-    else if has_sent_request life request then Refused (rule.AskedAgain c)
+    else if has_sent_cls life talk.sent then Unclear (Some (rule.Unended c life.since))
+    else if has_sent_request life request then Refused (rule.AskedAgain c life.since)
     else link_verdict talk c request books
 
 abbrev pub unrested_verdict : Talk → Command → ℕ → ℕ → Request → SeenBooks → Verdict
@@ -75,12 +75,12 @@ request_verdict talk c local remote right request books =
 
 -- the link that is asked for rests from now on
 abbrev pub rests_asked : Talk → Request → SeenBooks → SeenBooks
-rests_asked talk (Link link) books = marks_now talk.at talk.peer (topic.LinkRests talk.sent link) books
+rests_asked talk (Link link) books = link_rests_now talk.at talk.peer talk.sent link books
 rests_asked talk (Size size) books = books
 
 -- the side has asked
 abbrev pub asks : Talk → ℕ → ℕ → Request → SeenBooks → Option ℕ → SeenBooks
-asks talk local remote request books None = put_life books None (with_request_sent (unasked_life talk.at talk.peer local remote) request)
+asks talk local remote request books None = put_life books None (with_request_sent (record (unasked_life talk.at talk.peer local remote) { since = books.number }) request)
 asks talk local remote request books (Some place) = put_life books (Some place) (with_request_sent (life_in_place books.lives place) request)
 
 -- the codes of the ERR about a request
@@ -95,7 +95,7 @@ books_after_request talk c local remote request (Unclear wrong) books =
 abbrev pub left_verdict : Talk → Command → Option Life → Verdict
 left_verdict talk c None = Unclear (Some (rule.ClsUnknown c))
 left_verdict talk c (Some life) =
-    if life.rests then Unclear None else if has_sent_cls life talk.sent then Unclear (Some (rule.ClsAgain c)) else Right
+    if life.rests then Unclear None else if has_sent_cls life talk.sent then Unclear (Some (rule.ClsAgain c life.since)) else Right
 
 abbrev pub cls_verdict : Talk → Command → ℕ → ℕ → SeenBooks → Verdict
 cls_verdict talk c local remote books =

@@ -17,10 +17,11 @@ use Rattle.ncp_umpire.specs.declared.umpire.Heard.{Heard}
 use Rattle.ncp_umpire.specs.declared.umpire.Line.{Line}
 use Rattle.ncp_umpire.specs.declared.umpire.Umpire.{Umpire}
 use Rattle.ncp_umpire.specs.declared.view.View.{View}
-use Rattle.ncp_umpire.specs.Lives.{SeenBooks, place_with_sockets}
+use Rattle.ncp_umpire.specs.Lives.{SeenBooks, place_with_sockets, life_of}
 use Rattle.ncp_umpire.specs.Phases.{after_items, after_room}
 use Rattle.ncp_umpire.specs.Requests.{request_verdict, books_after_request, cls_verdict, cls_rule, after_cls}
 use Rattle.ncp_umpire.specs.Messages.{judged_reading}
+use Rattle.ncp_umpire.specs.Speaking.{after_right_cls}
 use Rattle.ncp_umpire.specs.Talked.{all_findings, talked_findings}
 use Rattle.ncp_umpire.specs.Judged.{is_roomy, items_said, control_findings, read_findings, books_after_read, out_finding, unsent_finding, regular_findings, after_regular, message_findings, after_message}
 
@@ -42,8 +43,10 @@ cls_verdict_about talk about books = cls_verdict talk about.command about.local 
 abbrev pub cls_rule_about : Talk → About → List Kept → SeenBooks → Option Rule
 cls_rule_about talk about kept books = cls_rule talk about.command about.local about.remote kept books (cls_verdict_about talk about books)
 
-abbrev pub after_cls_about : Talk → About → SeenBooks → SeenBooks
-after_cls_about talk about books = after_cls talk about.command about.local about.remote (cls_verdict_about talk about books) books
+abbrev pub after_cls_about : Talk → List Kept → About → SeenBooks → SeenBooks
+after_cls_about talk kept about books =
+    after_right_cls talk kept (life_of talk.at talk.peer about.local about.remote books.lives) (cls_verdict_about talk about books)
+    (after_cls talk about.command about.local about.remote (cls_verdict_about talk about books) books)
 
 -- ---- the items of a scene, and what is read on of its message
 
@@ -60,11 +63,11 @@ abbrev pub found_of_control : Scene → List Bool → View → SeenBooks → Lis
 found_of_control scene text view books = control_findings scene.turn scene.talk scene.kept.now text view books
 
 abbrev pub found_of_reading : Scene → Message → View → SeenBooks → List Finding
-found_of_reading scene message view books = read_findings (judged_reading message) scene.turn scene.talk scene.kept.now message.text view books
+found_of_reading scene message view books = read_findings scene.turn scene.talk scene.kept.now message view books (judged_reading message)
 
 abbrev pub books_after_scene : Scene → Message → View → SeenBooks → SeenBooks
 books_after_scene scene message view books =
-    books_after_read (judged_reading message) scene.turn scene.talk message.leader.link message.text view books
+    books_after_read scene.turn scene.talk scene.kept.now message view books (judged_reading message)
 
 -- ---- a message on a link, and what it says
 

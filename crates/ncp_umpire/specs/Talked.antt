@@ -1,7 +1,8 @@
 -- The items of a control text with both kinds of rules: those of resets, and those of what is said while two hosts are up.
 -- What is said changes nothing of the phase.
-use Rattle.std.specs.Prelude.{ℕ, not, ◌&&◌, Bool, false, List, [], ◌∷◌, ◌++◌, Option, None, Some, option_map, Result, if◌then◌else◌}
+use Rattle.std.specs.Prelude.{ℕ, not, ◌&&◌, Bool, false, List, [], ◌∷◌, ◌++◌, map, Option, None, Some, option_map, Result, if◌then◌else◌}
 use Rattle.std.specs.Option.{option_to_list}
+use Rattle.ncp_leader.specs.Message.{Message}
 use Rattle.ncp_terms.specs.declared.command.Command.{Command}
 use Rattle.ncp_terms.specs.declared.fault.CommandFault.{CommandFault}
 use Rattle.ncp_umpire.specs.declared.act.Act.{Act}
@@ -18,7 +19,8 @@ use Rattle.ncp_umpire.specs.Acts.{act_of}
 use Rattle.ncp_umpire.specs.Views.{awaits_reply, more_waiting}
 use Rattle.ncp_umpire.specs.Phases.{broken_by, is_early, hears_reset, item_findings, after_item}
 use Rattle.ncp_umpire.specs.Lives.{SeenBooks, books_cleared}
-use Rattle.ncp_umpire.specs.Speaking.{spoken_rule, after_spoken, books_after_text, reply_left_out, cls_left_out, after_all_said}
+use Rattle.ncp_umpire.specs.Speaking.{spoken_rule, spoken_numbers, after_spoken, reply_left_out, cls_left_out, after_all_said}
+use Rattle.ncp_umpire.specs.Texts.{text_rules, books_after_text}
 
 -- who says what a message holds
 abbrev pub talk_of : ℕ → ℕ → Turn → Talk
@@ -43,25 +45,30 @@ clears turn (Other what) view = false
 abbrev pub talk_finding : Turn → Talk → List Kept → Result Command CommandFault → View → SeenBooks → Option Finding
 talk_finding turn talk kept item view books = if act_reaches turn (act_of item) view then option_map (broken_by turn) (spoken_rule talk kept item books) else None
 
-abbrev pub after_talk : Turn → Talk → Result Command CommandFault → View → SeenBooks → SeenBooks
-after_talk turn talk item view books =
+-- beside it, those about the numbers of a RET
+abbrev pub number_findings : Turn → Talk → Result Command CommandFault → View → SeenBooks → List Finding
+number_findings turn talk item view books = if act_reaches turn (act_of item) view then map (broken_by turn) (spoken_numbers talk item books) else []
+
+abbrev pub after_talk : Turn → Talk → List Kept → Result Command CommandFault → View → SeenBooks → SeenBooks
+after_talk turn talk kept item view books =
     if clears turn (act_of item) view then books_cleared talk.at talk.peer books
-    else if act_reaches turn (act_of item) view then after_spoken talk item books
+    else if act_reaches turn (act_of item) view then after_spoken talk kept item books
     else books
 
 -- all items of a control text, one after the other; the view behind them is that of `after_items`
 
 abbrev pub all_findings : Turn → Talk → List Kept → Result Command CommandFault → View → SeenBooks → List Finding
-all_findings turn talk kept item view books = item_findings turn item view ++ option_to_list (talk_finding turn talk kept item view books)
+all_findings turn talk kept item view books =
+    item_findings turn item view ++ option_to_list (talk_finding turn talk kept item view books) ++ number_findings turn talk item view books
 
 abbrev pub talked_findings : Turn → Talk → List Kept → List (Result Command CommandFault) → View → SeenBooks → List Finding
 talked_findings turn talk kept [] view books = []
 talked_findings turn talk kept (item ∷ items) view books =
-    all_findings turn talk kept item view books ++ talked_findings turn talk kept items (after_item turn item view) (after_talk turn talk item view books)
+    all_findings turn talk kept item view books ++ talked_findings turn talk kept items (after_item turn item view) (after_talk turn talk kept item view books)
 
-abbrev pub after_talked : Turn → Talk → List (Result Command CommandFault) → View → SeenBooks → SeenBooks
-after_talked turn talk [] view books = books
-after_talked turn talk (item ∷ items) view books = after_talked turn talk items (after_item turn item view) (after_talk turn talk item view books)
+abbrev pub after_talked : Turn → Talk → List Kept → List (Result Command CommandFault) → View → SeenBooks → SeenBooks
+after_talked turn talk kept [] view books = books
+after_talked turn talk kept (item ∷ items) view books = after_talked turn talk kept items (after_item turn item view) (after_talk turn talk kept item view books)
 
 -- ---- behind them: what the host left out
 
@@ -88,8 +95,12 @@ abbrev pub after_left_out : Turn → Talk → Bool → View → SeenBooks → Se
 after_left_out turn talk room view books =
     if tells_left_out turn room view books then after_all_said talk.at talk.peer books else books
 
--- ---- a text comes to the host
+-- ---- a text goes out, or comes
 
-abbrev pub after_talked_text : Turn → Talk → ℕ → View → SeenBooks → SeenBooks
-after_talked_text turn talk link view books =
-    if not turn.sent && reaches turn thing.Text view then books_after_text talk.at talk.peer link books else books
+abbrev pub text_findings : Turn → Talk → ℕ → Message → View → SeenBooks → List Finding
+text_findings turn talk link message view books =
+    if reaches turn thing.Text view then map (broken_by turn) (text_rules talk link message books) else []
+
+abbrev pub after_talked_text : Turn → Talk → ℕ → Message → View → SeenBooks → SeenBooks
+after_talked_text turn talk link message view books =
+    if reaches turn thing.Text view then books_after_text talk link message books else books

@@ -2,11 +2,13 @@
 ghost use Rattle.std.specs.Prelude.{◌≡◌, ◌<◌, ◌≤◌, not, true, length, map, IfOk, IfSome};
 ghost use Rattle.std.specs.List.{filter, position, remove};
 ghost use Rattle.std.specs.Vec.{vec_capacity};
-ghost use Rattle.ncp_umpire.specs.Lives.{no_books, life_in_place, life_found, user_of, place_with_sockets, place_with_link, is_marked, with_life, put_life, with_mark, marks_now, marks_no_more, with_due, is_topic, is_life_between, is_mark_between, is_due_between, books_cleared, rests_link, rests_pair};
+ghost use Rattle.ncp_umpire.specs.Lives.{no_books, life_in_place, life_found, user_of, place_with_sockets, place_with_link, is_marked, with_life, put_life, with_mark, marks_now, marks_no_more, with_due, is_topic, is_life_between, is_mark_between, is_due_between, books_cleared, rests_link, rests_pair, is_return, returns_dropped, link_rests_now};
 ghost use Rattle.ncp_umpire.specs.Replies.{is_due_of, is_own, is_wanted, skipped, unsure, dues_struck, dues_left};
-ghost use Rattle.ncp_umpire.specs.Speaking.{after_all_said};
+ghost use Rattle.ncp_umpire.specs.Speaking.{is_admission, after_all_said};
+ghost use Rattle.ncp_umpire.specs.Judged.{next_number};
 
 use crate::due::Due;
+use crate::lead::Channel;
 use crate::life::{Life, Mark, Topic, sends};
 use crate::reply::{fits_sure, is_wanted, make_unsure, skipped};
 use crate::talk::Talk;
@@ -25,6 +27,7 @@ pub struct Books {
     marks: Vec<Mark>,
     dues: Vec<Due>,
     full: bool,
+    number: u32,
 }
 
 impl Model for Books {
@@ -35,7 +38,7 @@ impl Model for Books {
 
     ghost Value = { Seen };
 
-    ghost view = { λ books. record { lives = books.lives.items; marks = books.marks.items; dues = books.dues.items; full = books.full } };
+    ghost view = { λ books. record { lives = books.lives.items; marks = books.marks.items; dues = books.dues.items; full = books.full; number = books.number } };
 
     ghost invariant = { λ books. (MAX_BOOKS ≤ vec_capacity books.lives) × (MAX_BOOKS ≤ vec_capacity books.marks) × (MAX_BOOKS ≤ vec_capacity books.dues) };
 }
@@ -93,6 +96,22 @@ fn forget_said(at: u8, peer: u8, dues: &mut Vec<Due>)
     dues.retain(|due| !due.is_of(at, peer, true));
 }
 
+// Keeps the replies that are no RET of this link.
+fn forget_returns(at: u8, peer: u8, host: bool, link: u8, dues: &mut Vec<Due>)
+    ensures items { dues.new.items ≡ filter (λ due. not (is_return at peer host link due)) dues.old.items }
+    ensures room { vec_capacity dues.new ≡ vec_capacity dues.old }
+{
+    dues.retain(|due| !due.is_return(at, peer, host, link));
+}
+
+// Keeps what is known but for the ERRs that the host may give about a text.
+fn forget_admissions(at: u8, peer: u8, marks: &mut Vec<Mark>)
+    ensures items { marks.new.items ≡ filter (λ one. not (is_admission at peer one)) marks.old.items }
+    ensures room { vec_capacity marks.new ≡ vec_capacity marks.old }
+{
+    marks.retain(|one| !one.is_admission(at, peer));
+}
+
 // Keeps what is known but for this.
 fn forget_topic(at: u8, peer: u8, what: Topic, marks: &mut Vec<Mark>)
     ensures items { marks.new.items ≡ filter (λ one. not (is_topic at peer what one)) marks.old.items }
@@ -111,6 +130,7 @@ impl Books {
             marks: Vec::with_capacity(alloc, MAX_BOOKS)?,
             dues: Vec::with_capacity(alloc, MAX_BOOKS)?,
             full: false,
+            number: 0,
         })
     }
 
@@ -240,13 +260,43 @@ impl Books {
         let _over = self.lives.remove(place);
     }
 
+    /// Nothing is judged any more of a link.
+    pub(crate) fn rest_channel(&mut self, at: u8, peer: u8, channel: Channel)
+        ensures { self.new ≡ link_rests_now at peer channel.host channel.link self.old }
+    {
+        let Channel { host, link } = channel;
+        self.mark(at, peer, Topic::LinkRests { host, link });
+        self.drop_returns(at, peer, !host, link);
+    }
+
+    /// No RET of the host, or of the other, is due any more for a link.
+    pub(crate) fn drop_returns(&mut self, at: u8, peer: u8, host: bool, link: u8)
+        ensures { self.new ≡ returns_dropped at peer host link self.old }
+    {
+        forget_returns(at, peer, host, link, &mut self.dues);
+    }
+
+    /// The number of the record that is judged.
+    pub(crate) fn number(&self) -> u32
+        ensures { result ≡ self.now.number }
+    {
+        self.number
+    }
+
+    /// The next record is judged.
+    pub(crate) fn count_record(&mut self)
+        ensures { self.new ≡ next_number self.old }
+    {
+        self.number = self.number.saturating_add(1);
+    }
+
     // The link of a connection rests with it.
     fn rest_link(&mut self, at: u8, peer: u8, life: Life)
         ensures { self.new ≡ rests_link at peer life self.old }
     {
         if let Some(link) = life.link {
             let host = !sends(life.local);
-            self.mark(at, peer, Topic::LinkRests { host, link });
+            self.rest_channel(at, peer, Channel { host, link });
         }
     }
 
@@ -337,6 +387,7 @@ impl Books {
         ensures { self.new ≡ after_all_said at peer self.old }
     {
         forget_said(at, peer, &mut self.dues);
+        forget_admissions(at, peer, &mut self.marks);
     }
 
     /// Forgets all that was seen between two hosts.

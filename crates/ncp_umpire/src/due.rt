@@ -1,5 +1,6 @@
 //! `Due`: a reply that a side owes, or may give.
 ghost use Rattle.std.specs.Prelude.{◌≡◌};
+ghost use Rattle.ncp_umpire.specs.Lives.{is_return_on, is_return};
 ghost use Rattle.ncp_umpire.specs.Replies.{says_wanted, reply_wanted, is_due_of, is_own};
 
 use crate::talk::Talk;
@@ -15,6 +16,12 @@ pub enum Wanted {
         code: u8,
         or: u8,
         bytes: [u8; ERROR_DATA],
+    },
+    /// A RET for this link: of the host with these numbers, of the other with no greater ones.
+    Return {
+        link: u8,
+        messages: u32,
+        bits: u32,
     },
 }
 
@@ -50,16 +57,39 @@ impl Wanted {
                 } => (other == code || other == or) && shown == bytes,
                 _ => false,
             },
+            Wanted::Return { link, .. } => match *reply {
+                Command::Ret { link: on, .. } => on == link,
+                _ => false,
+            },
         }
     }
 
-    /// The reply as a command: where two codes fit, that with the first.
+    /// Whether it is a RET for this link.
+    pub(crate) fn is_return_on(&self, link: u8) -> bool
+        ensures { result ≡ is_return_on link self.now }
+    {
+        match *self {
+            Wanted::Return { link: on, .. } => on == link,
+            _ => false,
+        }
+    }
+
+    /// The reply as a command: where two codes fit, that with the first; a RET has no place for more messages.
     pub(crate) fn reply(&self) -> Command
         ensures { result ≡ reply_wanted self.now }
     {
         match *self {
             Wanted::Echo(byte) => Command::Erp { byte },
             Wanted::Error { code, bytes, .. } => Command::Err { code, bytes },
+            Wanted::Return {
+                link,
+                messages,
+                bits,
+            } => Command::Ret {
+                link,
+                messages: messages.min(u32::from(u16::MAX)) as u16,
+                bits,
+            },
         }
     }
 }
@@ -70,6 +100,13 @@ impl Due {
         ensures { result ≡ is_due_of at peer host self.now }
     {
         self.at == at && self.peer == peer && self.host == host
+    }
+
+    /// Whether it is a RET of the host, or of the other, for a link.
+    pub(crate) fn is_return(&self, at: u8, peer: u8, host: bool, link: u8) -> bool
+        ensures { result ≡ is_return at peer host link self.now }
+    {
+        self.at == at && self.peer == peer && self.host == host && self.wanted.is_return_on(link)
     }
 
     /// Whether it is one of the one who speaks.

@@ -41,6 +41,17 @@ pub enum Thing {
     Err,
 }
 
+/// Why a command that names a link, or a text, finds no open connection.
+#[derive(Clone, Copy, Debug, Drop, PartialEq, Eq)]
+pub enum Unopened {
+    /// No connection has the link.
+    NoPair,
+    /// The one who speaks closed it; or, of a text of the host, the other did.
+    Closed,
+    /// Not both have asked for it.
+    NotAsked,
+}
+
 /// A rule that was broken, with the numbers that show it.
 #[derive(Clone, Copy, Debug, Drop, PartialEq, Eq)]
 pub enum Rule {
@@ -164,10 +175,12 @@ pub enum Rule {
     /// A second request of a side for one connection (NIC 8246).
     AskedAgain {
         command: Command,
+        since: u32,
     },
     /// A request of a side that sent its CLS, before the one of the other (NIC 8246).
     Unended {
         command: Command,
+        since: u32,
     },
     /// An RTS with a link that another connection of the same receiver has (this profile).
     LinkUsed {
@@ -182,11 +195,62 @@ pub enum Rule {
     /// A second CLS of a side (NIC 8246).
     ClsAgain {
         command: Command,
+        since: u32,
     },
     /// A CLS of a sender while a text of it is out (this profile).
     TextOut {
         command: Command,
         link: u8,
+    },
+    /// ALL, GVB, RET, INR or INS on a link of no open connection (NIC 8246).
+    NotOpen {
+        command: Command,
+        why: Unopened,
+    },
+    /// An ALL after which the sender may send so much, more than 65,535 messages or 65,536 bits (this profile).
+    OverLimit {
+        command: Command,
+        messages: u32,
+        bits: u32,
+    },
+    /// A second GVB before the RET (this profile).
+    GvbAgain {
+        command: Command,
+    },
+    /// A RET for which no GVB asked (this profile).
+    RetUnasked {
+        command: Command,
+    },
+    /// A RET with other numbers than those asked for; of the one at whose interface it is not seen, greater ones (this
+    /// profile).
+    RetOther {
+        command: Command,
+        messages: u32,
+        bits: u32,
+    },
+    /// A RET of more than is allocated (NIC 8246).
+    RetOver {
+        command: Command,
+        messages: u32,
+        bits: u32,
+    },
+    /// A text on a link of no open connection (NIC 8246).
+    TextNotOpen {
+        link: u8,
+        why: Unopened,
+    },
+    /// A text of another byte size than the STR's (NIC 8246).
+    TextSize {
+        link: u8,
+        size: u8,
+        asked: u8,
+    },
+    /// A text of so many bits, where so many messages and bits are allocated (NIC 8246).
+    TextOver {
+        link: u8,
+        messages: u32,
+        bits: u32,
+        of_bits: u32,
     },
 }
 

@@ -4,7 +4,7 @@ ghost use Rattle.ncp_umpire.specs.Requests.{is_busy_on};
 ghost use Rattle.ncp_umpire.specs.Slots.{is_slot_empty, is_of, makes_link_busy, same_bits, same_but_host, gone_out};
 
 use crate::umpire::Line;
-use ncp_bits::{Bits, Part};
+use ncp_bits::Bits;
 
 /// What is seen of a link of a host: what became of the last message that went out on it.
 #[derive(Clone, Copy, Debug, Drop, PartialEq, Eq)]
@@ -53,16 +53,6 @@ fn same_but_host(one: &Bits, other: &Bits) -> bool
             == other.slice(HOST_END, other.len() - HOST_END)
 }
 
-// Writes bits over others.
-fn write_over(bits: &mut Bits, part: Part<'_>)
-    ensures { bits.new ≡ part.entry }
-{
-    // A part is short enough.
-    let _len = part.len();
-    bits.copy_from_bytes(&[], 0).unwrap();
-    bits.append(part).unwrap();
-}
-
 impl Kept {
     /// One that goes out on a link.
     pub(crate) fn new(line: Line, message: &Bits) -> Kept
@@ -85,7 +75,7 @@ impl Kept {
         self.to = line.peer;
         self.link = line.link;
         self.slot = Slot::Out;
-        write_over(&mut self.message, message.whole());
+        self.message.copy_from_part(message.whole());
     }
 
     /// Whether it is of this link from one host to another.

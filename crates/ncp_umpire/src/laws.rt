@@ -3,13 +3,16 @@ ghost use Rattle.std.specs.Prelude.{◌≡◌, ◌∷◌, [], true, false, Some,
 ghost use Rattle.ncp_umpire.specs.declared.finding.Rule.TheVariants as rule;
 ghost use Rattle.ncp_umpire.specs.declared.finding.Thing.TheVariants as thing;
 ghost use Rattle.ncp_umpire.specs.declared.finding.Unsent.TheVariants as why;
+ghost use Rattle.ncp_umpire.specs.declared.finding.Unopened.TheVariants as unopened;
 ghost use Rattle.ncp_umpire.specs.Phases.{broken_by, items_findings, early_finding};
 ghost use Rattle.ncp_umpire.specs.Views.{new_view};
 ghost use Rattle.ncp_umpire.specs.Judged.{by_imp, unsent_finding, false_finding};
-ghost use Rattle.ncp_terms.specs.declared.command.Command.TheVariants.{Rts, Str, Cls, Eco, Erp, Err};
-ghost use Rattle.ncp_umpire.specs.Lives.{no_books};
+ghost use Rattle.ncp_terms.specs.declared.command.Command.TheVariants.{Rts, Str, Cls, All, Gvb, Ret, Eco, Erp, Err};
+ghost use Rattle.ncp_umpire.specs.Lives.{no_books, life_in_place};
+ghost use Rattle.ncp_umpire.specs.Allocation.{number_rules};
+ghost use Rattle.ncp_umpire.specs.Texts.{text_rules};
 ghost use Rattle.ncp_umpire.specs.Speaking.{command_rule, left_out};
-ghost use Rattle.ncp_umpire.specs.Examples.{host_says, peer_says, open_books, host_closed, peer_closed, none_closed, cls_shown, over_books, one_echo, text_behind_cls, two_echoes, out_turn, while_busy, in_turn, nop, rst, rrp, view_sends, view_hears, answered_twice, in_the_middle, one_out, one_message, two_out, one_came_two_out};
+ghost use Rattle.ncp_umpire.specs.Examples.{host_says, peer_says, open_books, host_closed, peer_closed, none_closed, cls_shown, over_books, one_echo, text_behind_cls, two_echoes, out_turn, while_busy, in_turn, nop, rst, rrp, view_sends, view_hears, answered_twice, in_the_middle, one_out, one_message, two_out, one_came_two_out, an_all, all_on_3, too_many, a_ret, half_asked, sending_books, allocated_books, recalled_books, returned_books, used_books, closing_books, refused_books, granted_books, asked_books, text_before_all, text_of_byte, text_of_seven, text_for_nobody};
 
 /// Worked phases at the interface of host 1: what each side may say before a reset, while it waits for the reply, and while
 /// it owes one.
@@ -55,9 +58,9 @@ pub fn messages_out_at_once_are_not_followed()
 /// Worked requests: each side asks once, a link serves one connection, and after both CLSs all may be asked again.
 pub fn requests_are_judged_so()
     ensures right { command_rule host_says [] (Rts 2 3 2) no_books ≡ None }
-    ensures again { command_rule host_says [] (Rts 2 3 4) open_books ≡ Some (rule.AskedAgain (Rts 2 3 4)) }
+    ensures again { command_rule host_says [] (Rts 2 3 4) open_books ≡ Some (rule.AskedAgain (Rts 2 3 4) 0) }
     ensures used { command_rule host_says [] (Rts 4 5 2) open_books ≡ Some (rule.LinkUsed (Rts 4 5 2) 2 3) }
-    ensures unended { command_rule host_says [] (Rts 2 3 2) host_closed ≡ Some (rule.Unended (Rts 2 3 2)) }
+    ensures unended { command_rule host_says [] (Rts 2 3 2) host_closed ≡ Some (rule.Unended (Rts 2 3 2) 0) }
     ensures over { over_books ≡ no_books }
     ensures sex { command_rule peer_says [] (Rts 3 2 2) open_books ≡ Some (rule.Sex (Rts 3 2 2)) }
     ensures range { command_rule peer_says [] (Rts 4 5 72) open_books ≡ Some (rule.LinkRange (Rts 4 5 72)) }
@@ -67,7 +70,7 @@ pub fn requests_are_judged_so()
 /// Worked CLSs: of what nobody asked for, a second one, and one that is left out where the other closed.
 pub fn closes_are_judged_so()
     ensures unknown { command_rule peer_says [] (Cls 5 4) open_books ≡ Some (rule.ClsUnknown (Cls 5 4)) }
-    ensures again { command_rule peer_says [] (Cls 3 2) peer_closed ≡ Some (rule.ClsAgain (Cls 3 2)) }
+    ensures again { command_rule peer_says [] (Cls 3 2) peer_closed ≡ Some (rule.ClsAgain (Cls 3 2) 0) }
     ensures missing { left_out 1 2 [] peer_closed ≡ Cls 2 3 ∷ [] }
     ensures given { left_out 1 2 [] over_books ≡ [] }
     ensures passing { left_out 1 2 [] text_behind_cls ≡ [] }
@@ -82,4 +85,36 @@ pub fn replies_are_judged_so()
     ensures twice { command_rule peer_says [] (Eco 2) one_echo ≡ Some (rule.EcoAgain 2) }
     ensures unjust { command_rule host_says [] (Err 4 cls_shown) no_books ≡ Some (rule.ErrUnjust 4 cls_shown) }
     ensures just { command_rule host_says [] (Err 4 cls_shown) none_closed ≡ None }
+{}
+
+/// Worked allocations: what is allowed to a sender has a limit, one GVB is answered before the next, and a RET gives back
+/// what was asked for.
+pub fn allocations_are_judged_so()
+    ensures right { command_rule peer_says [] an_all sending_books ≡ None }
+    ensures nobody { command_rule peer_says [] all_on_3 sending_books ≡ Some (rule.NotOpen all_on_3 unopened.NoPair) }
+    ensures unasked { command_rule host_says [] an_all half_asked ≡ Some (rule.NotOpen an_all unopened.NotAsked) }
+    ensures closed { command_rule host_says [] an_all host_closed ≡ Some (rule.NotOpen an_all unopened.Closed) }
+    ensures limit { command_rule peer_says [] too_many allocated_books ≡ Some (rule.OverLimit too_many 65536 16) }
+    ensures again { command_rule peer_says [] (Gvb 2 0 0) recalled_books ≡ Some (rule.GvbAgain (Gvb 2 0 0)) }
+    ensures unwanted { command_rule host_says [] (Ret 2 1 8) allocated_books ≡ Some (rule.RetUnasked (Ret 2 1 8)) }
+    ensures due { number_rules host_says (Ret 2 1 8) recalled_books ≡ [] }
+    ensures other { number_rules host_says (Ret 2 2 8) recalled_books ≡ rule.RetOther (Ret 2 2 8) 1 8 ∷ [] }
+    ensures missing { left_out 1 2 [] recalled_books ≡ Ret 2 1 8 ∷ [] }
+    ensures returned { left_out 1 2 [] returned_books ≡ [] }
+    ensures closing { left_out 1 2 [] closing_books ≡ [] }
+    ensures refused { (life_in_place refused_books.lives 0).messages ≡ 2 }
+    ensures more { number_rules peer_says a_ret asked_books ≡ rule.RetOther a_ret 1 8 ∷ rule.RetOver a_ret 1 8 ∷ [] }
+{}
+
+/// Worked texts: within what is allocated, of the size that was asked for, and on an open connection.
+pub fn texts_are_judged_so()
+    ensures right { text_rules host_says 2 text_of_byte allocated_books ≡ [] }
+    ensures over { text_rules host_says 2 text_of_byte used_books ≡ rule.TextOver 2 0 8 0 ∷ [] }
+    ensures given { text_rules host_says 2 text_of_byte returned_books ≡ [] }
+    ensures size { text_rules host_says 2 text_of_seven allocated_books ≡ rule.TextSize 2 7 8 ∷ [] }
+    ensures nobody { text_rules peer_says 3 text_of_byte no_books ≡ rule.TextNotOpen 3 unopened.NoPair ∷ [] }
+    ensures twice { text_rules peer_says 3 text_of_byte text_for_nobody ≡ [] }
+    ensures granted { text_rules peer_says 2 text_of_byte granted_books ≡ [] }
+    ensures closed { text_rules peer_says 2 text_of_byte peer_closed ≡ rule.TextNotOpen 2 unopened.Closed ∷ [] }
+    ensures hidden { command_rule host_says [] (All 2 65535 65536) text_before_all ≡ None }
 {}

@@ -9,6 +9,7 @@
 #![tactic(auto)]
 
 mod act;
+mod allocation;
 mod books;
 mod due;
 mod event;
@@ -16,6 +17,7 @@ mod finding;
 mod findings;
 mod kept;
 pub mod laws;
+mod lead;
 mod life;
 mod message;
 mod outbox;
@@ -25,6 +27,8 @@ mod request;
 mod speaking;
 mod talk;
 mod talked;
+mod telling;
+mod texts;
 mod umpire;
 mod view;
 mod views;
@@ -34,9 +38,10 @@ pub use act::Act;
 pub use books::{Books, MAX_BOOKS};
 pub use due::{Due, Wanted};
 pub use event::Event;
-pub use finding::{Finding, Rule, Thing, Unsent, Who};
+pub use finding::{Finding, Rule, Thing, Unopened, Unsent, Who};
 pub use findings::{Findings, MAX_FINDINGS};
 pub use kept::{Kept, Slot};
+pub use lead::{Channel, Lead};
 pub use life::{Life, Mark, Request, Topic};
 pub use message::Reading;
 pub use outbox::{MAX_KEPT, Outbox};

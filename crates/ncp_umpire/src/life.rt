@@ -1,6 +1,9 @@
 //! `Life`: a connection, or a request for one, and `Mark`: what is known between two hosts.
 ghost use Rattle.std.specs.Prelude.{◌≡◌};
 ghost use Rattle.ncp_umpire.specs.Lives.{unasked_life, is_of_sockets, is_senders, is_number_given, has_link, has_sent_cls, with_cls_sent, has_sent_request, with_request_sent, is_topic};
+ghost use Rattle.ncp_umpire.specs.Speaking.{is_admission};
+
+use ncp_terms::ERROR_DATA;
 
 /// What a side of a connection asks for: the receiver by an RTS, with the link that it chooses; the sender by an STR, with
 /// the byte size that it chooses.
@@ -33,6 +36,14 @@ pub struct Life {
     pub came: bool,
     /// Whether nothing is judged of it: the host may have acted on a command that was not seen.
     pub rests: bool,
+    /// How many messages its sender may still send: of the host exactly, of the other at most.
+    pub messages: u32,
+    /// And how many bits.
+    pub bits: u32,
+    /// Whether a GVB of its receiver has had no RET.
+    pub recall: bool,
+    /// The number of the record with which it began.
+    pub since: u32,
 }
 
 /// What may be known between two hosts.
@@ -46,6 +57,8 @@ pub enum Topic {
     EchoesRest { host: bool },
     /// An ECO of the host, or of the other, has had no ERP.
     Asks { host: bool },
+    /// The host, or the other, may give an ERR with these bytes about a text.
+    Admits { host: bool, bytes: [u8; ERROR_DATA] },
 }
 
 /// What is known between two hosts, as it is seen at the interface of one.
@@ -92,6 +105,10 @@ impl Life {
             peer_left: false,
             came: false,
             rests: false,
+            messages: 0,
+            bits: 0,
+            recall: false,
+            since: 0,
         }
     }
 
@@ -166,5 +183,17 @@ impl Mark {
         ensures { result ≡ is_topic at peer topic self.now }
     {
         self.at == at && self.peer == peer && self.topic == topic
+    }
+
+    /// Whether it is an ERR that the host may give about a text.
+    pub(crate) fn is_admission(&self, at: u8, peer: u8) -> bool
+        ensures { result ≡ is_admission at peer self.now }
+    {
+        self.at == at
+            && self.peer == peer
+            && match self.topic {
+                Topic::Admits { host, .. } => host,
+                _ => false,
+            }
     }
 }

@@ -109,6 +109,14 @@ impl Outbox {
         self.as_slice()[place].slot
     }
 
+    /// The message at a place.
+    pub(crate) fn message(&self, place: usize) -> &Bits
+        requires { place < length self.now }
+        ensures { result.now ≡ (kept_at self.now place).message }
+    {
+        &self.as_slice()[place].message
+    }
+
     /// Whether the message at a place has these bits.
     pub(crate) fn is_same(&self, place: usize, message: &Bits) -> bool
         requires { place < length self.now }

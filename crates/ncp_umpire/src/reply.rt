@@ -1,9 +1,10 @@
 //! Replies: which are owed or admitted, and what one that is given leaves.
 ghost use Rattle.std.specs.Prelude.{◌≡◌, map};
-ghost use Rattle.ncp_umpire.specs.Replies.{owes, error_wanted, fault_wanted, is_own, answers, is_wanted, skipped, fits_sure, unsure};
+ghost use Rattle.ncp_umpire.specs.Replies.{owes, error_wanted, fault_wanted, is_own, answers, is_wanted, skipped, fits_sure, unsure, reply_rule, after_reply};
 
 use crate::books::Books;
 use crate::due::{Due, Wanted};
+use crate::finding::Rule;
 use crate::talk::Talk;
 use ncp_terms::{Command, CommandFault, ERROR_DATA, error_for};
 
@@ -45,8 +46,8 @@ pub(crate) fn fault_wanted(fault: &CommandFault) -> Wanted
     }
 }
 
-// Whether a due reply is one of the one who speaks, and the reply says it.
-fn answers(talk: Talk, reply: &Command, due: &Due) -> bool
+/// Whether a due reply is one of the one who speaks, and the reply says it.
+pub(crate) fn answers(talk: Talk, reply: &Command, due: &Due) -> bool
     ensures { result ≡ answers (is_own talk) reply.now due.now }
 {
     due.is_own(talk) && due.wanted.fits(reply)
@@ -103,5 +104,27 @@ pub(crate) fn make_unsure(talk: Talk, reply: &Command, dues: &mut [Due])
 {
     for due in dues.iter_mut() {
         due.doubt(talk, reply);
+    }
+}
+
+/// The rule that a reply breaks: it passes over one that is sure, or nothing asked for it.
+pub(crate) fn reply_rule(talk: Talk, reply: &Command, unasked: Rule, books: &Books) -> Option<Rule>
+    ensures { result ≡ reply_rule talk reply.now unasked books.now }
+{
+    if !books.is_wanted(talk, reply) {
+        return Some(unasked);
+    }
+    match books.skipped(talk, reply) {
+        Some(command) => Some(Rule::Skipped { command }),
+        None => None,
+    }
+}
+
+/// After a reply.
+pub(crate) fn after_reply(talk: Talk, reply: &Command, books: &mut Books)
+    ensures { books.new ≡ after_reply talk reply.now books.old }
+{
+    if books.is_wanted(talk, reply) {
+        books.strike(talk, reply);
     }
 }

@@ -7,11 +7,12 @@ ghost use Rattle.ncp_umpire.specs.Scenes.{place_of_talk, verdict_about, cls_verd
 
 use crate::books::Books;
 use crate::finding::Rule;
+use crate::lead::Channel;
 use crate::life::{Life, Request, Topic, sends};
 use crate::outbox::Outbox;
 use crate::reply::{error_wanted, owes};
 use crate::talk::{About, Talk, Verdict};
-use ncp_terms::{Command, FIRST_LINK, LAST_LINK};
+use ncp_terms::{Command, ERRONEOUS_PARAMETERS, FIRST_LINK, LAST_LINK, NONEXISTENT_SOCKET};
 
 /// A request about a connection.
 #[derive(Clone, Copy, Drop)]
@@ -108,9 +109,15 @@ fn life_verdict(
     if life.rests {
         Verdict::Unclear(None)
     } else if life.has_left(talk.sent) {
-        Verdict::Unclear(Some(Rule::Unended { command }))
+        Verdict::Unclear(Some(Rule::Unended {
+            command,
+            since: life.since,
+        }))
     } else if life.has_asked(request) {
-        Verdict::Refused(Rule::AskedAgain { command })
+        Verdict::Refused(Rule::AskedAgain {
+            command,
+            since: life.since,
+        })
     } else {
         link_verdict(talk, command, request, books)
     }
@@ -144,10 +151,10 @@ fn rests_asked(talk: Talk, request: Request, books: &mut Books)
     ensures { books.new ≡ rests_asked talk request books.old }
 {
     if let Request::Link(link) = request {
-        books.mark(
+        books.rest_channel(
             talk.at,
             talk.peer,
-            Topic::LinkRests {
+            Channel {
                 host: talk.sent,
                 link,
             },
@@ -162,7 +169,10 @@ fn asks(talk: Talk, asking: Asking, place: Option<usize>, books: &mut Books)
 {
     let life = match place {
         Some(place) => books.life_at(place),
-        None => Life::new(talk.at, talk.peer, asking.about.local, asking.about.remote),
+        None => Life {
+            since: books.number(),
+            ..Life::new(talk.at, talk.peer, asking.about.local, asking.about.remote)
+        },
     };
     books.put_life(place, life.with_request(asking.request));
 }
@@ -186,11 +196,21 @@ pub(crate) fn after_request(
     } = asking.about;
     match verdict {
         Verdict::Right => asks(talk, asking, place, books),
-        Verdict::Refused(_) => owes(talk, error_wanted(3, 3, &command), true, books),
+        Verdict::Refused(_) => owes(
+            talk,
+            error_wanted(ERRONEOUS_PARAMETERS, ERRONEOUS_PARAMETERS, &command),
+            true,
+            books,
+        ),
         Verdict::Unclear(_) => {
             books.rest_pair(talk.at, talk.peer, local, remote);
             rests_asked(talk, asking.request, books);
-            owes(talk, error_wanted(3, 3, &command), false, books);
+            owes(
+                talk,
+                error_wanted(ERRONEOUS_PARAMETERS, ERRONEOUS_PARAMETERS, &command),
+                false,
+                books,
+            );
         }
     }
 }
@@ -205,7 +225,10 @@ fn left_verdict(talk: Talk, command: Command, life: Option<Life>) -> Verdict
     if life.rests {
         Verdict::Unclear(None)
     } else if life.has_left(talk.sent) {
-        Verdict::Unclear(Some(Rule::ClsAgain { command }))
+        Verdict::Unclear(Some(Rule::ClsAgain {
+            command,
+            since: life.since,
+        }))
     } else {
         Verdict::Right
     }
@@ -299,10 +322,20 @@ pub(crate) fn after_cls(
 {
     match verdict {
         Verdict::Right => leaves(talk, place, books),
-        Verdict::Refused(_) => owes(talk, error_wanted(3, 3, &about.command), true, books),
+        Verdict::Refused(_) => owes(
+            talk,
+            error_wanted(ERRONEOUS_PARAMETERS, ERRONEOUS_PARAMETERS, &about.command),
+            true,
+            books,
+        ),
         Verdict::Unclear(_) => {
             books.rest_pair(talk.at, talk.peer, about.local, about.remote);
-            owes(talk, error_wanted(4, 3, &about.command), false, books);
+            owes(
+                talk,
+                error_wanted(NONEXISTENT_SOCKET, ERRONEOUS_PARAMETERS, &about.command),
+                false,
+                books,
+            );
         }
     }
 }

@@ -2,12 +2,11 @@
 ghost use Rattle.std.specs.Prelude.{◌≡◌, ◌<◌, ◌≤◌, ◌+◌, ◌++◌, Some, length, IfSome};
 ghost use Rattle.std.specs.List.{position};
 ghost use Rattle.ncp_umpire.specs.declared.findings.TheConstants.{MAX_FINDINGS};
-ghost use Rattle.ncp_umpire.specs.Replies.{is_about_link};
-ghost use Rattle.ncp_umpire.specs.Requests.{broken};
 ghost use Rattle.ncp_umpire.specs.Scenes.{after_cls_about};
-ghost use Rattle.ncp_umpire.specs.Speaking.{is_asking, after_eco, answers_echo, after_reply, books_after_command, after_spoken, after_text_at, books_after_text, lacks_cls, is_owed, reply_left_out, cls_left_out};
-ghost use Rattle.ncp_umpire.specs.Telling.{told_rule, found_asking, books_asked, found_cls, found_eco, found_reply, found_command, found_spoken};
+ghost use Rattle.ncp_umpire.specs.Speaking.{is_asking, after_eco, answers_echo, after_reply, after_right_cls, books_after_command, after_spoken, lacks_cls, is_owed, reply_left_out, cls_left_out};
+ghost use Rattle.ncp_umpire.specs.Telling.{found_asking, books_asked, found_cls, found_eco, found_reply, found_command, found_spoken};
 
+use crate::allocation::{ends_returns, from_receiver, from_sender, judge_link, judge_ret};
 use crate::books::Books;
 use crate::due::{Due, Wanted};
 use crate::finding::Rule;
@@ -21,31 +20,9 @@ use crate::request::{
 };
 use crate::talk::{About, Talk, Verdict};
 use crate::talked::Scene;
+use crate::telling::{tell, tell_verdict};
+use crate::texts::{is_admitted, text_left_out};
 use ncp_terms::{Command, CommandFault};
-
-// Says that a rule is broken; where something found no room, nothing is said.
-fn tell(scene: Scene<'_>, rule: Rule, books: &Books, found: &mut Findings)
-    requires { length found.old < MAX_FINDINGS }
-    ensures found { found.new ≡ found.old ++ told_rule scene.entry.turn books.now (Some rule) }
-    ensures len { length found.new ≤ length found.old + 1 }
-{
-    if !books.is_full() {
-        found.push(scene.turn.finding(rule));
-    }
-}
-
-// Says the rule that a verdict tells to be broken.
-fn tell_verdict(scene: Scene<'_>, verdict: Verdict, books: &Books, found: &mut Findings)
-    requires { length found.old < MAX_FINDINGS }
-    ensures found { found.new ≡ found.old ++ told_rule scene.entry.turn books.now (broken verdict) }
-    ensures len { length found.new ≤ length found.old + 1 }
-{
-    match verdict {
-        Verdict::Right | Verdict::Unclear(None) => {}
-        Verdict::Refused(rule) => tell(scene, rule, books, found),
-        Verdict::Unclear(Some(rule)) => tell(scene, rule, books, found),
-    }
-}
 
 // ---- requests and CLS
 
@@ -64,10 +41,21 @@ fn judge_request(scene: Scene<'_>, asking: Asking, books: &mut Books, found: &mu
     after_request(talk, asking, place, verdict, books);
 }
 
+// Beside what a CLS does to its connection: a sender owes no RET any more, and a text of the host that is out may come to
+// nobody.
+fn closes(talk: Talk, kept: &Outbox, life: Option<Life>, verdict: Verdict, books: &mut Books)
+    ensures { books.new ≡ after_right_cls talk kept.now life verdict books.old }
+{
+    if let (Verdict::Right, Some(life)) = (verdict, life) {
+        text_left_out(talk, kept, life, books);
+        ends_returns(talk, life, books);
+    }
+}
+
 // A CLS: says the rule that it breaks, and then what it leaves.
 fn judge_cls(scene: Scene<'_>, about: About, books: &mut Books, found: &mut Findings)
     requires { length found.old < MAX_FINDINGS }
-    ensures books { books.new ≡ after_cls_about scene.entry.talk about books.old }
+    ensures books { books.new ≡ after_cls_about scene.entry.talk scene.entry.kept.now about books.old }
     ensures found { found.new ≡ found.old ++ found_cls scene.entry about books.old }
     ensures len { length found.new ≤ length found.old + 1 }
 {
@@ -84,6 +72,7 @@ fn judge_cls(scene: Scene<'_>, about: About, books: &mut Books, found: &mut Find
         Verdict::Refused(_) | Verdict::Unclear(_) => tell_verdict(scene, verdict, books, found),
     }
     after_cls(talk, about, place, verdict, books);
+    closes(talk, scene.kept, life, verdict, books);
 }
 
 // ---- echoes
@@ -150,25 +139,14 @@ fn judge_answer(
     books.strike(talk, reply);
 }
 
-// Whether an ERR is about a link, of which no rule is known.
-fn is_about_link(code: u8, bytes: &[u8]) -> bool
-    ensures { result ≡ is_about_link code bytes.now }
-{
-    let first = match bytes.first() {
-        Some(first) => *first,
-        None => 0,
-    };
-    code == 5 || (code == 3 && 4 <= first && first <= 8)
-}
-
 // ---- commands, and faults of a control text
 
 // A command: says the rule that it breaks, and then what it leaves.
 fn judge_command(scene: Scene<'_>, command: &Command, books: &mut Books, found: &mut Findings)
-    requires { length found.old < MAX_FINDINGS }
-    ensures books { books.new ≡ books_after_command scene.entry.talk command.now books.old }
+    requires { length found.old + 3 ≤ MAX_FINDINGS }
+    ensures books { books.new ≡ books_after_command scene.entry.talk scene.entry.kept.now command.now books.old }
     ensures found { found.new ≡ found.old ++ found_command scene.entry command.now books.old }
-    ensures len { length found.new ≤ length found.old + 1 }
+    ensures len { length found.new ≤ length found.old + 3 }
 {
     let talk = scene.talk;
     match *command {
@@ -206,17 +184,26 @@ fn judge_command(scene: Scene<'_>, command: &Command, books: &mut Books, found: 
             judge_answer(scene, command, Rule::ErpUnasked { byte }, books, found);
             answers_echo(talk, books);
         }
-        Command::Err { code, ref bytes } if is_about_link(code, bytes) => {}
         Command::Err { code, bytes } => {
-            judge_answer(
-                scene,
-                command,
-                Rule::ErrUnjust { code, bytes },
-                books,
-                found,
-            );
+            if !is_admitted(talk, code, bytes, books) {
+                let unjust = Rule::ErrUnjust { code, bytes };
+                judge_answer(scene, command, unjust, books, found);
+            }
         }
-        _ => {}
+        Command::All { link, .. } => {
+            judge_link(scene, command, from_receiver(talk, link), books, found);
+        }
+        Command::Gvb { link, .. } => {
+            judge_link(scene, command, from_receiver(talk, link), books, found);
+        }
+        Command::Ret { link, .. } => judge_ret(scene, command, link, books, found),
+        Command::Inr { link } => {
+            judge_link(scene, command, from_receiver(talk, link), books, found);
+        }
+        Command::Ins { link } => {
+            judge_link(scene, command, from_sender(talk, link), books, found);
+        }
+        Command::Nop | Command::Rst | Command::Rrp => {}
     }
 }
 
@@ -228,10 +215,10 @@ pub(crate) fn judge_spoken(
     books: &mut Books,
     found: &mut Findings,
 )
-    requires { length found.old < MAX_FINDINGS }
-    ensures books { books.new ≡ after_spoken scene.entry.talk item.now books.old }
+    requires { length found.old + 3 ≤ MAX_FINDINGS }
+    ensures books { books.new ≡ after_spoken scene.entry.talk scene.entry.kept.now item.now books.old }
     ensures found { found.new ≡ found.old ++ found_spoken scene.entry item.now books.old }
-    ensures len { length found.new ≤ length found.old + 1 }
+    ensures len { length found.new ≤ length found.old + 3 }
 {
     match item {
         Ok(command) => judge_command(scene, command, books, found),
@@ -240,33 +227,6 @@ pub(crate) fn judge_spoken(
             owes(scene.talk, fault_wanted(fault), true, books);
         }
     }
-}
-
-// ---- a text comes to the host
-
-fn after_text_at(at: u8, peer: u8, link: u8, place: Option<usize>, books: &mut Books)
-    requires { IfSome place (λ p. p < length books.old.lives) }
-    ensures { books.new ≡ after_text_at at peer link books.old place }
-{
-    let rests = Topic::LinkRests { host: true, link };
-    let Some(found) = place else {
-        books.mark(at, peer, rests);
-        return;
-    };
-    let life = books.life_at(found);
-    if life.peer_left {
-        books.mark(at, peer, rests);
-    } else {
-        books.put_life(place, Life { came: true, ..life });
-    }
-}
-
-/// After a text that comes to the host.
-pub(crate) fn after_text(at: u8, peer: u8, link: u8, books: &mut Books)
-    ensures { books.new ≡ books_after_text at peer link books.old }
-{
-    let place = books.place_of_link(at, peer, true, link);
-    after_text_at(at, peer, link, place, books);
 }
 
 // ---- what a host left out

@@ -1,13 +1,12 @@
 //! The items of a control text by the rules of what is said while two hosts are up: what is judged of them, and what they
 //! leave.
 ghost use Rattle.std.specs.Prelude.{◌≡◌, ◌<◌, ◌≤◌, ◌+◌, ◌++◌, length};
-ghost use Rattle.std.specs.Option.{option_to_list};
 ghost use Rattle.ncp_umpire.specs.declared.finding.Thing.TheVariants.{Text};
 ghost use Rattle.ncp_umpire.specs.declared.findings.TheConstants.{MAX_FINDINGS};
-ghost use Rattle.ncp_umpire.specs.Phases.{early_finding, after_thing, after_room};
+ghost use Rattle.ncp_umpire.specs.Phases.{after_thing, after_room};
 ghost use Rattle.ncp_umpire.specs.Speaking.{after_all_said};
 ghost use Rattle.ncp_umpire.specs.Talked.{talk_of, reaches, act_reaches, clears, missing, after_left_out, after_talked_text};
-ghost use Rattle.ncp_umpire.specs.Telling.{found_missing, found_left_out};
+ghost use Rattle.ncp_umpire.specs.Telling.{found_missing, found_left_out, found_text, books_after_talked_text};
 
 use crate::act::Act;
 use crate::books::Books;
@@ -15,9 +14,11 @@ use crate::finding::{Finding, Rule, Thing};
 use crate::findings::Findings;
 use crate::outbox::Outbox;
 use crate::phase::{Turn, hears_reset, is_early, judge_thing, missing_finding};
-use crate::speaking::{after_text, cls_left_out, reply_left_out};
+use crate::speaking::{cls_left_out, reply_left_out};
 use crate::talk::Talk;
+use crate::texts::judge_text;
 use crate::view::{View, Wait};
+use ncp_leader::Regular;
 use ncp_terms::Command;
 
 /// A message whose items are judged, who says them to whom, and the messages of all hosts that are out.
@@ -73,23 +74,23 @@ pub(crate) fn clears(turn: &Turn, act: Act, view: &View) -> bool
 }
 
 /// Judges a text of a connection.
-pub(crate) fn judge_text(
+pub(crate) fn judge_talked_text(
     scene: Scene<'_>,
-    link: u8,
+    regular: &Regular<'_>,
     view: &mut View,
     books: &mut Books,
     found: &mut Findings,
 )
-    requires { length found.old < MAX_FINDINGS }
+    requires { length found.old + 2 ≤ MAX_FINDINGS }
     ensures view { view.new ≡ after_thing scene.entry.turn Text view.old }
-    ensures books { books.new ≡ after_talked_text scene.entry.turn scene.entry.talk link view.old books.old }
-    ensures found { found.new ≡ found.old ++ option_to_list (early_finding scene.entry.turn Text view.old) }
+    ensures books { books.new ≡ books_after_talked_text scene.entry regular.now view.old books.old }
+    ensures found { found.new ≡ found.old ++ found_text scene.entry regular.now view.old books.old }
 {
-    if !reaches(&scene.turn, Thing::Text, view) {
-        judge_thing(&scene.turn, Thing::Text, view, found);
-    } else if !scene.turn.sent {
-        after_text(scene.talk.at, scene.talk.peer, link, books);
+    if reaches(&scene.turn, Thing::Text, view) {
+        judge_text(scene, regular, books, found);
+        return;
     }
+    judge_thing(&scene.turn, Thing::Text, view, found);
 }
 
 // What is left out is a command of the host.

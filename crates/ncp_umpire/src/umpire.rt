@@ -21,7 +21,7 @@ use crate::message::{Reading, reading_of, rule_of_message};
 use crate::outbox::Outbox;
 use crate::phase::{Turn, judge_item};
 use crate::speaking::judge_spoken;
-use crate::talked::{Scene, act_reaches, clears, judge_left_out, judge_text, talk_of};
+use crate::talked::{Scene, act_reaches, clears, judge_left_out, judge_talked_text, talk_of};
 use crate::view::View;
 use crate::views::{HOSTS, Views};
 use crate::way::Way;
@@ -225,7 +225,7 @@ fn judge_said(
 )
     requires { length found.old + 5 ≤ MAX_FINDINGS }
     ensures view { view.new ≡ after_item scene.entry.turn item.now view.old }
-    ensures books { books.new ≡ after_talk scene.entry.turn scene.entry.talk item.now view.old books.old }
+    ensures books { books.new ≡ after_talk scene.entry.turn scene.entry.talk scene.entry.kept.now item.now view.old books.old }
     ensures found { found.new ≡ found.old ++ found_of_item scene.entry item.now view.old books.old }
     ensures len { length found.new ≤ length found.old + 5 }
 {
@@ -272,7 +272,7 @@ fn judge_control(
     requires whole { length text % 8 ≡ 0 }
     requires few { length found.old ≤ 8 }
     ensures view { view.new ≡ view_after_control scene.entry text.entry view.old }
-    ensures books { books.new ≡ after_control scene.entry.turn scene.entry.talk text.entry view.old books.old }
+    ensures books { books.new ≡ after_control scene.entry.turn scene.entry.talk scene.entry.kept.now text.entry view.old books.old }
     ensures found { found.new ≡ found.old ++ found_of_control scene.entry text.entry view.old books.old }
 {
     let room = text.len() <= ROOMY_BITS;
@@ -295,7 +295,7 @@ fn judge_read(
 {
     match reading_of(regular) {
         Reading::Stop => {}
-        Reading::Text => judge_text(scene, regular.leader().link, view, books, found),
+        Reading::Text => judge_talked_text(scene, regular, view, books, found),
         Reading::Control => judge_control(scene, regular.text(), view, books, found),
     }
 }
@@ -613,6 +613,7 @@ impl Umpire {
     {
         found.clear();
         self.seen[usize::from(at)] = true;
+        self.books.count_record();
         let event = event_of(way, at, message);
         self.judge_event(Passing { way, at }, event, message, found);
     }

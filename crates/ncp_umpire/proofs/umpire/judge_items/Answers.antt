@@ -20,7 +20,7 @@ loop-item-preserved c = record {
   ends = tt;
   items = append_assoc c.loop-item.yielded (c.in-Some.item ∷ []) c.next.new.self ∙ ap (λ items. c.loop-item.yielded ++ items) (sym c.in-Some.ensures.steps) ∙ c.loop-item.invariant.items;
   view = view_more c.args.scene.turn c.loop-item.yielded c.in-Some.item c.args.view.now c.loop-item.view c.judge_said.new.view c.loop-item.invariant.view c.judge_said.ensures.view;
-  books = said_more c.args.scene.turn c.args.scene.talk c.loop-item.yielded c.in-Some.item c.args.view.now c.loop-item.view c.args.books.now c.loop-item.books c.judge_said.new.books
+  books = said_more c.args.scene.turn c.args.scene.talk c.args.scene.kept.now c.loop-item.yielded c.in-Some.item c.args.view.now c.loop-item.view c.args.books.now c.loop-item.books c.judge_said.new.books
       c.loop-item.invariant.view c.loop-item.invariant.books c.judge_said.ensures.books;
   found = found_more c.args.scene.turn c.args.scene.talk c.args.scene.kept.now c.loop-item.yielded c.in-Some.item c.args.view.now c.loop-item.view c.args.books.now c.loop-item.books c.args.found.now c.loop-item.found c.judge_said.new.found
       c.loop-item.invariant.view c.loop-item.invariant.books c.loop-item.invariant.found c.judge_said.ensures.found;
@@ -35,7 +35,7 @@ returns-clause-view c =
 pub returns-clause-books : goal.returns-clause-books
 returns-clause-books c =
     let all : c.loop-item.yielded ≡ items_said c.args.text = sym (append-nil c.loop-item.yielded) ∙ ap (λ items. c.loop-item.yielded ++ items) (sym c.in-None.ensures.steps.0) ∙ c.loop-item.invariant.items ∙ c.into_iter-item-iterator.ensures.into_iter_gives ∙ c.new-item-items.ensures.items in
-    c.loop-item.invariant.books ∙ ap (λ items. after_talked c.args.scene.turn c.args.scene.talk items c.args.view.now c.args.books.now) all
+    c.loop-item.invariant.books ∙ ap (λ items. after_talked c.args.scene.turn c.args.scene.talk c.args.scene.kept.now items c.args.view.now c.args.books.now) all
 
 pub returns-clause-found : goal.returns-clause-found
 returns-clause-found c =

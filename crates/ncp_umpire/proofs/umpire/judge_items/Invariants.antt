@@ -9,7 +9,7 @@ invariant-loop-item l = record {
   ends : goal.iterator-loop-item.is_finite l.item-iterator;
   items : l.yielded ++ l.item-iterator ≡ l.initial.item-iterator;
   view : l.view ≡ after_items l.fn.scene.turn l.yielded l.initial.view;
-  books : l.books ≡ after_talked l.fn.scene.turn l.fn.scene.talk l.yielded l.initial.view l.initial.books;
+  books : l.books ≡ after_talked l.fn.scene.turn l.fn.scene.talk l.fn.scene.kept.now l.yielded l.initial.view l.initial.books;
   found : l.found ≡ l.initial.found ++ talked_findings l.fn.scene.turn l.fn.scene.talk l.fn.scene.kept.now l.yielded l.initial.view l.initial.books;
   len : length l.found ≤ length l.initial.found + 5 * length l.yielded;
 }
