@@ -6,11 +6,13 @@ use Rattle.ncp_play_page.specs.Lines.{field, hex_of}
 use Rattle.ncp_play_files.specs.Lines.{command_words, bad_words}
 use Rattle.ncp_umpire.specs.declared.finding.Finding.{Finding}
 use Rattle.ncp_umpire.specs.declared.finding.Rule.{Rule}
-use Rattle.ncp_umpire.specs.declared.finding.Rule.TheVariants.{Short, OwnHost, Kind, Fault, WrongLink, WrongSize, Extras, Occupied, Changed, Stray, Unsent, FalseAnswer, Bad, Early, RstAgain, RrpUnasked, Unquiet, RrpFirst, MissingRrp, Missing, Skipped, EcoAgain, ErpUnasked, ErrUnjust, Sex, LinkRange, SizeZero, AskedAgain, Unended, LinkUsed, ClsUnknown, ClsAgain, TextOut}
+use Rattle.ncp_umpire.specs.declared.finding.Rule.TheVariants.{Short, OwnHost, Kind, Fault, WrongLink, WrongSize, Extras, Occupied, Changed, Stray, Unsent, FalseAnswer, Bad, Early, RstAgain, RrpUnasked, Unquiet, RrpFirst, MissingRrp, Missing, Skipped, EcoAgain, ErpUnasked, ErrUnjust, Sex, LinkRange, SizeZero, AskedAgain, Unended, LinkUsed, ClsUnknown, ClsAgain, TextOut, NotOpen, OverLimit, GvbAgain, RetUnasked, RetOther, RetOver, TextNotOpen, TextSize, TextOver}
 use Rattle.ncp_umpire.specs.declared.finding.Thing.{Thing}
 use Rattle.ncp_umpire.specs.declared.finding.Thing.TheVariants as a
 use Rattle.ncp_umpire.specs.declared.finding.Unsent.{Unsent as Why}
 use Rattle.ncp_umpire.specs.declared.finding.Unsent.TheVariants.{NotOut, Twice, Altered}
+use Rattle.ncp_umpire.specs.declared.finding.Unopened.{Unopened}
+use Rattle.ncp_umpire.specs.declared.finding.Unopened.TheVariants as shut
 use Rattle.ncp_umpire.specs.declared.finding.Who.{Who}
 use Rattle.ncp_umpire.specs.declared.finding.Who.TheVariants.{Host, Imp}
 
@@ -38,6 +40,19 @@ abbrev pub why_word : Why → List ℕ
 why_word NotOut = codes "not-out"
 why_word Twice = codes "twice"
 why_word Altered = codes "altered"
+
+abbrev pub unopened_word : Unopened → List ℕ
+unopened_word shut.NoPair = codes "no-pair"
+unopened_word shut.Closed = codes "closed"
+unopened_word shut.NotAsked = codes "not-asked"
+
+-- two amounts, and what they are held against
+abbrev pub two_amounts : ℕ → ℕ → List ℕ
+two_amounts messages bits = field (codes " messages=") messages ++ field (codes " bits=") bits
+
+abbrev pub two_amounts_of : ℕ → ℕ → ℕ → ℕ → List ℕ
+two_amounts_of messages most bits most_bits =
+    field (codes " messages=") messages ++ field (codes " of=") most ++ field (codes " bits=") bits ++ field (codes " of=") most_bits
 
 -- 1 where it is so
 abbrev pub one_where : Bool → ℕ
@@ -79,12 +94,21 @@ rule_words (ErrUnjust code bytes) = field (codes "err-unjust ERR code=") code ++
 rule_words (Sex c) = codes "sex " ++ command_words c
 rule_words (LinkRange c) = codes "link-range " ++ command_words c
 rule_words (SizeZero c) = codes "size-zero " ++ command_words c
-rule_words (AskedAgain c) = codes "asked-again " ++ command_words c
-rule_words (Unended c) = codes "unended " ++ command_words c
+rule_words (AskedAgain c since) = codes "asked-again " ++ command_words c ++ field (codes " since=") since
+rule_words (Unended c since) = codes "unended " ++ command_words c ++ field (codes " since=") since
 rule_words (LinkUsed c local remote) = codes "link-used " ++ command_words c ++ field (codes " by=") local ++ field (codes ",") remote
 rule_words (ClsUnknown c) = codes "cls-unknown " ++ command_words c
-rule_words (ClsAgain c) = codes "cls-again " ++ command_words c
+rule_words (ClsAgain c since) = codes "cls-again " ++ command_words c ++ field (codes " since=") since
 rule_words (TextOut c link) = codes "text-out " ++ command_words c ++ field (codes " link=") link
+rule_words (NotOpen c why) = codes "not-open " ++ command_words c ++ codes " " ++ unopened_word why
+rule_words (OverLimit c messages bits) = codes "over-limit " ++ command_words c ++ two_amounts_of messages 65535 bits 65536
+rule_words (GvbAgain c) = codes "gvb-again " ++ command_words c
+rule_words (RetUnasked c) = codes "ret-unasked " ++ command_words c
+rule_words (RetOther c messages bits) = codes "ret-other " ++ command_words c ++ two_amounts messages bits
+rule_words (RetOver c messages bits) = codes "ret-over " ++ command_words c ++ two_amounts messages bits
+rule_words (TextNotOpen link why) = field (codes "text-not-open link=") link ++ codes " " ++ unopened_word why
+rule_words (TextSize link size asked) = field (codes "text-size link=") link ++ field (codes " size=") size ++ field (codes " of=") asked
+rule_words (TextOver link messages bits most_bits) = field (codes "text-over link=") link ++ two_amounts_of 1 messages bits most_bits
 
 abbrev pub finding_line : ℕ → ℕ → Finding → List ℕ
 finding_line number at finding = decimal number ++ field (codes " at=") at ++ who_words finding.who ++ codes " " ++ rule_words finding.rule ++ codes "\n"
@@ -119,12 +143,21 @@ is_standard (ErrUnjust code bytes) = true
 is_standard (Sex c) = true
 is_standard (LinkRange c) = true
 is_standard (SizeZero c) = true
-is_standard (AskedAgain c) = true
-is_standard (Unended c) = true
+is_standard (AskedAgain c since) = true
+is_standard (Unended c since) = true
 is_standard (LinkUsed c local remote) = false
 is_standard (ClsUnknown c) = true
-is_standard (ClsAgain c) = true
+is_standard (ClsAgain c since) = true
 is_standard (TextOut c link) = false
+is_standard (NotOpen c why) = true
+is_standard (OverLimit c messages bits) = false
+is_standard (GvbAgain c) = false
+is_standard (RetUnasked c) = false
+is_standard (RetOther c messages bits) = false
+is_standard (RetOver c messages bits) = true
+is_standard (TextNotOpen link why) = true
+is_standard (TextSize link size asked) = true
+is_standard (TextOver link messages bits most_bits) = true
 
 -- a finding is told, unless the rules of the standard alone are asked for and it is none
 unfoldable pub is_told : Bool → Finding → Bool

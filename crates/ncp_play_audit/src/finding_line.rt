@@ -11,7 +11,7 @@ use ncp_play_stream::{Failed, Sink};
 use ncp_umpire::{Finding, Who};
 
 /// How many bytes the line of a finding has at most.
-pub const LONGEST_FINDING: usize = 160;
+pub const LONGEST_FINDING: usize = 190;
 
 // How many bytes who broke a rule has at most.
 const LONGEST_WHO: usize = 16;

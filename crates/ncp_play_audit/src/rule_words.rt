@@ -2,16 +2,16 @@
 ghost use Rattle.std.specs.Prelude.{◌≡◌, ◌+◌, ◌≤◌, ◌++◌, length, codes};
 ghost use Rattle.ncp_play_page.specs.Lines.{field};
 ghost use Rattle.ncp_play_files.specs.Lines.{command_words};
-ghost use Rattle.ncp_play_audit.specs.FindingLines.{thing_word, why_word, one_where, coming_word, unquiet_word, rule_words, is_standard};
+ghost use Rattle.ncp_play_audit.specs.FindingLines.{thing_word, why_word, unopened_word, two_amounts, two_amounts_of, one_where, coming_word, unquiet_word, rule_words, is_standard};
 
 use crate::command_words::{LONGEST_COMMAND, push_command, push_error};
 use ncp_leader::MessageFault;
 use ncp_play_page::{PAGE_SIZE, Page, push_field};
 use ncp_terms::{Command, CommandFault};
-use ncp_umpire::{Rule, Thing, Unsent};
+use ncp_umpire::{Rule, Thing, Unopened, Unsent};
 
 /// How many bytes the words of a rule have at most.
-pub(crate) const LONGEST_RULE: usize = 100;
+pub(crate) const LONGEST_RULE: usize = 140;
 
 // The name of what comes early.
 fn thing_word(thing: Thing) -> &'static [u8]
@@ -45,6 +45,18 @@ fn why_word(why: Unsent) -> &'static [u8]
         Unsent::NotOut => b"not-out",
         Unsent::Twice => b"twice",
         Unsent::Altered => b"altered",
+    }
+}
+
+// Why no open connection was found.
+fn unopened_word(why: Unopened) -> &'static [u8]
+    ensures word { result.now ≡ unopened_word why }
+    ensures len { length result.now ≤ 9 }
+{
+    match why {
+        Unopened::NoPair => b"no-pair",
+        Unopened::Closed => b"closed",
+        Unopened::NotAsked => b"not-asked",
     }
 }
 
@@ -227,6 +239,111 @@ fn push_text_out(page: &mut Page, command: &Command, link: u8)
     push_field(page, b" link=", u32::from(link));
 }
 
+// Appends the name of a rule, the command that breaks it, and since when what it repeats has been.
+fn push_since(page: &mut Page, name: &[u8], command: &Command, since: u32)
+    requires name { length name.now ≤ 12 }
+    requires room { length page.old + LONGEST_RULE ≤ PAGE_SIZE }
+    ensures bytes { page.new ≡ page.old ++ (name.now ++ command_words command.now ++ field (codes " since=") since) }
+    ensures len { length page.new ≤ length page.old + LONGEST_RULE }
+{
+    push_named(page, name, command);
+    push_field(page, b" since=", since);
+}
+
+// Appends why no open connection was found.
+fn push_unopened(page: &mut Page, why: Unopened)
+    requires { length page.old + 10 ≤ PAGE_SIZE }
+    ensures bytes { page.new ≡ page.old ++ (codes " " ++ unopened_word why) }
+    ensures len { length page.new ≤ length page.old + 10 }
+{
+    page.push(b' ');
+    page.push_text(unopened_word(why));
+}
+
+// Appends the words of a command that finds no open connection.
+fn push_not_open(page: &mut Page, command: &Command, why: Unopened)
+    requires { length page.old + LONGEST_RULE ≤ PAGE_SIZE }
+    ensures bytes { page.new ≡ page.old ++ rule_words (Rule.NotOpen command.now why) }
+    ensures len { length page.new ≤ length page.old + LONGEST_RULE }
+{
+    push_named(page, b"not-open ", command);
+    push_unopened(page, why);
+}
+
+// Appends the words of a text that finds no open connection.
+fn push_text_not_open(page: &mut Page, link: u8, why: Unopened)
+    requires { length page.old + LONGEST_RULE ≤ PAGE_SIZE }
+    ensures bytes { page.new ≡ page.old ++ rule_words (Rule.TextNotOpen link why) }
+    ensures len { length page.new ≤ length page.old + LONGEST_RULE }
+{
+    push_field(page, b"text-not-open link=", u32::from(link));
+    push_unopened(page, why);
+}
+
+// Appends two amounts.
+fn push_amounts(page: &mut Page, messages: u32, bits: u32)
+    requires { length page.old + 40 ≤ PAGE_SIZE }
+    ensures bytes { page.new ≡ page.old ++ two_amounts messages bits }
+    ensures len { length page.new ≤ length page.old + 40 }
+{
+    push_field(page, b" messages=", messages);
+    push_field(page, b" bits=", bits);
+}
+
+// Appends two amounts, each with what it is held against.
+fn push_amounts_of(page: &mut Page, messages: (u32, u32), bits: (u32, u32))
+    requires { length page.old + 64 ≤ PAGE_SIZE }
+    ensures bytes { page.new ≡ page.old ++ two_amounts_of messages.0 messages.1 bits.0 bits.1 }
+    ensures len { length page.new ≤ length page.old + 64 }
+{
+    push_field(page, b" messages=", messages.0);
+    push_field(page, b" of=", messages.1);
+    push_field(page, b" bits=", bits.0);
+    push_field(page, b" of=", bits.1);
+}
+
+// Appends the name of a rule, the command that breaks it, and two amounts.
+fn push_named_amounts(page: &mut Page, name: &[u8], command: &Command, messages: u32, bits: u32)
+    requires name { length name.now ≤ 12 }
+    requires room { length page.old + LONGEST_RULE ≤ PAGE_SIZE }
+    ensures bytes { page.new ≡ page.old ++ (name.now ++ command_words command.now ++ two_amounts messages bits) }
+    ensures len { length page.new ≤ length page.old + LONGEST_RULE }
+{
+    push_named(page, name, command);
+    push_amounts(page, messages, bits);
+}
+
+// Appends the words of an ALL after which more may be sent than at most.
+fn push_over_limit(page: &mut Page, command: &Command, messages: u32, bits: u32)
+    requires { length page.old + LONGEST_RULE ≤ PAGE_SIZE }
+    ensures bytes { page.new ≡ page.old ++ rule_words (Rule.OverLimit command.now messages bits) }
+    ensures len { length page.new ≤ length page.old + LONGEST_RULE }
+{
+    push_named(page, b"over-limit ", command);
+    push_amounts_of(page, (messages, 65_535), (bits, 65_536));
+}
+
+// Appends the words of a text of another byte size.
+fn push_text_size(page: &mut Page, link: u8, size: u8, asked: u8)
+    requires { length page.old + LONGEST_RULE ≤ PAGE_SIZE }
+    ensures bytes { page.new ≡ page.old ++ rule_words (Rule.TextSize link size asked) }
+    ensures len { length page.new ≤ length page.old + LONGEST_RULE }
+{
+    push_field(page, b"text-size link=", u32::from(link));
+    push_field(page, b" size=", u32::from(size));
+    push_field(page, b" of=", u32::from(asked));
+}
+
+// Appends the words of a text of more than is allocated.
+fn push_text_over(page: &mut Page, link: u8, messages: u32, bits: u32, of_bits: u32)
+    requires { length page.old + LONGEST_RULE ≤ PAGE_SIZE }
+    ensures bytes { page.new ≡ page.old ++ rule_words (Rule.TextOver link messages bits of_bits) }
+    ensures len { length page.new ≤ length page.old + LONGEST_RULE }
+{
+    push_field(page, b"text-over link=", u32::from(link));
+    push_amounts_of(page, (1, messages), (bits, of_bits));
+}
+
 /// Appends the words of a rule that was broken.
 pub(crate) fn push_rule(page: &mut Page, rule: &Rule)
     requires { length page.old + LONGEST_RULE ≤ PAGE_SIZE }
@@ -278,16 +395,44 @@ pub(crate) fn push_rule(page: &mut Page, rule: &Rule)
         Rule::Sex { ref command } => push_named(page, b"sex ", command),
         Rule::LinkRange { ref command } => push_named(page, b"link-range ", command),
         Rule::SizeZero { ref command } => push_named(page, b"size-zero ", command),
-        Rule::AskedAgain { ref command } => push_named(page, b"asked-again ", command),
-        Rule::Unended { ref command } => push_named(page, b"unended ", command),
+        Rule::AskedAgain { ref command, since } => {
+            push_since(page, b"asked-again ", command, since)
+        }
+        Rule::Unended { ref command, since } => push_since(page, b"unended ", command, since),
         Rule::LinkUsed {
             ref command,
             local,
             remote,
         } => push_link_used(page, command, local, remote),
         Rule::ClsUnknown { ref command } => push_named(page, b"cls-unknown ", command),
-        Rule::ClsAgain { ref command } => push_named(page, b"cls-again ", command),
+        Rule::ClsAgain { ref command, since } => push_since(page, b"cls-again ", command, since),
         Rule::TextOut { ref command, link } => push_text_out(page, command, link),
+        Rule::NotOpen { ref command, why } => push_not_open(page, command, why),
+        Rule::OverLimit {
+            ref command,
+            messages,
+            bits,
+        } => push_over_limit(page, command, messages, bits),
+        Rule::GvbAgain { ref command } => push_named(page, b"gvb-again ", command),
+        Rule::RetUnasked { ref command } => push_named(page, b"ret-unasked ", command),
+        Rule::RetOther {
+            ref command,
+            messages,
+            bits,
+        } => push_named_amounts(page, b"ret-other ", command, messages, bits),
+        Rule::RetOver {
+            ref command,
+            messages,
+            bits,
+        } => push_named_amounts(page, b"ret-over ", command, messages, bits),
+        Rule::TextNotOpen { link, why } => push_text_not_open(page, link, why),
+        Rule::TextSize { link, size, asked } => push_text_size(page, link, size, asked),
+        Rule::TextOver {
+            link,
+            messages,
+            bits,
+            of_bits,
+        } => push_text_over(page, link, messages, bits, of_bits),
     }
 }
 
@@ -314,7 +459,12 @@ pub(crate) fn is_standard(rule: &Rule) -> bool
         | Rule::AskedAgain { .. }
         | Rule::Unended { .. }
         | Rule::ClsUnknown { .. }
-        | Rule::ClsAgain { .. } => true,
+        | Rule::ClsAgain { .. }
+        | Rule::NotOpen { .. }
+        | Rule::RetOver { .. }
+        | Rule::TextNotOpen { .. }
+        | Rule::TextSize { .. }
+        | Rule::TextOver { .. } => true,
         Rule::Early { began, owes, .. } => began || owes,
         Rule::OwnHost { .. }
         | Rule::Kind { .. }
@@ -328,6 +478,10 @@ pub(crate) fn is_standard(rule: &Rule) -> bool
         | Rule::Skipped { .. }
         | Rule::EcoAgain { .. }
         | Rule::LinkUsed { .. }
-        | Rule::TextOut { .. } => false,
+        | Rule::TextOut { .. }
+        | Rule::OverLimit { .. }
+        | Rule::GvbAgain { .. }
+        | Rule::RetUnasked { .. }
+        | Rule::RetOther { .. } => false,
     }
 }

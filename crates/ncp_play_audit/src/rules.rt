@@ -96,7 +96,7 @@ pub const RULES: &[(&str, &str)] = &[
     ),
     (
         "err-unjust",
-        "An ERR is about a command that its receiver sent and that breaks a rule; its data are the first bytes of that command. The standard's (NIC 8246), its codes and data this project's. Look for that command before it. An ERR about ALL, GVB, RET, INR, INS or a text is not judged.",
+        "An ERR is about a command that its receiver sent and that breaks a rule; its data are the first bytes of that command. The standard's (NIC 8246), its codes and data this project's. Look for that command before it, or for a text with these bits.",
     ),
     (
         "sex",
@@ -133,6 +133,42 @@ pub const RULES: &[(&str, &str)] = &[
     (
         "text-out",
         "A host that sends closes after its last text is answered. This project's. Look at the link that is named.",
+    ),
+    (
+        "not-open",
+        "ALL, GVB and INR of the receiver, and RET and INS of the sender, name the link of an open connection. The standard's (NIC 8246). no-pair: no RTS gave the link; closed: its sender has sent its CLS; not-asked: not both have asked.",
+    ),
+    (
+        "over-limit",
+        "After an ALL a sender may send no more than 65,535 messages and 65,536 bits. This project's. Look at the two sums.",
+    ),
+    (
+        "gvb-again",
+        "A receiver that waits for a RET sends no second GVB. This project's. Look at its last GVB on the link.",
+    ),
+    (
+        "ret-unasked",
+        "A RET answers a GVB of its link. This project's: the standard admits one that nobody asked for. Look at the GVBs before it.",
+    ),
+    (
+        "ret-other",
+        "A RET gives back the parts that the GVB asks for, in 128ths rounded up. This project's. The numbers behind the command are those asked for; of the host at whose interface it is not seen, the most that it may give back.",
+    ),
+    (
+        "ret-over",
+        "A RET gives back no more than is allocated. The standard's (NIC 8246). The numbers behind the command are the most that may be left.",
+    ),
+    (
+        "text-not-open",
+        "A text goes out on the link of an open connection. The standard's (NIC 8246). no-pair: no RTS gave the link; closed: a CLS was sent; not-asked: not both have asked.",
+    ),
+    (
+        "text-size",
+        "The bytes of a text have the size of the sender's STR. The standard's (NIC 8246). Behind 'of' is the size that was asked for.",
+    ),
+    (
+        "text-over",
+        "A text takes one message and its bits of what is allocated. The standard's (NIC 8246). Behind each 'of' is what was left: of the host exactly, of the other at most.",
     ),
 ];
 
