@@ -93,9 +93,6 @@ pub record Became (p : Kept → Bool) (kept now here : List Kept) : Type 0 where
   pub others : (q : Kept → Bool) → Apart p q → filter q now ≡ filter q kept
   pub own : filter p now ≡ here
 
-pub stays : (p : Kept → Bool) (kept : List Kept) → Became p kept kept (filter p kept)
-stays p kept = record { others = λ q a. refl; own = refl }
-
 added : (p : Kept → Bool) (kept : List Kept) (x : Kept) → filter p kept ≡ [] → p x ≡ true → Became p kept (kept ++ x ∷ []) (x ∷ [])
 added p kept x n e = record {
   others = λ q a. filter_two q kept (x ∷ []) ∙ ap (λ (b : Bool). filter q kept ++ cond b (x ∷ []) []) (a x e) ∙ append-nil (filter q kept);

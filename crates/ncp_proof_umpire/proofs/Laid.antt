@@ -203,9 +203,6 @@ out_whole n m s is l k a = go (slot_at s.slots is.on) refl is.ready
     go (Travelling x) q e = absurd (cc)
     go (Held x) q e = absurd (cc)
 
-same_kept : (on : ℕ) (s t : PeerState) → ((m : List Bool) → kept_message (slot_at t.slots on) ≡ Some m → kept_message (slot_at s.slots on) ≡ Some m) → AllWhole s → (m : List Bool) → kept_message (slot_at t.slots on) ≡ Some m → Whole on m
-same_kept on s t f a m e = a on m (f m e)
-
 woken_kept : (slot : LinkSlot) → kept_message (woken slot) ≡ kept_message slot
 woken_kept Empty = refl
 woken_kept (Ready m) = refl

@@ -76,12 +76,21 @@ unsaid (Rule.ErrUnjust code bytes) e = refl
 unsaid (Rule.Sex c) e = refl
 unsaid (Rule.LinkRange c) e = refl
 unsaid (Rule.SizeZero c) e = refl
-unsaid (Rule.AskedAgain c) e = refl
-unsaid (Rule.Unended c) e = refl
+unsaid (Rule.AskedAgain c since) e = refl
+unsaid (Rule.Unended c since) e = refl
 unsaid (Rule.LinkUsed c local remote) e = refl
 unsaid (Rule.ClsUnknown c) e = refl
-unsaid (Rule.ClsAgain c) e = refl
+unsaid (Rule.ClsAgain c since) e = refl
 unsaid (Rule.TextOut c link) e = refl
+unsaid (Rule.NotOpen c why) e = refl
+unsaid (Rule.OverLimit c messages bits) e = refl
+unsaid (Rule.GvbAgain c) e = refl
+unsaid (Rule.RetUnasked c) e = refl
+unsaid (Rule.RetOther c messages bits) e = refl
+unsaid (Rule.RetOver c messages bits) e = refl
+unsaid (Rule.TextNotOpen link why) e = refl
+unsaid (Rule.TextSize link size asked) e = refl
+unsaid (Rule.TextOver link messages bits of_bits) e = refl
 
 leads : (ns : List ℕ) (me : ℕ) (h : Host) (umpire : Umpire) (message : List Bool) → Holds ns h → is_one_of me ns ≡ false → next_output h ≡ Some message
     → Pass (spares is_of_leader me) (record_findings umpire ToImp me message)

@@ -1,5 +1,5 @@
 -- What is seen at a host of its phase with a peer, through what goes out and what comes.
-use Rattle.std.proofs.Common.{◌≡◌, ◌≢◌, inl, inr, ℕ, ◌+◌, ◌≤◌, ◌<◌, ◌==◌, Bool, true, false, if◌then◌else◌, List, [], ◌∷◌, length, drop, take, All, Option, None, Some, Result, Ok, Err, option_to_list, get_or-set_same, get_or-set_other, length-set, refl, sym, ap, ◌∙◌, subst, arith}
+use Rattle.std.proofs.Common.{◌≡◌, ◌≢◌, inl, inr, ℕ, ◌+◌, ◌≤◌, ◌<◌, ◌==◌, Bool, true, false, if◌then◌else◌, List, [], ◌∷◌, length, drop, take, All, Option, None, Some, Result, Ok, Err, get_or-set_same, get_or-set_other, length-set, refl, sym, ap, ◌∙◌, subst, arith}
 use Rattle.std.proofs.lemmas.Bool.Decides.{eqb_tells}
 use Rattle.ncp_numbers.specs.Bytes.{bytes_of, bits_of_bytes}
 use Rattle.ncp_numbers.proofs.Packing.{bytes_of-bits_of_bytes}
@@ -50,8 +50,8 @@ use Rattle.ncp_umpire.specs.Tables.{index_of, view_in, with_view}
 use Rattle.ncp_umpire.specs.Views.{new_view}
 use Rattle.ncp_umpire.specs.Messages.{is_unused, judged_reading}
 use Rattle.ncp_umpire.specs.Phases.{early_finding, after_thing, items_findings, after_item, after_items, after_room, missing_finding}
-use Rattle.ncp_umpire.specs.Judged.{view_of, knows_zero, turn_at, is_roomy, items_said, after_read, said_findings, after_said}
-use Rattle.ncp_proof_umpire.proofs.Talking.{empty_pass, control_parted, Parts, text_found}
+use Rattle.ncp_umpire.specs.Judged.{view_of, knows_zero, turn_at, is_roomy, items_said, after_read, after_said}
+use Rattle.ncp_proof_umpire.proofs.Talking.{control_parted, Parts, text_parted}
 use Rattle.ncp_proof_umpire.proofs.HostSlots.{is_of_call}
 use Rattle.ncp_proof_umpire.proofs.Goes.{used}
 use Rattle.ncp_proof_umpire.proofs.Laid.{fitting_all}
@@ -350,13 +350,37 @@ heard_some m on t u e = go (sender_on on m) refl e
         let nay : true ≡ false = sym l.1 ∙ u on x.0 in
         absurd (cc)
 
+-- where a text goes out the host is up, and it is not early
+sends_up : (on : ℕ) (t : ℕ × List Bool) (p : Peer) (q : Bool) (v : View) → answer (cut_in on p.ends) ≡ Some t → Stands p q v → up p.phase ≡ true
+sends_up on t p q v cut k = go (up p.phase) refl
+  where
+    go : (b : Bool) → up p.phase ≡ b → b ≡ true
+    go true e = refl
+    go false e = absurd (heard_some p.ends on t (subst Unheard (sym (k.down e)) none_heard) cut)
+
+sends_none : (on : ℕ) (t : ℕ × List Bool) (p : Peer) (q : Bool) (v : View) → answer (cut_in on p.ends) ≡ Some t → Stands p q v → v.rests ≡ false → rrps p.phase.waiting ≡ 0
+sends_none on t p q v cut k r = none_of (rrps p.phase.waiting) (λ some. heard_some p.ends on t (k.unheard (sends_up on t p q v cut k) r some) cut)
+
+pub record TextOnTime (me : ℕ) (busy : Option ℕ) (zero : Bool) (p : Peer) (q : Bool) (v : View) : Type 0 where
+  pub up_is : up p.phase ≡ true
+  pub none : v.rests ≡ false → rrps p.phase.waiting ≡ 0
+  pub early : early_finding (record { by = me; sent = true; busy = busy; zero = zero }) Thing.Text v ≡ None
+  pub phased : Phased p.phase q (after_thing (record { by = me; sent = true; busy = busy; zero = zero }) Thing.Text v)
+
+pub text_on_time : (me on : ℕ) (busy : Option ℕ) (zero : Bool) (t : ℕ × List Bool) (p : Peer) (q : Bool) (v : View) → answer (cut_in on p.ends) ≡ Some t → Stands p q v → TextOnTime me busy zero p q v
+text_on_time me on busy zero t p q v cut k =
+    let up_is = sends_up on t p q v cut k in
+    let none = sends_none on t p q v cut k in
+    let w = text_goes me busy zero p.phase q v up_is none k.phased in
+    record { up_is = up_is; none = none; early = w.0; phased = w.1 }
+
 text_view : (me : ℕ) (busy : Option ℕ) (zero : Bool) (m : Message) (v : View) → is_unused m.leader.link ≡ false → (m.leader.link == 0) ≡ false → after_read (judged_reading m) (record { by = me; sent = true; busy = busy; zero = zero }) m.text v ≡ after_thing (record { by = me; sent = true; busy = busy; zero = zero }) Thing.Text v
 text_view me busy zero m v x y = rw (x, y) refl
 
 pub text_out : (A : Umpire) (me n on : ℕ) (t : ℕ × List Bool) (p : Peer) (q now : Bool) → length A.views ≡ VIEWS → me < 256 → n < 256 → is_one_of on links ≡ true → (on == 0) ≡ false → answer (cut_in on p.ends) ≡ Some t → Stands p q (view_of A me n)
     → Out A me n true (Ok (message_with (leader_to n on) t.0 t.1)) (cuts on p) now
 text_out A me n on t p q now l me_small n_small u z cut k = record {
-  none = λ P t. empty_pass P (said_findings A me n (turn_at A me n me true) true (Ok m)) (text_found A me n me true m (used on u) z ∙ ap option_to_list w.0);
+  none = λ P t. text_parted P A me n me true m (used on u) z w.early t;
   stands =
       subst (λ (x : View). Stands (cuts on p) now x)
       (sym (view_same A.views me n (after_read (judged_reading m) (record { by = me; sent = true; busy = busy_link me n A.kept; zero = knows_zero A me n }) m.text v) l me_small n_small ∙ text_view me (busy_link me n A.kept) (knows_zero A me n) m v (used on u) z))
@@ -369,18 +393,8 @@ text_out A me n on t p q now l me_small n_small u z cut k = record {
     v : View
     v = view_of A me n
 
-    up_is : up p.phase ≡ true
-    up_is = go (up p.phase) refl
-      where
-        go : (b : Bool) → up p.phase ≡ b → b ≡ true
-        go true e = refl
-        go false e = absurd (heard_some p.ends on t (subst Unheard (sym (k.down e)) none_heard) cut)
-
-    none : v.rests ≡ false → rrps p.phase.waiting ≡ 0
-    none r = none_of (rrps p.phase.waiting) (λ some. heard_some p.ends on t (k.unheard up_is r some) cut)
-
-    w : (early_finding (record { by = me; sent = true; busy = busy_link me n A.kept; zero = knows_zero A me n }) Thing.Text v ≡ None) × Phased p.phase q (after_thing (record { by = me; sent = true; busy = busy_link me n A.kept; zero = knows_zero A me n }) Thing.Text v)
-    w = text_goes me (busy_link me n A.kept) (knows_zero A me n) p.phase q v up_is none k.phased
+    w : TextOnTime me (busy_link me n A.kept) (knows_zero A me n) p q v
+    w = text_on_time me on (busy_link me n A.kept) (knows_zero A me n) t p q v cut k
 
     after : View
     after = after_thing (record { by = me; sent = true; busy = busy_link me n A.kept; zero = knows_zero A me n }) Thing.Text v
@@ -390,8 +404,8 @@ text_out A me n on t p q now l me_small n_small u z cut k = record {
 
     stands_after : Stands (cuts on p) now after
     stands_after = record {
-      phased = unquieted p.phase q now after up_is (λ r. none (rests r)) w.1;
-      settled = up_settled p.phase now up_is;
-      down = λ e. absurd (cc (up_is, e));
-      unheard = λ u r z. absurd (no_reply (rrps p.phase.waiting) (none (rests r)) z);
+      phased = unquieted p.phase q now after w.up_is (λ r. w.none (rests r)) w.phased;
+      settled = up_settled p.phase now w.up_is;
+      down = λ e. absurd (cc (w.up_is, e));
+      unheard = λ u r z. absurd (no_reply (rrps p.phase.waiting) (w.none (rests r)) z);
     }

@@ -63,7 +63,7 @@ use Rattle.ncp_umpire.specs.Phases.{early_finding, item_findings, after_item, it
 use Rattle.ncp_umpire.specs.Talked.{talk_of}
 use Rattle.ncp_umpire.specs.Judged.{new_umpire, sees, by_host, view_of, knows_zero, slot_of_link, same_of, is_fresh, out_rule, out_finding, fresh_out, view_after_out, umpire_after_out, with_answer, umpire_after_answer, judges_coming, with_coming, after_in, turn_at, is_roomy, items_said, control_findings, after_read, said_findings, after_said, record_findings, after_record}
 use Rattle.ncp_umpire.proofs.Passing.{Pass, goes_said}
-use Rattle.ncp_proof_umpire.proofs.Talking.{empty_pass, control_talk, control_parted, message_talk, Parts}
+use Rattle.ncp_proof_umpire.proofs.Talking.{control_talk, control_parted, message_talk, Parts, text_parted}
 use Rattle.ncp_umpire.proofs.Following.{Keeps, said_keeps, out_is, short_is, other_is, own_is, in_is, answer_is}
 use Rattle.ncp_proof_umpire.proofs.Leaders.{apart}
 use Rattle.ncp_proof_umpire.proofs.Shown.{Shows, allowed}
@@ -386,10 +386,6 @@ or_false : (b : Bool) → (b || false) ≡ b
 or_false true = refl
 or_false false = refl
 
-if_open : {A : Type 0} (b : Bool) (x y : A) → b ≡ false → (if b then x else y) ≡ y
-if_open true x y e = absurd (cc)
-if_open false x y e = refl
-
 -- what is read of a message of commands, and of a text
 
 pub control_read : (n : ℕ) (message : List Bool) (cs : List Command) → n < 256 → length (spellings cs) ≤ 120 → control_message n cs ≡ Some message → message_in message ≡ Ok (message_with (leader_to n 0) 8 (bits_of_bytes (spellings cs)))
@@ -689,13 +685,13 @@ untold_read : (P : Finding → Bool) (A : Umpire) (me n : ℕ) (m : Message) →
     → Pass P (message_talk A me n me true true (Ok m)) → Pass P (said_findings A me n (turn_at A me n me true) true (Ok m))
 untold_read P A me n m full whole = go (is_unused m.leader.link) (m.leader.link == 0) (m.size == 8) refl refl refl
   where
-    early : option_to_list (early_finding (turn_at A me n me true) Thing.Text (view_of A me n)) ≡ []
-    early = ap option_to_list (untold_text me (busy_link me n A.kept) (knows_zero A me n) (view_of A me n) (and_not (view_in A.views me n).told A.full full))
+    early : early_finding (turn_at A me n me true) Thing.Text (view_of A me n) ≡ None
+    early = untold_text me (busy_link me n A.kept) (knows_zero A me n) (view_of A me n) (and_not (view_in A.views me n).told A.full full)
 
     go : (x y z : Bool) → is_unused m.leader.link ≡ x → (m.leader.link == 0) ≡ y → (m.size == 8) ≡ z
         → Pass P (message_talk A me n me true true (Ok m)) → Pass P (said_findings A me n (turn_at A me n me true) true (Ok m))
     go true y z e f g = rw e (λ said. refl)
-    go false false z e f g = rw (e, f) (λ said. empty_pass P (option_to_list (early_finding (turn_at A me n me true) Thing.Text (view_of A me n))) early)
+    go false false z e f g = text_parted P A me n me true m e f early
     go false true true e f g = rw (e, f, g) (untold_control P A me n m.text full (whole f))
     go false true false e f g = rw (e, f, g) (λ said. refl)
 

@@ -89,7 +89,7 @@ is_of_link (Rule.Occupied link) = true
 is_of_link (Rule.Changed link) = true
 is_of_link other = false
 
--- of messages and the phase: each rule but those of requests, CLS, replies, ERR and echo
+-- of messages and the phase: each rule but those of what is said while two hosts are up
 abbrev pub is_of_messages_and_phase : Rule → Bool
 is_of_messages_and_phase (Rule.Short bits) = true
 is_of_messages_and_phase (Rule.OwnHost kind link) = true
@@ -122,13 +122,26 @@ is_of_requests_and_replies (Rule.ErrUnjust code bytes) = true
 is_of_requests_and_replies (Rule.Sex c) = true
 is_of_requests_and_replies (Rule.LinkRange c) = true
 is_of_requests_and_replies (Rule.SizeZero c) = true
-is_of_requests_and_replies (Rule.AskedAgain c) = true
-is_of_requests_and_replies (Rule.Unended c) = true
+is_of_requests_and_replies (Rule.AskedAgain c since) = true
+is_of_requests_and_replies (Rule.Unended c since) = true
 is_of_requests_and_replies (Rule.LinkUsed c local remote) = true
 is_of_requests_and_replies (Rule.ClsUnknown c) = true
-is_of_requests_and_replies (Rule.ClsAgain c) = true
+is_of_requests_and_replies (Rule.ClsAgain c since) = true
 is_of_requests_and_replies (Rule.TextOut c link) = true
 is_of_requests_and_replies other = false
+
+-- of allocation: what names a link, and a text, is on an open connection, and within what is allocated
+abbrev pub is_of_allocation : Rule → Bool
+is_of_allocation (Rule.NotOpen c why) = true
+is_of_allocation (Rule.OverLimit c messages bits) = true
+is_of_allocation (Rule.GvbAgain c) = true
+is_of_allocation (Rule.RetUnasked c) = true
+is_of_allocation (Rule.RetOther c messages bits) = true
+is_of_allocation (Rule.RetOver c messages bits) = true
+is_of_allocation (Rule.TextNotOpen link why) = true
+is_of_allocation (Rule.TextSize link size asked) = true
+is_of_allocation (Rule.TextOver link messages bits of_bits) = true
+is_of_allocation other = false
 
 -- ---- in a file with records of other interfaces too, each with the number of its host
 

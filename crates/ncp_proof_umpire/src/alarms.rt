@@ -1,5 +1,5 @@
 //! The rules that no host is found to break at its own interface.
-ghost use Rattle.std.specs.Prelude.{◌≡◌, ◌∷◌, [], not, true, false, Some};
+ghost use Rattle.std.specs.Prelude.{◌≡◌, ◌∷◌, [], ◌&&◌, ◌||◌, not, true, false, Some};
 ghost use Rattle.std.specs.List.{list_all};
 ghost use Rattle.ncp_transcript_two.specs.Between.{new_hosts};
 ghost use Rattle.ncp_proof_runs.specs.Examples.{message_on_0};
@@ -7,7 +7,7 @@ ghost use Rattle.ncp_umpire.specs.declared.way.Way.TheVariants.{FromImp};
 ghost use Rattle.ncp_umpire.specs.declared.finding.Rule.{Rule};
 ghost use Rattle.ncp_umpire.specs.declared.finding.Thing.{Thing};
 ghost use Rattle.ncp_umpire.specs.Judged.{new_umpire, by_host};
-ghost use Rattle.ncp_proof_umpire.specs.Recordings.{recording, findings_from, spares, at_interface, found_at, NothingComingBlames, NoFalseAlarm, NobodyBlamed, is_of_leader, is_of_link, is_of_messages_and_phase, is_of_requests_and_replies};
+ghost use Rattle.ncp_proof_umpire.specs.Recordings.{recording, findings_from, spares, at_interface, found_at, NothingComingBlames, NoFalseAlarm, NobodyBlamed, is_of_leader, is_of_link, is_of_messages_and_phase, is_of_requests_and_replies, is_of_allocation};
 ghost use Rattle.ncp_proof_umpire.specs.Worlds.{comes_to, world_file, NeitherBlamed};
 ghost use Rattle.ncp_proof_umpire.specs.Examples.{too_short, both_short, no_command, wrong_resets, two_at_once, lost_given, lost_noted, lost_seen, once_more, goes_of_two, noted_of_two, file_of_two};
 
@@ -40,10 +40,11 @@ pub fn neither_of_two_is_blamed()
     ensures { NeitherBlamed is_of_messages_and_phase }
 {}
 
-/// The rules of which these laws speak are all but those of requests, CLS, replies, ERR and echo: each rule is of one of the
-/// two kinds.
+/// The rules of which these laws speak are all but those of requests, CLS, replies, ERR and echo, and of allocation: each rule
+/// is of one of the three kinds.
 pub fn each_rule_is_of_one_kind()
-    ensures { (rule : Rule) → is_of_messages_and_phase rule ≡ not (is_of_requests_and_replies rule) }
+    ensures one { (rule : Rule) → is_of_messages_and_phase rule ≡ not (is_of_requests_and_replies rule || is_of_allocation rule) }
+    ensures apart { (rule : Rule) → (is_of_requests_and_replies rule && is_of_allocation rule) ≡ false }
 {}
 
 /// That these laws speak of something: what goes out and what comes is recorded; a message that is no whole leader is found,

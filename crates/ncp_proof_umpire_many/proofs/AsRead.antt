@@ -137,10 +137,3 @@ in_full u at peer on = go (judges_coming u at peer)
     go : (b : Bool) → (if b then record u { kept = with_coming u.kept (place_of peer at on u.kept) } else u).full ≡ u.full
     go true = refl
     go false = refl
-
--- the view of another interface
-pub view_far : (views : List View) (at peer me n : ℕ) (v : View) → at ≢ me → at < 256 → peer < 256 → me < 256 → n < 256 → view_in (with_view views at peer v) me n ≡ view_in views me n
-view_far views at peer me n v d k p l s = get_or-set_other views (index_of at peer) (index_of me n) v (new_view false) (λ e. d (rows at peer me n p s e))
-  where
-    rows : (at peer me n : ℕ) → peer < 256 → n < 256 → index_of me n ≡ index_of at peer → at ≡ me
-    rows at peer me n p s e = omega (arith, e, p, s)

@@ -22,7 +22,7 @@ use Rattle.ncp_umpire.specs.Messages.{is_unused, judged_reading, rule_of_message
 use Rattle.ncp_umpire.specs.Phases.{early_finding, items_findings, after_items}
 use Rattle.ncp_umpire.specs.Judged.{by_host, sees, view_of, knows_zero, unsent_finding, after_in, turn_at, after_read, said_findings, message_findings, after_said, record_findings, after_record}
 use Rattle.ncp_umpire.proofs.Passing.{Pass}
-use Rattle.ncp_proof_umpire.proofs.Talking.{empty_pass, text_found}
+use Rattle.ncp_proof_umpire.proofs.Talking.{text_parted}
 use Rattle.ncp_umpire.proofs.Following.{in_is, said_keeps}
 use Rattle.ncp_proof_umpire.proofs.PhaseSeen.{view_same}
 use Rattle.ncp_proof_umpire_many.proofs.Quiet.{phase_quiet, quiet_talk}
@@ -101,7 +101,7 @@ module _ (me n on : ℕ) (bits : List Bool) (x : Message) (u : Umpire) (differ :
   -- a text
   pub text_none : is_unused x.leader.link ≡ false → (x.leader.link == 0) ≡ false → (u.full ≡ false → early_finding (record { by = n; sent = false; busy = busy; zero = knows_zero A me n }) Thing.Text first ≡ None)
       → Pass phase_quiet (record_findings u FromImp me bits)
-  text_none right z none = empty_pass phase_quiet (record_findings u FromImp me bits) (found ∙ text_found A me n n false x right z ∙ ap option_to_list (go u.full refl))
+  text_none right z none = subst (Pass phase_quiet) (sym found) (text_parted phase_quiet A me n n false x right z (go u.full refl) (quiet_talk A me n n false true (Ok x)))
     where
       go : (b : Bool) → u.full ≡ b → early_finding (record { by = n; sent = false; busy = busy; zero = knows_zero A me n }) Thing.Text first ≡ None
       go false f = none f
