@@ -1,0 +1,9 @@
+//! What is allocated and due between two hosts, as it is seen at the interface of one, beside what that host has: the numbers
+//! of its connections after the commands that wait are those that it counts, and what it owes is what waits.
+//!
+//! - *Use:* that no host is blamed at its own interface rests on it (`ncp_proof_umpire_talk`).
+//! - *Proved:* the law of `errors`, and lemmas for the crates above.
+//! - *Tests:* what is found of wrong hosts is in `audits` of `ncp_test_files`.
+#![tactic(auto)]
+
+pub mod errors;
