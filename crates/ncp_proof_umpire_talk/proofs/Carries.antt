@@ -11,7 +11,7 @@ use Rattle.ncp_proof_progress.specs.Idle.{LeavingAt}
 use Rattle.ncp_host.specs.Soundness.{Agree}
 use Rattle.ncp_umpire.specs.declared.kept.Kept.{Kept}
 use Rattle.ncp_umpire.specs.Requests.{is_busy_on}
-use Rattle.ncp_proof_umpire_talk.proofs.Proper.{AllProper, ProperEnds}
+use Rattle.ncp_proof_umpire_seen.proofs.Proper.{AllProper, ProperEnds}
 use Rattle.ncp_proof_umpire_talk.proofs.BusySlots.{BusySlots}
 
 -- no reset is due

@@ -132,27 +132,6 @@ called_borne (Call.Waiting peer place) s sound used k = k
 called_borne (Call.Kept peer link) s sound used k = k
 called_borne Call.Ignored s sound used k = k
 
-pub called_used : (call : Call) (s : PeerState) → LinksUsed s.slots → LinksUsed (called_for call s).slots
-called_used (Call.Wake peer) s used = λ on e. used on (sym (still_empty (slot_at s.slots on)) ∙ ap is_empty (sym (slot_at-all_woken s.slots on)) ∙ e)
-called_used (Call.Reset peer) s used = used
-called_used (Call.AskSend peer local remote size room) s used = used
-called_used (Call.AskReceive peer local remote room) s used = used
-called_used (Call.Give peer pair text) s used = used
-called_used (Call.Take peer pair bytes) s used = used
-called_used (Call.Allocate peer pair messages bits) s used = used
-called_used (Call.CallBack peer pair messages bits) s used = used
-called_used (Call.Interrupt peer pair) s used = used
-called_used (Call.Echo peer byte) s used = used
-called_used (Call.Close peer pair) s used = used
-called_used (Call.State peer pair) s used = used
-called_used (Call.Phase peer) s used = used
-called_used (Call.Echoed peer) s used = used
-called_used (Call.Errors peer) s used = used
-called_used (Call.Counts peer) s used = used
-called_used (Call.Waiting peer place) s used = used
-called_used (Call.Kept peer link) s used = used
-called_used Call.Ignored s used = used
-
 -- ---- a message comes
 
 all_borne : (cs : List Command) (s : PeerState) → SoundEnds s.peer.ends → LinksUsed s.slots → Borne s.peer s.slots → Borne (state_hears_all cs s).peer (state_hears_all cs s).slots
@@ -205,13 +184,6 @@ filled_again slots on slot was by e = elim (eqb_tells by on) [
 -- all others have what they had
 elsewhere_filled : (slots : LinkSlots) (on : ℕ) (slot : LinkSlot) (by : ℕ) → ((by ≡ on) → ⊥) → is_empty (slot_at (with_slot slots on slot) by) ≡ false → is_empty (slot_at slots by) ≡ false
 elsewhere_filled slots on slot by d e = ap is_empty (sym (slot_at-with_slot_other slots on slot by d)) ∙ e
-
-pub answer_used : (on : ℕ) (how : Answer) (s : PeerState) → LinksUsed s.slots → LinksUsed (answer_comes on how s).slots
-answer_used on how s used = go (is_answered on s) refl
-  where
-    go : (b : Bool) → is_answered on s ≡ b → LinksUsed (if b then answer_taken on how s else record s { counts = record s.counts { stray = one_more s.counts.stray } }).slots
-    go true t = λ by e. used by (filled_again s.slots on (answered how (slot_at s.slots on)) (unempty (slot_at s.slots on) t) by e)
-    go false t = used
 
 answer_borne : (on : ℕ) (how : Answer) (s : PeerState) → SoundEnds s.peer.ends → LinksUsed s.slots → Borne s.peer s.slots → Borne (answer_comes on how s).peer (answer_comes on how s).slots
 answer_borne on how s sound used k = go (is_answered on s) refl

@@ -30,18 +30,18 @@ use Rattle.ncp_umpire.proofs.LinkOrder.{Sockets, about}
 use Rattle.ncp_umpire.proofs.Firsts.{first, Unique}
 use Rattle.ncp_umpire.proofs.BooksAt.{has_sockets, life_first}
 use Rattle.ncp_umpire.proofs.Seeing.{of_life, seen}
-use Rattle.ncp_proof_umpire_talk.proofs.KeptEnds.{of_end, kept, number_if}
-use Rattle.ncp_proof_umpire_talk.proofs.OwnMoves.{all_says, sockets_of}
-use Rattle.ncp_proof_umpire_talk.proofs.Tallies.{same_self}
-use Rattle.ncp_proof_umpire_talk.proofs.Changed.{pair_at, kept_of}
-use Rattle.ncp_proof_umpire_talk.proofs.SeenBooks.{life_seen, seen_of, is_resting, rests_of}
-use Rattle.ncp_proof_umpire_talk.proofs.Users.{first_passes, found_at_first}
-use Rattle.ncp_proof_umpire_talk.proofs.Meets.{Meets}
-use Rattle.ncp_proof_umpire_talk.proofs.Untaken.{Held}
-use Rattle.ncp_proof_umpire_talk.proofs.TidyBooks.{passed_over, each_first, OnDataLink, Tidy}
+use Rattle.ncp_proof_umpire_seen.proofs.KeptEnds.{of_end, kept, number_if}
+use Rattle.ncp_proof_umpire_seen.proofs.OwnMoves.{all_says, sockets_of}
+use Rattle.ncp_proof_umpire_seen.proofs.Tallies.{same_self}
+use Rattle.ncp_proof_umpire_seen.proofs.Changed.{pair_at, kept_of}
+use Rattle.ncp_proof_umpire_seen.proofs.SeenBooks.{life_seen, seen_of, is_resting, rests_of}
+use Rattle.ncp_proof_umpire_seen.proofs.Users.{first_passes, found_at_first}
+use Rattle.ncp_proof_umpire_seen.proofs.Meets.{Meets}
+use Rattle.ncp_proof_umpire_seen.proofs.Untaken.{Held}
+use Rattle.ncp_proof_umpire_seen.proofs.TidyBooks.{passed_over, each_first, OnDataLink, Tidy}
 use Rattle.ncp_proof_umpire_talk.proofs.BusySlots.{HasText, BusySlots}
-use Rattle.ncp_proof_umpire_talk.proofs.Proper.{ProperEnds}
-use Rattle.ncp_proof_umpire_talk.proofs.Came.{has_come, Came, left_since, kept_there}
+use Rattle.ncp_proof_umpire_seen.proofs.Proper.{ProperEnds}
+use Rattle.ncp_proof_umpire_seen.proofs.Came.{has_come, Came, left_since, kept_there}
 use Rattle.ncp_proof_umpire_talk.proofs.Carries.{ShowsBusy}
 
 -- two of a list that pass a test, which one passes at most, are one

@@ -1,43 +1,54 @@
 -- What the host says, and goes out, breaks no rule, and what was said goes on meeting what it keeps. If nothing waits, it has
 -- left nothing out.
-use Rattle.std.proofs.Common.{◌≡◌, ℕ, Bool, true, false, not, ◌&&◌, ◌||◌, if◌then◌else◌, List, [], ◌∷◌, Option, None, Some, inl, inr, refl, ap, ◌∙◌}
+use Rattle.std.proofs.Common.{◌≡◌, ℕ, ◌==◌, Bool, true, false, not, ◌&&◌, ◌||◌, if◌then◌else◌, List, [], ◌∷◌, ◌++◌, Option, None, Some, refl, sym, ap, ◌∙◌}
 use Rattle.std.specs.FinMap.{get}
 use Rattle.std.proofs.lemmas.Bool.{and_parts}
 use Rattle.ncp_terms.specs.declared.command.Command.{Command}
 use Rattle.ncp_terms.specs.declared.command.Command.TheVariants.{Nop, Rts, Str, Cls, Gvb, Ret, Inr, Ins, Eco, Erp, Err, Rst, Rrp}
 use Rattle.ncp_slot.specs.Slots.{LinkSlots}
 use Rattle.ncp_model.specs.declared.pair.Pair.{Pair}
-use Rattle.ncp_model.specs.Ends.{Ends}
+use Rattle.ncp_model.specs.Ends.{Ends, link_of}
 use Rattle.ncp_proof_machine.proofs.EndsGood.{Good}
 use Rattle.ncp_proof_progress.specs.Idle.{LeavingAt}
 use Rattle.ncp_host.specs.Soundness.{Agree}
 use Rattle.ncp_umpire.specs.declared.finding.Rule.{Rule}
 use Rattle.ncp_umpire.specs.declared.kept.Kept.{Kept}
-use Rattle.ncp_umpire.specs.declared.life.Life.{Life}
+use Rattle.ncp_umpire.specs.declared.life.Mark.{Mark}
 use Rattle.ncp_umpire.specs.declared.life.Request.{Request}
 use Rattle.ncp_umpire.specs.declared.life.Request.TheVariants.{Link, Size}
+use Rattle.ncp_umpire.specs.declared.life.Topic.{Topic}
 use Rattle.ncp_umpire.specs.declared.talk.Talk.{Talk}
-use Rattle.ncp_umpire.specs.declared.talk.Verdict.TheVariants.{Right, Refused, Unclear}
-use Rattle.ncp_umpire.specs.Lives.{SeenBooks, is_senders, has_sent_cls, life_of}
-use Rattle.ncp_umpire.specs.Replies.{is_about_link}
-use Rattle.ncp_umpire.specs.Requests.{broken, is_of_sexes, range_rule, link_rests, left_verdict, request_verdict, link_out_rule, text_out_rule, cls_rule}
-use Rattle.ncp_umpire.specs.Speaking.{reply_rule, command_rule, books_after_command, reply_left_out, cls_left_out, after_all_said}
-use Rattle.ncp_umpire.proofs.Shapes.{Ask, Leave}
-use Rattle.ncp_umpire.proofs.LinkOrder.{Sockets}
-use Rattle.ncp_umpire.proofs.BooksAt.{life_first}
+use Rattle.ncp_umpire.specs.declared.talk.Verdict.TheVariants.{Refused}
+use Rattle.ncp_umpire.specs.Lives.{SeenBooks, is_senders, life_of, same_topic, is_topic, is_marked}
+use Rattle.ncp_umpire.specs.Allocation.{number_rules}
+use Rattle.ncp_umpire.specs.Requests.{broken, is_of_sexes, range_rule, left_verdict, request_verdict, text_out_rule, cls_rule}
+use Rattle.ncp_umpire.specs.Texts.{is_error_admitted}
+use Rattle.ncp_umpire.specs.Speaking.{reply_rule, command_rule, books_after_command, reply_left_out, cls_left_out, is_admission_of, is_admission, after_all_said}
+use Rattle.ncp_umpire.proofs.Shapes.{Say, Ask, Leave}
+use Rattle.ncp_umpire.proofs.LinkOrder.{Sockets, about}
 use Rattle.ncp_umpire.proofs.Seeing.{is_of, number_in}
-use Rattle.ncp_proof_umpire_talk.proofs.OwnMoves.{says_of}
-use Rattle.ncp_proof_umpire_talk.proofs.SeenBooks.{life_seen, is_resting, rests_of}
-use Rattle.ncp_proof_umpire_talk.proofs.Meets.{Meets, is_judged_reply, hidden_verdict, ask_right, right_leave}
-use Rattle.ncp_proof_umpire_talk.proofs.Replying.{own_reply_right}
-use Rattle.ncp_proof_umpire_talk.proofs.Echoing.{Echoing, eco_right, eco_goes}
-use Rattle.ncp_proof_umpire_talk.proofs.Went.{MayGo, goes}
-use Rattle.ncp_proof_umpire_talk.proofs.AllGo.{none_left_out, all_said_meets}
-use Rattle.ncp_proof_umpire_talk.proofs.OtherMarks.{others_echo}
-use Rattle.ncp_proof_umpire_talk.proofs.TidyBooks.{Tidy}
-use Rattle.ncp_proof_umpire_talk.proofs.Proper.{has_right_parts, AllProper, ProperEnds, rts_range, str_range}
+use Rattle.ncp_proof_umpire_seen.proofs.OwnMoves.{says_of, all_says}
+use Rattle.ncp_proof_umpire_seen.proofs.Changed.{pair_at}
+use Rattle.ncp_proof_umpire_seen.proofs.Meets.{Meets}
+use Rattle.ncp_proof_umpire_counts.proofs.TextErrors.{is_text_error}
+use Rattle.ncp_proof_umpire_counts.proofs.CallsCounted.{proper_sex}
+use Rattle.ncp_proof_umpire_counts.proofs.Owed.{Gives}
+use Rattle.ncp_proof_umpire_counts.proofs.OwedSteps.{own_reply_right, owed_all_said}
+use Rattle.ncp_proof_umpire_counts.proofs.Counted.{counted_unsaid}
+use Rattle.ncp_proof_umpire_counts.proofs.PlainSteps.{kept_marks, said_links, plain_all_said}
+use Rattle.ncp_proof_umpire_seen.proofs.Echoing.{Echoing, eco_right, eco_goes}
+use Rattle.ncp_proof_umpire_counts.proofs.Went.{AskOut, AskHidden, AskRight, ask_out, LeaveOut, LeaveHidden, LeaveRight, leave_out, MayGo, silent_goes, goes}
+use Rattle.ncp_proof_umpire_counts.proofs.GoesCounted.{goes_counted}
+use Rattle.ncp_proof_umpire_counts.proofs.AllGo.{none_left_out, all_said_meets}
+use Rattle.ncp_proof_umpire_seen.proofs.OtherMarks.{others_echo}
+use Rattle.ncp_proof_umpire_seen.proofs.TidyBooks.{Tidy}
+use Rattle.ncp_proof_umpire_seen.proofs.Proper.{has_right_parts, ProperEnds, rts_range, str_range}
 use Rattle.ncp_proof_umpire_talk.proofs.BusySlots.{BusySlots}
-use Rattle.ncp_proof_umpire_talk.proofs.BooksGo.{books_go, goes_held, goes_came}
+use Rattle.ncp_proof_umpire_counts.proofs.BooksGo.{books_go, goes_held, goes_came}
+use Rattle.ncp_proof_umpire_talk.proofs.ToldSteps.{echo_told, came_same}
+use Rattle.ncp_proof_umpire_seen.proofs.Came.{asks_in}
+use Rattle.ncp_proof_umpire_counts.proofs.SameShapes.{shapes_meets, shapes_held, shapes_came}
+use Rattle.ncp_proof_umpire_counts.proofs.OwnLinks.{NamedOut, named_out}
 use Rattle.ncp_proof_umpire_talk.proofs.Closings.{no_text_out, no_cls_left}
 use Rattle.ncp_proof_umpire_talk.proofs.Spoken.{Tells}
 use Rattle.ncp_proof_umpire_talk.proofs.Carries.{ShowsBusy}
@@ -48,124 +59,229 @@ module _ (me n : ℕ) (m : Ends) where
 
   -- ---- by what is seen
 
-  right_asked : (c : Command) (w : List Command) (p : Sockets) (request : Request) (right : Bool) (b : SeenBooks) → right ≡ true → says_of c ≡ (p, Ask (number_in request)) ∷ [] → is_judged_reply c ≡ false
+  right_asked : (c : Command) (w : List Command) (p : Sockets) (request : Request) (right : Bool) (b : SeenBooks) → right ≡ true → says_of c ≡ (p, Ask (number_in request)) ∷ []
       → is_of (is_senders p.0) true request ≡ true → range_rule c request ≡ None → Meets me n m (c ∷ w) b → broken (request_verdict saying c p.0 p.1 right request b) ≡ None
-  right_asked c w p request false b e said plain sex range meets = absurd (cc e)
-  right_asked c w p request true b e said plain sex range meets = go (rests_of me n b p) (link_rests saying request b) refl refl
+  right_asked c w p request false b e said sex range meets = absurd (cc e)
+  right_asked c w p request true b e said sex range meets = go (ask_out me n m c w p request b said sex range meets)
     where
-      go : (r k : Bool) → rests_of me n b p ≡ r → link_rests saying request b ≡ k → broken (request_verdict saying c p.0 p.1 true request b) ≡ None
-      go true k x y = ap broken (hidden_verdict me n m c w p request b said plain range (inl x))
-      go false true x y = ap broken (hidden_verdict me n m c w p request b said plain range (inr y))
-      go false false x y = ap broken (ask_right me n m c w p request b said sex range x y meets)
+      go : AskOut me n m c p request b → broken (request_verdict saying c p.0 p.1 true request b) ≡ None
+      go (AskHidden h is) = ap broken is
+      go (AskRight x y is) = ap broken is
 
-  right_left : (c : Command) (w : List Command) (p : Sockets) (kept : List Kept) (b : SeenBooks) → says_of c ≡ (p, Leave) ∷ [] → is_judged_reply c ≡ false → text_out_rule saying c kept b (life_of me n p.0 p.1 b.lives) ≡ None
+  right_left : (c : Command) (w : List Command) (p : Sockets) (kept : List Kept) (b : SeenBooks) → says_of c ≡ (p, Leave) ∷ [] → text_out_rule saying c kept b (life_of me n p.0 p.1 b.lives) ≡ None
       → Meets me n m (c ∷ w) b → cls_rule saying c p.0 p.1 kept b (left_verdict saying c (life_of me n p.0 p.1 b.lives)) ≡ None
-  right_left c w p kept b said plain out meets = go (rests_of me n b p) refl
+  right_left c w p kept b said out meets = go (leave_out me n m c w p b said meets)
     where
-      hidden : (o : Option Life) → is_resting o ≡ true → left_verdict saying c o ≡ Unclear None
-      hidden None r = absurd (cc r)
-      hidden (Some life) r = ap (λ (x : Bool). if x then Unclear None else if has_sent_cls life true then Unclear (Some (Rule.ClsAgain c)) else Right) r
+      go : LeaveOut me n m c p b → cls_rule saying c p.0 p.1 kept b (left_verdict saying c (life_of me n p.0 p.1 b.lives)) ≡ None
+      go (LeaveHidden r is) = ap (cls_rule saying c p.0 p.1 kept b) is
+      go (LeaveRight r is) = ap (cls_rule saying c p.0 p.1 kept b) is ∙ out
 
-      go : (r : Bool) → rests_of me n b p ≡ r → cls_rule saying c p.0 p.1 kept b (left_verdict saying c (life_of me n p.0 p.1 b.lives)) ≡ None
-      go true r = ap (cls_rule saying c p.0 p.1 kept b) (ap (left_verdict saying c) (life_first me n p.0 p.1 b.lives) ∙ hidden (life_seen me n b p) r)
-      go false r = let k = right_leave me n m c w p b said plain r meets in ap (cls_rule saying c p.0 p.1 kept b) k.right ∙ out
-
-  -- if nothing is kept of messages, none is out
-  none_kept : (c : Command) (b : SeenBooks) (o : Option Life) → text_out_rule saying c [] b o ≡ None
-  none_kept c b None = refl
-  none_kept c b (Some life) = go (is_senders life.local) life.link
+  -- an own ERR is admitted if it is about a text, and only then
+  error_may : (code : ℕ) (shown : List ℕ) (awaited : Bool) (w : List Command) (b : SeenBooks) → Tells me n m awaited (Err code shown ∷ w) b → is_error_admitted saying code shown b ≡ is_text_error (Err code shown)
+  error_may code shown awaited w b t = go (is_text_error (Err code shown)) refl
     where
-      go : (x : Bool) (o : Option ℕ) → (if true && x then link_out_rule saying c [] b o else None) ≡ None
-      go true None = refl
-      go true (Some link) = refl
-      go false o = refl
+      go : (x : Bool) → is_text_error (Err code shown) ≡ x → is_error_admitted saying code shown b ≡ x
+      go true e = ap (λ (x : Bool). x && is_marked me n (Topic.Admits true shown) b) e ∙ t.counted.admitted.0 e
+      go false e = ap (λ (x : Bool). x && is_marked me n (Topic.Admits true shown) b) e
 
-  may_go : (c : Command) (w : List Command) (awaited : Bool) (b : SeenBooks) → has_right_parts c ≡ true → Echoing me n awaited (c ∷ w) b → MayGo me n m [] b c
-  may_go (Rts receive send link) w awaited b p e = rts_range receive send link p
-  may_go (Str send receive size) w awaited b p e = str_range send receive size p
-  may_go (Cls my your) w awaited b p e = (p, none_kept (Cls my your) b (life_of me n my your b.lives))
-  may_go (Eco byte) w awaited b p e = eco_right me n byte awaited w b e
-  may_go (Erp byte) w awaited b p e = tt
-  may_go (Err code shown) w awaited b p e = tt
-  may_go Nop w awaited b p e = tt
-  may_go (Command.All link messages bits) w awaited b p e = tt
-  may_go (Gvb link fm fb) w awaited b p e = tt
-  may_go (Ret link messages bits) w awaited b p e = tt
-  may_go (Inr link) w awaited b p e = tt
-  may_go (Ins link) w awaited b p e = tt
-  may_go Rst w awaited b p e = tt
-  may_go Rrp w awaited b p e = tt
+  echo_goes : (c : Command) (w : List Command) (awaited : Bool) (kept : List Kept) (b : SeenBooks) → (books_after_command saying kept c b).full ≡ false → Echoing me n awaited (c ∷ w) b → Echoing me n awaited w (books_after_command saying kept c b)
+  echo_goes (Eco byte) w awaited kept b room e = eco_goes me n byte awaited w b room e
+  echo_goes (Rts receive send link) w awaited kept b room e = others_echo me n awaited kept (Rts receive send link) w b refl e
+  echo_goes (Str send receive size) w awaited kept b room e = others_echo me n awaited kept (Str send receive size) w b refl e
+  echo_goes (Cls my your) w awaited kept b room e = others_echo me n awaited kept (Cls my your) w b refl e
+  echo_goes (Erp byte) w awaited kept b room e = others_echo me n awaited kept (Erp byte) w b refl e
+  echo_goes (Err code shown) w awaited kept b room e = others_echo me n awaited kept (Err code shown) w b refl e
+  echo_goes Nop w awaited kept b room e = others_echo me n awaited kept Nop w b refl e
+  echo_goes (Command.All link messages bits) w awaited kept b room e = others_echo me n awaited kept (Command.All link messages bits) w b refl e
+  echo_goes (Gvb link fm fb) w awaited kept b room e = others_echo me n awaited kept (Gvb link fm fb) w b refl e
+  echo_goes (Ret link messages bits) w awaited kept b room e = others_echo me n awaited kept (Ret link messages bits) w b refl e
+  echo_goes (Inr link) w awaited kept b room e = others_echo me n awaited kept (Inr link) w b refl e
+  echo_goes (Ins link) w awaited kept b room e = others_echo me n awaited kept (Ins link) w b refl e
+  echo_goes Rst w awaited kept b room e = others_echo me n awaited kept Rst w b refl e
+  echo_goes Rrp w awaited kept b room e = others_echo me n awaited kept Rrp w b refl e
 
-  echo_goes : (c : Command) (w : List Command) (awaited : Bool) (b : SeenBooks) → (books_after_command saying c b).full ≡ false → Echoing me n awaited (c ∷ w) b → Echoing me n awaited w (books_after_command saying c b)
-  echo_goes (Eco byte) w awaited b room e = eco_goes me n byte awaited w b room e
-  echo_goes (Rts receive send link) w awaited b room e = others_echo me n awaited (Rts receive send link) w b refl e
-  echo_goes (Str send receive size) w awaited b room e = others_echo me n awaited (Str send receive size) w b refl e
-  echo_goes (Cls my your) w awaited b room e = others_echo me n awaited (Cls my your) w b refl e
-  echo_goes (Erp byte) w awaited b room e = others_echo me n awaited (Erp byte) w b refl e
-  echo_goes (Err code shown) w awaited b room e = others_echo me n awaited (Err code shown) w b refl e
-  echo_goes Nop w awaited b room e = others_echo me n awaited Nop w b refl e
-  echo_goes (Command.All link messages bits) w awaited b room e = others_echo me n awaited (Command.All link messages bits) w b refl e
-  echo_goes (Gvb link fm fb) w awaited b room e = others_echo me n awaited (Gvb link fm fb) w b refl e
-  echo_goes (Ret link messages bits) w awaited b room e = others_echo me n awaited (Ret link messages bits) w b refl e
-  echo_goes (Inr link) w awaited b room e = others_echo me n awaited (Inr link) w b refl e
-  echo_goes (Ins link) w awaited b room e = others_echo me n awaited (Ins link) w b refl e
-  echo_goes Rst w awaited b room e = others_echo me n awaited Rst w b refl e
-  echo_goes Rrp w awaited b room e = others_echo me n awaited Rrp w b refl e
+-- ---- a command that names no link goes out
 
--- ---- a command goes out
+module _ (me n : ℕ) (m : Ends) (awaited : Bool) (slots : LinkSlots) (w : List Command) (kept : List Kept) (b : SeenBooks) (good : Good m) (proper : ProperEnds m) (busy : BusySlots m slots) (shows : ShowsBusy me n kept slots) (tidy : Tidy b) where
+  abbrev us_saying : Talk
+  us_saying = record { at = me; peer = n; sent = true }
 
-pub says_right : (me n : ℕ) (c : Command) (m : Ends) (awaited : Bool) (slots : LinkSlots) (w : List Command) (kept : List Kept) (b : SeenBooks) → Good m → AllProper (c ∷ w) → BusySlots m slots → ShowsBusy me n kept slots → Tidy b
-    → Tells me n m awaited (c ∷ w) b → command_rule (record { at = me; peer = n; sent = true }) kept c b ≡ None
-says_right me n (Rts receive send link) m awaited slots w kept b good p busy shows tidy t =
-    let k = rts_range receive send link p.0 in
-    right_asked me n m (Rts receive send link) w (receive, send) (Link link) (is_of_sexes receive send) b k.0 refl refl (and_parts (not (is_senders receive)) (is_senders send) k.0).0 k.1 t.meets
-says_right me n (Str send receive size) m awaited slots w kept b good p busy shows tidy t =
-    let k = str_range send receive size p.0 in
-    right_asked me n m (Str send receive size) w (send, receive) (Size size) (is_of_sexes receive send) b k.0 refl refl (and_parts (not (is_senders receive)) (is_senders send) k.0).1 k.1 t.meets
-says_right me n (Cls my your) m awaited slots w kept b good p busy shows tidy t = by (is_of_sexes my your || is_of_sexes your my) p.0
-  where
-    talk : Talk
-    talk = record { at = me; peer = n; sent = true }
+  pub unlinked_may : (c : Command) → link_of c ≡ None → has_right_parts c ≡ true → Tells me n m awaited (c ∷ w) b → MayGo me n m kept b c
+  unlinked_may (Rts receive send link) l p t = rts_range receive send link p
+  unlinked_may (Str send receive size) l p t = str_range send receive size p
+  unlinked_may (Cls my your) l p t = (p, no_text_out me n m slots kept b w good.sound t.held tidy my your t.meets busy shows)
+  unlinked_may (Eco byte) l p t = eco_right me n byte awaited w b t.echoing
+  unlinked_may (Erp byte) l p t = tt
+  unlinked_may (Err code shown) l p t = error_may me n m code shown awaited w b t
+  unlinked_may Nop l p t = tt
+  unlinked_may Rst l p t = tt
+  unlinked_may Rrp l p t = tt
+  unlinked_may (Command.All link messages bits) l p t = absurd (cc l)
+  unlinked_may (Gvb link fm fb) l p t = absurd (cc l)
+  unlinked_may (Ret link messages bits) l p t = absurd (cc l)
+  unlinked_may (Inr link) l p t = absurd (cc l)
+  unlinked_may (Ins link) l p t = absurd (cc l)
 
-    by : (x : Bool) → x ≡ true → cls_rule talk (Cls my your) my your kept b (if x then left_verdict talk (Cls my your) (life_of me n my your b.lives) else Refused (Rule.Sex (Cls my your))) ≡ None
-    by true e = right_left me n m (Cls my your) w (my, your) kept b refl refl (no_text_out me n m slots kept b w good.sound t.held tidy my your t.meets busy shows) t.meets
-    by false e = absurd (cc e)
-says_right me n (Eco byte) m awaited slots w kept b good p busy shows tidy t = eco_right me n byte awaited w b t.echoing
-says_right me n (Erp byte) m awaited slots w kept b good p busy shows tidy t = own_reply_right me n m (Erp byte) w b (Rule.ErpUnasked byte) refl t.meets
-says_right me n (Err code shown) m awaited slots w kept b good p busy shows tidy t = by (is_about_link code shown) refl
-  where
-    by : (x : Bool) → is_about_link code shown ≡ x → (if x then None else reply_rule (record { at = me; peer = n; sent = true }) (Err code shown) (Rule.ErrUnjust code shown) b) ≡ None
-    by true e = refl
-    by false e = own_reply_right me n m (Err code shown) w b (Rule.ErrUnjust code shown) (ap not e) t.meets
-says_right me n Nop m awaited slots w kept b good p busy shows tidy t = refl
-says_right me n (Command.All link messages bits) m awaited slots w kept b good p busy shows tidy t = refl
-says_right me n (Gvb link fm fb) m awaited slots w kept b good p busy shows tidy t = refl
-says_right me n (Ret link messages bits) m awaited slots w kept b good p busy shows tidy t = refl
-says_right me n (Inr link) m awaited slots w kept b good p busy shows tidy t = refl
-says_right me n (Ins link) m awaited slots w kept b good p busy shows tidy t = refl
-says_right me n Rst m awaited slots w kept b good p busy shows tidy t = refl
-says_right me n Rrp m awaited slots w kept b good p busy shows tidy t = refl
+  pub unlinked_right : (c : Command) → link_of c ≡ None → has_right_parts c ≡ true → Tells me n m awaited (c ∷ w) b → command_rule us_saying kept c b ≡ None
+  unlinked_right (Rts receive send link) l p t =
+      let k = rts_range receive send link p in
+      right_asked me n m (Rts receive send link) w (receive, send) (Link link) (is_of_sexes receive send) b k.0 refl (and_parts (not (is_senders receive)) (is_senders send) k.0).0 k.1 t.meets
+  unlinked_right (Str send receive size) l p t =
+      let k = str_range send receive size p in
+      right_asked me n m (Str send receive size) w (send, receive) (Size size) (is_of_sexes receive send) b k.0 refl (and_parts (not (is_senders receive)) (is_senders send) k.0).1 k.1 t.meets
+  unlinked_right (Cls my your) l p t = by (is_of_sexes my your || is_of_sexes your my) p
+    where
+      by : (x : Bool) → x ≡ true → cls_rule us_saying (Cls my your) my your kept b (if x then left_verdict us_saying (Cls my your) (life_of me n my your b.lives) else Refused (Rule.Sex (Cls my your))) ≡ None
+      by true e = right_left me n m (Cls my your) w (my, your) kept b refl (no_text_out me n m slots kept b w good.sound t.held tidy my your t.meets busy shows) t.meets
+      by false e = absurd (cc e)
+  unlinked_right (Eco byte) l p t = eco_right me n byte awaited w b t.echoing
+  unlinked_right (Erp byte) l p t = own_reply_right me n m (Erp byte) w b (Rule.ErpUnasked byte) refl t.owed
+  unlinked_right (Err code shown) l p t = by (is_text_error (Err code shown)) refl (error_may me n m code shown awaited w b t)
+    where
+      by : (x : Bool) → is_text_error (Err code shown) ≡ x → is_error_admitted us_saying code shown b ≡ is_text_error (Err code shown)
+          → (if is_error_admitted us_saying code shown b then None else reply_rule us_saying (Err code shown) (Rule.ErrUnjust code shown) b) ≡ None
+      by true e k = ap (λ (y : Bool). if y then None else reply_rule us_saying (Err code shown) (Rule.ErrUnjust code shown) b) (k ∙ e)
+      by false e k =
+          ap (λ (y : Bool). if y then None else reply_rule us_saying (Err code shown) (Rule.ErrUnjust code shown) b) (k ∙ e)
+          ∙ own_reply_right me n m (Err code shown) w b (Rule.ErrUnjust code shown) (ap (λ (y : Bool). if y then [] else Gives (Err code shown) ∷ []) e) t.owed
+  unlinked_right Nop l p t = refl
+  unlinked_right Rst l p t = refl
+  unlinked_right Rrp l p t = refl
+  unlinked_right (Command.All link messages bits) l p t = absurd (cc l)
+  unlinked_right (Gvb link fm fb) l p t = absurd (cc l)
+  unlinked_right (Ret link messages bits) l p t = absurd (cc l)
+  unlinked_right (Inr link) l p t = absurd (cc l)
+  unlinked_right (Ins link) l p t = absurd (cc l)
 
-pub says_tells : (me n : ℕ) (c : Command) (m : Ends) (awaited : Bool) (w : List Command) (b : SeenBooks) → Good m → AllProper (c ∷ w) → (books_after_command (record { at = me; peer = n; sent = true }) c b).full ≡ false → Tidy b
-    → Tells me n m awaited (c ∷ w) b → Tells me n m awaited w (books_after_command (record { at = me; peer = n; sent = true }) c b)
-says_tells me n c m awaited w b good p room tidy t =
-    let now = books_after_command (record { at = me; peer = n; sent = true }) c b in
-    let books = books_go me n m c w b p.0 room t.meets in
-    record {
-      meets = (goes me n m c w [] b (may_go me n m c w awaited b p.0 t.echoing) room t.meets).meets;
-      held = goes_held me n m c b now books t.held;
-      echoing = echo_goes me n m c w awaited b room t.echoing;
-      came = goes_came me n m c w b now good.sound books t.meets t.came;
-    }
+  pub unlinked_numbers : (c : Command) → link_of c ≡ None → number_rules us_saying c b ≡ []
+  unlinked_numbers (Ret link messages bits) l = absurd (cc l)
+  unlinked_numbers (Rts receive send link) l = refl
+  unlinked_numbers (Str send receive size) l = refl
+  unlinked_numbers (Cls my your) l = refl
+  unlinked_numbers (Eco byte) l = refl
+  unlinked_numbers (Erp byte) l = refl
+  unlinked_numbers (Err code shown) l = refl
+  unlinked_numbers Nop l = refl
+  unlinked_numbers Rst l = refl
+  unlinked_numbers Rrp l = refl
+  unlinked_numbers (Command.All link messages bits) l = refl
+  unlinked_numbers (Gvb link fm fb) l = refl
+  unlinked_numbers (Inr link) l = refl
+  unlinked_numbers (Ins link) l = refl
+
+  pub unlinked_tells : (c : Command) → link_of c ≡ None → has_right_parts c ≡ true → (books_after_command us_saying kept c b).full ≡ false → Tells me n m awaited (c ∷ w) b → Tells me n m awaited w (books_after_command us_saying kept c b)
+  unlinked_tells c l p room t =
+      let may = unlinked_may c l p t in
+      let went = goes me n m c w kept b l may t.counted.plain room t.meets t.owed in
+      let now = books_after_command us_saying kept c b in
+      let books = books_go me n m c w kept b l p room t.meets in
+      record {
+        meets = went.meets;
+        held = goes_held me n m c b now books t.held;
+        echoing = echo_goes me n m c w awaited kept b room t.echoing;
+        came = goes_came me n m c w b now good.sound books t.meets t.came;
+        counted = goes_counted me n m (λ u k. proper_sex (pair_at u) (proper (pair_at u) k)) c w kept b l may room t.meets t.counted;
+        owed = went.owed;
+      }
+
+  -- ---- one that names a link
+
+  named : (c : Command) (link : ℕ) → link_of c ≡ Some link → Tells me n m awaited (c ∷ w) b → NamedOut me n m kept c w b
+  named c link l t = named_out me n m kept w b tidy t.meets.unique t.meets.linked c link l t.counted t.owed
+
+  silent_link : (c : Command) (link : ℕ) → link_of c ≡ Some link → says_of c ≡ []
+  silent_link (Rts receive send on) link l = absurd (cc l)
+  silent_link (Str send receive size) link l = absurd (cc l)
+  silent_link (Cls my your) link l = absurd (cc l)
+  silent_link (Eco byte) link l = refl
+  silent_link (Erp byte) link l = refl
+  silent_link (Err code shown) link l = refl
+  silent_link Nop link l = refl
+  silent_link Rst link l = refl
+  silent_link Rrp link l = refl
+  silent_link (Command.All on messages bits) link l = refl
+  silent_link (Gvb on fm fb) link l = refl
+  silent_link (Ret on messages bits) link l = refl
+  silent_link (Inr on) link l = refl
+  silent_link (Ins on) link l = refl
+
+  named_tells : (c : Command) (link : ℕ) → link_of c ≡ Some link → (books_after_command us_saying kept c b).full ≡ false → Tells me n m awaited (c ∷ w) b → Tells me n m awaited w (books_after_command us_saying kept c b)
+  named_tells c link l room t =
+      let now = books_after_command us_saying kept c b in
+      let after = (named c link l t).later room in
+      let silent = silent_link c link l in
+      record {
+        meets = shapes_meets me n m w b now after.same (silent_goes me n m c w b silent t.meets);
+        held = shapes_held me n m b now after.same t.held;
+        echoing = echo_goes me n m c w awaited kept b room t.echoing;
+        came = shapes_came me n m w b now after.same
+            (came_same me n m (c ∷ w) w b b refl (λ on z. z) (λ v. sym (ap (λ (x : List (Sockets × Say)). asks_in (about v (x ++ all_says w))) silent)) t.came);
+        counted = after.counted;
+        owed = after.owed;
+      }
+
+  -- ---- each command
+
+  pub says_right : (c : Command) → has_right_parts c ≡ true → Tells me n m awaited (c ∷ w) b → command_rule us_saying kept c b ≡ None
+  says_right c p t = go (link_of c) refl
+    where
+      go : (o : Option ℕ) → link_of c ≡ o → command_rule us_saying kept c b ≡ None
+      go None l = unlinked_right c l p t
+      go (Some link) l = (named c link l t).rule
+
+  pub says_numbers : (c : Command) → Tells me n m awaited (c ∷ w) b → number_rules us_saying c b ≡ []
+  says_numbers c t = go (link_of c) refl
+    where
+      go : (o : Option ℕ) → link_of c ≡ o → number_rules us_saying c b ≡ []
+      go None l = unlinked_numbers c l
+      go (Some link) l = (named c link l t).numbers
+
+  pub says_tells : (c : Command) → has_right_parts c ≡ true → (books_after_command us_saying kept c b).full ≡ false → Tells me n m awaited (c ∷ w) b → Tells me n m awaited w (books_after_command us_saying kept c b)
+  says_tells c p room t = go (link_of c) refl
+    where
+      go : (o : Option ℕ) → link_of c ≡ o → Tells me n m awaited w (books_after_command us_saying kept c b)
+      go None l = unlinked_tells c l p room t
+      go (Some link) l = named_tells c link l room t
 
 -- ---- nothing waits
 
+-- what is marked beside the ERRs of the host stays
+said_topic : (me n : ℕ) (what : Topic) (b : SeenBooks) → ((x : Topic) → same_topic x what ≡ true → is_admission_of x ≡ false) → is_marked me n what (after_all_said me n b) ≡ is_marked me n what b
+said_topic me n what b f = kept_marks (is_topic me n what) (λ mark. not (is_admission me n mark)) b.marks stays
+  where
+    stays : (mark : Mark) → is_topic me n what mark ≡ true → not (is_admission me n mark) ≡ true
+    stays mark e =
+        ap (λ (x : Bool). not ((mark.at == me && mark.peer == n) && x)) (f mark.topic (and_parts (mark.at == me && mark.peer == n) (same_topic mark.topic what) e).1) ∙ go (mark.at == me && mark.peer == n)
+      where
+        go : (x : Bool) → not (x && false) ≡ true
+        go true = refl
+        go false = refl
+
+no_admission : (host : Bool) (x : Topic) → same_topic x (Topic.EchoesRest host) ≡ true → is_admission_of x ≡ false
+no_admission host (Topic.LinkRests on link) e = refl
+no_admission host (Topic.EchoesRest h) e = refl
+no_admission host (Topic.Asks h) e = refl
+no_admission host (Topic.Admits h bytes) e = absurd (cc e)
+
+no_admission_too : (host : Bool) (x : Topic) → same_topic x (Topic.Asks host) ≡ true → is_admission_of x ≡ false
+no_admission_too host (Topic.LinkRests on link) e = refl
+no_admission_too host (Topic.EchoesRest h) e = refl
+no_admission_too host (Topic.Asks h) e = refl
+no_admission_too host (Topic.Admits h bytes) e = absurd (cc e)
+
 pub none_left_reply : (me n : ℕ) (m : Ends) (awaited : Bool) (b : SeenBooks) → Tells me n m awaited [] b → reply_left_out me n b ≡ None
-none_left_reply me n m awaited b t = none_left_out me n m b t.meets
+none_left_reply me n m awaited b t = none_left_out me n m b t.owed
 
 pub none_left_cls : (me n : ℕ) (m : Ends) (awaited : Bool) (slots : LinkSlots) (kept : List Kept) (b : SeenBooks) → Good m → ProperEnds m → Agree m slots → ((q : Pair) → LeavingAt q (get m q)) → ShowsBusy me n kept slots
     → Tells me n m awaited [] b → cls_left_out me n kept b ≡ None
 none_left_cls me n m awaited slots kept b good propers agree leaving shows t = no_cls_left me n m slots kept b good.sound propers agree leaving shows t.meets t.came
 
 pub all_said_tells : (me n : ℕ) (m : Ends) (awaited : Bool) (b : SeenBooks) → Tells me n m awaited [] b → Tells me n m awaited [] (after_all_said me n b)
-all_said_tells me n m awaited b t = record { meets = all_said_meets me n m b t.meets; held = t.held; echoing = t.echoing; came = t.came }
+all_said_tells me n m awaited b t = record {
+  meets = all_said_meets me n m b t.meets;
+  held = λ u e g r s h. said_links me n b false e.link ∙ t.held u e g r s h;
+  echoing = echo_told me n awaited [] [] b (after_all_said me n b) (said_topic me n (Topic.EchoesRest true) b (no_admission true), said_topic me n (Topic.Asks true) b (no_admission_too true)) refl t.echoing;
+  came = came_same me n m [] [] b (after_all_said me n b) refl (λ link z. said_links me n b true link ∙ z) (λ v. refl) t.came;
+  counted = counted_unsaid me n m b (after_all_said me n b) refl (λ host link k. said_links me n b host link ∙ k) (plain_all_said me n b t.counted.plain) t.counted;
+  owed = owed_all_said me n m b;
+}

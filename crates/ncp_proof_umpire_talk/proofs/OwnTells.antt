@@ -20,17 +20,20 @@ use Rattle.ncp_proof_machine.proofs.EndsGood.{Good, called-fresh}
 use Rattle.ncp_umpire.specs.Lives.{SeenBooks}
 use Rattle.ncp_umpire.proofs.Shapes.{Say, Ask, Leave}
 use Rattle.ncp_umpire.proofs.LinkOrder.{Sockets, Lacks, number_of}
-use Rattle.ncp_proof_umpire_talk.proofs.KeptEnds.{kept}
-use Rattle.ncp_proof_umpire_talk.proofs.OwnMoves.{all_says, sockets_of, is_of_host, moves}
-use Rattle.ncp_proof_umpire_talk.proofs.Changed.{pair_at, kept_of, OneEnd, link_lacks}
-use Rattle.ncp_proof_umpire_talk.proofs.SeenBooks.{receives_at}
-use Rattle.ncp_proof_umpire_talk.proofs.Comes.{host_meets}
-use Rattle.ncp_proof_umpire_talk.proofs.Echoing.{is_eco, ecos, others_wait}
-use Rattle.ncp_proof_umpire_talk.proofs.Unjudged.{none_judged}
-use Rattle.ncp_proof_umpire_talk.proofs.HeldLinks.{host_held}
-use Rattle.ncp_proof_umpire_talk.proofs.Proper.{ProperEnds}
-use Rattle.ncp_proof_umpire_talk.proofs.OwnCame.{is_text_coming, own_came}
+use Rattle.ncp_proof_umpire_seen.proofs.KeptEnds.{kept}
+use Rattle.ncp_proof_umpire_seen.proofs.OwnMoves.{all_says, sockets_of, is_of_host, moves}
+use Rattle.ncp_proof_umpire_seen.proofs.Changed.{pair_at, kept_of, OneEnd, link_lacks}
+use Rattle.ncp_proof_umpire_seen.proofs.SeenBooks.{receives_at}
+use Rattle.ncp_proof_umpire_seen.proofs.Comes.{host_meets}
+use Rattle.ncp_proof_umpire_seen.proofs.Echoing.{is_eco, ecos, others_wait}
+use Rattle.ncp_proof_umpire_seen.proofs.HeldLinks.{host_held}
+use Rattle.ncp_proof_umpire_seen.proofs.Proper.{ProperEnds}
+use Rattle.ncp_proof_umpire_seen.proofs.OwnCame.{is_text_coming, own_came}
 use Rattle.ncp_proof_umpire_talk.proofs.Spoken.{Tells}
+use Rattle.ncp_proof_umpire_counts.proofs.Counted.{Counted}
+use Rattle.ncp_proof_umpire_counts.proofs.CallsCounted.{is_call, counted_call}
+use Rattle.ncp_proof_umpire_counts.proofs.OwedItems.{OwedBy}
+use Rattle.ncp_proof_umpire_counts.proofs.OwedMoves.{owed_call}
 
 -- ---- what is made is no ECO
 
@@ -38,7 +41,7 @@ abbrev pub has_eco : List Command → Bool
 has_eco [] = false
 has_eco (c ∷ cs) = is_eco c || has_eco cs
 
-none_ecos : (cs : List Command) → has_eco cs ≡ false → ecos cs ≡ 0
+pub none_ecos : (cs : List Command) → has_eco cs ≡ false → ecos cs ≡ 0
 none_ecos [] e = refl
 none_ecos (c ∷ cs) e = go (is_eco c) refl e (none_ecos cs)
   where
@@ -46,7 +49,7 @@ none_ecos (c ∷ cs) e = go (is_eco c) refl e (none_ecos cs)
     go true k e rest = absurd (cc e)
     go false k e rest = let z = rest e in let y = ap bit k in omega (arith, z, y)
 
-none_echoed : (pair : Pair) (what : Happening) (before : Option End) → is_of_host what ≡ true → has_eco (happens pair what before).made ≡ false
+pub none_echoed : (pair : Pair) (what : Happening) (before : Option End) → is_of_host what ≡ true → has_eco (happens pair what before).made ≡ false
 none_echoed pair (Happening.Asks_to_send of_size with_room own full) before h = grind arith
 none_echoed pair (Happening.Asks_to_receive with_room on own full) before h = grind arith
 none_echoed pair (Happening.Closes full) None h = refl
@@ -220,14 +223,25 @@ call_free Interrupt full m pair p k e r u s = unasked_free (Happening.Interrupts
 -- ---- what the host does by itself
 
 pub own_tells : (me n : ℕ) (pair : Pair) (what : Happening) (m now : Ends) (awaited : Bool) (w : List Command) (b : SeenBooks) → Good m → is_of_host what ≡ true → is_text_coming what ≡ false
-    → OneEnd m now pair (happens pair what (get m pair)).after → FreeLink what m pair → Tells me n m awaited w b → Tells me n now awaited (w ++ (happens pair what (get m pair)).made) b
-own_tells me n pair what m now awaited w b good h x one free t =
+    → OneEnd m now pair (happens pair what (get m pair)).after → FreeLink what m pair → Counted me n now (w ++ (happens pair what (get m pair)).made) b → OwedBy me n now (w ++ (happens pair what (get m pair)).made) b
+    → Tells me n m awaited w b → Tells me n now awaited (w ++ (happens pair what (get m pair)).made) b
+own_tells me n pair what m now awaited w b good h x one free counted owed t =
     let cs = (happens pair what (get m pair)).made in
     let after = (happens pair what (get m pair)).after in
     let moved = moves pair what (get m pair) h (good.sound pair) in
     record {
-      meets = host_meets me n m w b now pair after cs one moved (none_judged pair what (get m pair) h) free t.meets;
+      meets = host_meets me n m w b now pair after cs one moved free t.meets;
       held = host_held me n m now b pair after cs one moved t.held;
       echoing = others_wait me n awaited w cs b (none_ecos cs (none_echoed pair what (get m pair) h)) t.echoing;
       came = own_came me n pair what m now w b good.sound h x one t.came;
+      counted = counted;
+      owed = owed;
     }
+
+-- a call, or the answer to a text
+pub call_tells : (me n : ℕ) (pair : Pair) (what : Happening) (m now : Ends) (awaited : Bool) (w : List Command) (b : SeenBooks) → Good m → ProperEnds m → is_of_host what ≡ true → is_text_coming what ≡ false → is_call what ≡ true
+    → OneEnd m now pair (happens pair what (get m pair)).after → FreeLink what m pair → Tells me n m awaited w b → Tells me n now awaited (w ++ (happens pair what (get m pair)).made) b
+call_tells me n pair what m now awaited w b good proper h x call one free t =
+    own_tells me n pair what m now awaited w b good h x one free
+    (counted_call me n m now pair what w b call (good.sound pair) (good.limits pair) (proper pair) one t.meets.tally.pairs t.counted)
+    (owed_call me n m now pair what w b one call h (good.sound pair) t.owed) t

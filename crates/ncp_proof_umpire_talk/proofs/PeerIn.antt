@@ -3,7 +3,7 @@ use Rattle.std.proofs.Common.{◌≡◌, ℕ, ◌==◌, Bool, true, false, if◌
 use Rattle.std.specs.Prelude.{nat_lt}
 use Rattle.ncp_numbers.specs.Bytes.{bytes_of}
 use Rattle.ncp_leader.specs.declared.regular.TheConstants.{FRONT_BITS}
-use Rattle.ncp_leader.specs.Message.{Message}
+use Rattle.ncp_leader.specs.Message.{Message, message_in}
 use Rattle.ncp_terms.specs.declared.command.Command.{Command}
 use Rattle.ncp_terms.specs.declared.fault.CommandFault.{CommandFault}
 use Rattle.ncp_terms.specs.Spelling.{padded}
@@ -18,45 +18,53 @@ use Rattle.ncp_model.specs.Peers.{Peer, echo_replies, echoes_after, reaction, he
 use Rattle.ncp_proof_machine.proofs.EndsGood.{Good, none-good}
 use Rattle.ncp_host.specs.PeerState.{PeerState}
 use Rattle.ncp_host.specs.Hearing.{state_hears, state_hears_text, message_after}
+use Rattle.ncp_host.specs.Soundness.{SoundPeer}
+use Rattle.ncp_host.proofs.Sound.{sound-hears}
+use Rattle.ncp_umpire.specs.declared.kept.Kept.{Kept}
 use Rattle.ncp_umpire.specs.declared.phase.Turn.{Turn}
 use Rattle.ncp_umpire.specs.declared.talk.Talk.{Talk}
 use Rattle.ncp_umpire.specs.declared.view.View.{View}
 use Rattle.ncp_umpire.specs.Lives.{SeenBooks}
 use Rattle.ncp_umpire.specs.Messages.{is_unused, judged_reading}
 use Rattle.ncp_umpire.specs.Phases.{after_item, after_items}
-use Rattle.ncp_umpire.specs.Replies.{is_about_link}
 use Rattle.ncp_umpire.specs.Speaking.{books_after_command}
 use Rattle.ncp_umpire.specs.Talked.{after_talk, after_talked}
 use Rattle.ncp_umpire.specs.Judged.{after_read, books_after_read}
 use Rattle.ncp_proof_umpire.proofs.EndsStay.{command_good}
 use Rattle.ncp_proof_umpire.proofs.Phased.{Sees}
 use Rattle.ncp_proof_umpire.proofs.PhaseSteps.{Stands, command_stands}
-use Rattle.ncp_proof_umpire_talk.proofs.TidyBooks.{Tidy}
-use Rattle.ncp_proof_umpire_talk.proofs.Proper.{ProperEnds}
+use Rattle.ncp_proof_umpire_seen.proofs.TidyBooks.{Tidy}
+use Rattle.ncp_proof_umpire_seen.proofs.Proper.{ProperEnds}
+use Rattle.ncp_proof_umpire_talk.proofs.Carries.{ShowsBusy}
 use Rattle.ncp_proof_umpire_talk.proofs.Borne.{Borne, QuietTells, hears_borne}
-use Rattle.ncp_proof_umpire_talk.proofs.ComesTold.{awaited_after, command_tells, fault_tells, text_tells}
+use Rattle.ncp_proof_umpire_counts.proofs.TextErrors.{is_text_error}
+use Rattle.ncp_proof_umpire_counts.proofs.TextShown.{error_is_shown, error_is_told}
+use Rattle.ncp_proof_umpire_talk.proofs.RepliesTold.{fault_tells}
+use Rattle.ncp_proof_umpire_talk.proofs.ComesTold.{awaited_after, LeavingBusy, command_tells}
+use Rattle.ncp_proof_umpire_talk.proofs.LeavingBusy.{leaving_busy}
+use Rattle.ncp_proof_umpire_talk.proofs.TextTold.{text_tells}
 use Rattle.ncp_proof_umpire_talk.proofs.Spoken.{Tells, Spoken}
 use Rattle.ncp_proof_umpire_talk.proofs.SpokenIn.{CommandTells, command_spoken, fault_spoken, text_spoken}
 use Rattle.ncp_proof_umpire_talk.proofs.SpokenOut.{Known}
-use Rattle.ncp_proof_umpire_talk.proofs.BooksRead.{talk_reads, read_reads}
+use Rattle.ncp_proof_umpire_counts.proofs.BooksRead.{talk_reads, read_reads}
 
--- ---- the fault of a control text is of an opcode, or of bytes that lack
+-- ---- the fault of a control text is of an opcode, or of bytes that lack: no ERR about a text is made for it
 
 abbrev pub PlainFault : Option CommandFault → Type 0
-PlainFault o = (fault : CommandFault) → o ≡ Some fault → is_about_link fault.code fault.bytes ≡ false
+PlainFault o = (fault : CommandFault) → o ≡ Some fault → is_text_error (Command.Err fault.code fault.bytes) ≡ false
 
 pub plain_fault : (bytes : List ℕ) → PlainFault (fault_in bytes)
 plain_fault bytes fault e = go (rest_in bytes) e
   where
-    of_code : (b : Bool) (shown : List ℕ) → is_about_link (if b then 1 else 2) shown ≡ false
+    of_code : (b : Bool) (shown : List ℕ) → is_text_error (Command.Err (if b then 1 else 2) shown) ≡ false
     of_code true shown = refl
     of_code false shown = refl
 
-    go : (rest : List ℕ) → fault_of rest ≡ Some fault → is_about_link fault.code fault.bytes ≡ false
+    go : (rest : List ℕ) → fault_of rest ≡ Some fault → is_text_error (Command.Err fault.code fault.bytes) ≡ false
     go [] e = absurd (cc e)
     go (opcode ∷ rest) e =
         let is : record { code = if nat_lt 13 opcode then 1 else 2; bytes = padded 10 (opcode ∷ rest) } ≡ fault = cc e in
-        ap (λ (x : CommandFault). is_about_link x.code x.bytes) (sym is) ∙ of_code (nat_lt 13 opcode) (padded 10 (opcode ∷ rest))
+        ap (λ (x : CommandFault). is_text_error (Command.Err x.code x.bytes)) (sym is) ∙ of_code (nat_lt 13 opcode) (padded 10 (opcode ∷ rest))
 
 -- ---- the echo, and the ends
 
@@ -91,52 +99,59 @@ hears_good q c p k = good_where (up p.phase) (hears_other q c p) p (kept_good (u
 
 -- ---- all that a control text holds
 
-module _ (me n : ℕ) (busy : Option ℕ) (zero : Bool) where
+module _ (me n : ℕ) (busy : Option ℕ) (zero : Bool) (kept : List Kept) where
   abbrev from_peer : Turn
   from_peer = record { by = n; sent = false; busy = busy; zero = zero }
 
   abbrev their_talk : Talk
   their_talk = record { at = me; peer = n; sent = false }
 
-  heard_tells : (c : Command) (p : Peer) (b : SeenBooks) → Good p.ends → ProperEnds p.ends → Tidy b → is_other c ≡ true → CommandTells me n busy zero c p b
-  heard_tells c p b good sexes tidy o u full room t =
-      subst (λ (x : Bool). Tells me n (map_after_at p.ends (leads_to c p.ends) (hear c p.ends)) x (p.phase.waiting ++ (made_by_hearing (answer (hear c p.ends)) ++ echo_replies c)) (books_after_command their_talk c b)) (sym (awaits_after c p.echoes)) (command_tells me n c p.ends p.echoes.awaited p.phase.waiting b o good sexes full room tidy t)
+  heard_tells : (c : Command) (p : Peer) (b : SeenBooks) → Good p.ends → ProperEnds p.ends → LeavingBusy me n p.ends kept → Tidy b → is_other c ≡ true → CommandTells me n busy zero kept c p b
+  heard_tells c p b good sexes leaving tidy o u full room t =
+      subst (λ (x : Bool). Tells me n (map_after_at p.ends (leads_to c p.ends) (hear c p.ends)) x (p.phase.waiting ++ (made_by_hearing (answer (hear c p.ends)) ++ echo_replies c)) (books_after_command their_talk kept c b)) (sym (awaits_after c p.echoes))
+      (command_tells me n kept c p.ends p.echoes.awaited p.phase.waiting b o good sexes full room tidy leaving t)
 
-  pub all_heard : (cs : List Command) (fault : Option CommandFault) (s : PeerState) (v : View) (b : SeenBooks) → PlainFault fault → Sees (is_quiet s.slots) busy → QuietTells (is_quiet s.slots) s.slots → Stands s.peer (is_quiet s.slots) v → Good s.peer.ends → Borne s.peer s.slots
-      → Known me n s.peer v b → (after_talked from_peer their_talk (items_of cs fault) v b).full ≡ false
-      → Spoken me n (state_hears_text cs fault s).peer (after_items from_peer (items_of cs fault) v) (after_talked from_peer their_talk (items_of cs fault) v b)
-  all_heard [] None s v b plain e q k good borne known f = (known f).0
-  all_heard [] (Some fault) s v b plain e q k good borne known f =
-      let room = (talk_reads me n from_peer (Err fault) v b).room f in
-      fault_spoken me n busy zero fault s.peer (is_quiet s.slots) v b k (known room).0 (λ r t. fault_tells me n fault s.peer.ends s.peer.echoes.awaited s.peer.phase.waiting b (plain fault refl) r t) f
-  all_heard (c ∷ cs) fault s v b plain e q k good borne known f =
-      let now : SeenBooks = after_talk from_peer their_talk (Ok c) v b in
-      let reads = talk_reads me n from_peer (Ok c) v b in
-      all_heard cs fault (state_hears c s) (after_item from_peer (Ok c) v) now plain e q (command_stands n busy zero c s.peer (is_quiet s.slots) v e k) (hears_good (is_quiet s.slots) c s.peer good)
-      (hears_borne (is_quiet s.slots) c s.peer s.slots q good.sound borne)
+  -- what is out of the ends that leave is in their slots, and is kept
+  leaving_out : (s : PeerState) → Borne s.peer s.slots → SoundPeer s.peer s.slots → ShowsBusy me n kept s.slots → LeavingBusy me n s.peer.ends kept
+  leaving_out s borne sound shows = leaving_busy me n s.peer.ends s.slots kept sound.ends borne.leaving shows
+
+  pub all_heard : (cs : List Command) (fault : Option CommandFault) (s : PeerState) (v : View) (b : SeenBooks) → PlainFault fault → Sees (is_quiet s.slots) busy → QuietTells (is_quiet s.slots) s.slots → ShowsBusy me n kept s.slots
+      → Stands s.peer (is_quiet s.slots) v → Good s.peer.ends → Borne s.peer s.slots → SoundPeer s.peer s.slots
+      → Known me n s.peer v b → (after_talked from_peer their_talk kept (items_of cs fault) v b).full ≡ false
+      → Spoken me n (state_hears_text cs fault s).peer (after_items from_peer (items_of cs fault) v) (after_talked from_peer their_talk kept (items_of cs fault) v b)
+  all_heard [] None s v b plain e q shows k good borne sound known f = (known f).0
+  all_heard [] (Some fault) s v b plain e q shows k good borne sound known f =
+      let room = (talk_reads me n from_peer kept (Err fault) v b).room f in
+      fault_spoken me n busy zero kept fault s.peer (is_quiet s.slots) v b k (known room).0 (λ r t. fault_tells me n s.peer.ends s.peer.echoes.awaited s.peer.phase.waiting b fault (plain fault refl) r t) f
+  all_heard (c ∷ cs) fault s v b plain e q shows k good borne sound known f =
+      let now : SeenBooks = after_talk from_peer their_talk kept (Ok c) v b in
+      let reads = talk_reads me n from_peer kept (Ok c) v b in
+      all_heard cs fault (state_hears c s) (after_item from_peer (Ok c) v) now plain e q shows (command_stands n busy zero c s.peer (is_quiet s.slots) v e k) (hears_good (is_quiet s.slots) c s.peer good)
+      (hears_borne (is_quiet s.slots) c s.peer s.slots q good.sound borne) (sound-hears (is_quiet s.slots) c s.peer s.slots sound)
       (λ room.
       let before = known (reads.room room) in
-      (command_spoken me n busy zero c s.peer (is_quiet s.slots) v b k before.0 (heard_tells c s.peer b good borne.sexes before.1) room, reads.tidy room before.1)) f
+      (command_spoken me n busy zero kept c s.peer (is_quiet s.slots) v b k before.0 (heard_tells c s.peer b good borne.sexes (leaving_out s borne sound shows) before.1) room, reads.tidy room before.1)) f
 
   -- ---- a message
 
-  pub message_heard : (bits : List Bool) (m : Message) (s : PeerState) (v : View) (b : SeenBooks) → Sees (is_quiet s.slots) busy → QuietTells (is_quiet s.slots) s.slots → Stands s.peer (is_quiet s.slots) v → Good s.peer.ends → Borne s.peer s.slots
-      → Known me n s.peer v b → (books_after_read (judged_reading m) from_peer their_talk m.leader.link m.text v b).full ≡ false
-      → Spoken me n (message_after m.leader.link bits (Ok m) s).peer (after_read (judged_reading m) from_peer m.text v) (books_after_read (judged_reading m) from_peer their_talk m.leader.link m.text v b)
-  message_heard bits m s v b e q k good borne known f = go (is_unused m.leader.link) (m.leader.link == 0) (m.size == 8) refl refl refl
+  pub message_heard : (bits : List Bool) (m : Message) (s : PeerState) (v : View) (b : SeenBooks) → message_in bits ≡ Ok m → m.leader.host ≡ n → m.leader.kind ≡ 0
+      → Sees (is_quiet s.slots) busy → QuietTells (is_quiet s.slots) s.slots → ShowsBusy me n kept s.slots → Stands s.peer (is_quiet s.slots) v → Good s.peer.ends → Borne s.peer s.slots → SoundPeer s.peer s.slots
+      → Known me n s.peer v b → (books_after_read from_peer their_talk kept m v b (judged_reading m)).full ≡ false
+      → Spoken me n (message_after m.leader.link bits (Ok m) s).peer (after_read (judged_reading m) from_peer m.text v) (books_after_read from_peer their_talk kept m v b (judged_reading m))
+  message_heard bits m s v b read host kind e q shows k good borne sound known f = go (is_unused m.leader.link) (m.leader.link == 0) (m.size == 8) refl refl refl
     where
       room : b.full ≡ false
-      room = (read_reads me n from_peer (judged_reading m) m.leader.link m.text v b).room f
+      room = (read_reads me n from_peer kept (judged_reading m) m v b).room f
 
       go : (x y z : Bool) → is_unused m.leader.link ≡ x → (m.leader.link == 0) ≡ y → (m.size == 8) ≡ z
-          → Spoken me n (message_after m.leader.link bits (Ok m) s).peer (after_read (judged_reading m) from_peer m.text v) (books_after_read (judged_reading m) from_peer their_talk m.leader.link m.text v b)
+          → Spoken me n (message_after m.leader.link bits (Ok m) s).peer (after_read (judged_reading m) from_peer m.text v) (books_after_read from_peer their_talk kept m v b (judged_reading m))
       go true y z i j l = rw i ((known room).0)
       go false false z i j l =
           let g = rw (i, j) at f in
           rw (i, j)
-          (text_spoken me n busy zero m.leader.link (take FRONT_BITS bits) m.size m.text s.peer (is_quiet s.slots) v b k (known room).0
-          (λ r t. text_tells me n m.leader.link (take FRONT_BITS bits) m.size m.text s.peer.ends s.peer.echoes.awaited s.peer.phase.waiting b good borne.sexes r (known room).1 t) g)
+          (text_spoken me n busy zero kept m.leader.link (take FRONT_BITS bits) m.size m.text m s.peer (is_quiet s.slots) v b k (known room).0
+          (λ r t. text_tells me n m.leader.link (take FRONT_BITS bits) m s.peer.ends s.peer.echoes.awaited s.peer.phase.waiting b good borne.sexes (error_is_shown n bits m read host) (error_is_told bits m read kind) r (known room).1 t) g)
       go false true true i j l =
           let g = rw (i, j, l) at f in
-          rw (i, j, l) (all_heard (commands_in (bytes_of m.text)) (fault_in (bytes_of m.text)) s v b (plain_fault (bytes_of m.text)) e q k good borne known g)
+          rw (i, j, l) (all_heard (commands_in (bytes_of m.text)) (fault_in (bytes_of m.text)) s v b (plain_fault (bytes_of m.text)) e q shows k good borne sound known g)
       go false true false i j l = rw (i, j, l) ((known room).0)

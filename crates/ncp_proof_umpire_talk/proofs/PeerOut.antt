@@ -1,5 +1,5 @@
 -- A message goes out to a peer: by no rule of what is said is the host found to be wrong, and what is known is known after it.
-use Rattle.std.proofs.Common.{◌≡◌, ℕ, ◌<◌, ◌==◌, Bool, true, false, not, ◌&&◌, ◌||◌, if◌then◌else◌, List, [], ◌++◌, length, drop, All, Option, None, Result, Ok, Err, refl, sym, ap, ◌∙◌, subst, arith}
+use Rattle.std.proofs.Common.{◌≡◌, ℕ, ◌+◌, ◌<◌, ◌==◌, Bool, true, false, not, ◌&&◌, ◌||◌, if◌then◌else◌, List, [], ◌++◌, length, drop, map, All, Option, None, Some, Result, Ok, Err, refl, sym, ap, ◌∙◌, subst, arith}
 use Rattle.ncp_numbers.specs.Bytes.{bytes_of, bits_of_bytes}
 use Rattle.ncp_numbers.proofs.Packing.{bytes_of-bits_of_bytes}
 use Rattle.ncp_leader.specs.declared.fault.MessageFault.{MessageFault}
@@ -12,9 +12,12 @@ use Rattle.ncp_control.specs.Reading.{commands_in, fault_in}
 use Rattle.ncp_control.proofs.Reading.{spellings_small, spelled_alone}
 use Rattle.ncp_slot.specs.Slots.{LinkSlots}
 use Rattle.ncp_model.specs.declared.limits.TheConstants.{MAX_CONTROL}
+use Rattle.ncp_model.specs.Act.{answer}
+use Rattle.ncp_model.specs.Ends.{cut_in}
 use Rattle.ncp_model.specs.Phase.{Phase, up}
 use Rattle.ncp_model.specs.Sending.{next_commands}
 use Rattle.ncp_model.specs.Peers.{Peer, cuts, peer_sends}
+use Rattle.ncp_model.proofs.ResetLists.{bit, rrps}
 use Rattle.ncp_proof_machine.proofs.EndsGood.{Good}
 use Rattle.ncp_host.specs.Output.{leader_to, links}
 use Rattle.ncp_host.specs.Host.{is_one_of}
@@ -29,10 +32,12 @@ use Rattle.ncp_umpire.specs.declared.view.View.{View}
 use Rattle.ncp_umpire.specs.declared.views.TheConstants.{VIEWS}
 use Rattle.ncp_umpire.specs.Lives.{SeenBooks}
 use Rattle.ncp_umpire.specs.Messages.{is_unused, judged_reading}
-use Rattle.ncp_umpire.specs.Phases.{after_thing, after_items, after_room}
+use Rattle.ncp_umpire.specs.Phases.{broken_by, is_early, early_rule, after_thing, after_items, after_room}
+use Rattle.ncp_umpire.specs.Texts.{led_text_rules, text_lead, text_rules, books_after_text}
+use Rattle.ncp_umpire.specs.Views.{awaits_reply}
 use Rattle.ncp_umpire.specs.Slots.{busy_link}
 use Rattle.ncp_umpire.specs.Tables.{view_in}
-use Rattle.ncp_umpire.specs.Talked.{after_talked, left_out_findings, after_left_out}
+use Rattle.ncp_umpire.specs.Talked.{reaches, after_talked, left_out_findings, after_left_out, text_findings, after_talked_text}
 use Rattle.ncp_umpire.specs.Judged.{view_of, knows_zero, turn_at, is_roomy, items_said, after_read, books_after_read, after_said}
 use Rattle.ncp_umpire.proofs.Parted.{said_findings}
 use Rattle.ncp_proof_umpire.proofs.Goes.{used}
@@ -40,15 +45,18 @@ use Rattle.ncp_proof_umpire.proofs.Laid.{fitting_all}
 use Rattle.ncp_proof_umpire.proofs.Phased.{Phased, Sees}
 use Rattle.ncp_proof_umpire.proofs.PhaseGoes.{AllWent, all_went, roomy_left}
 use Rattle.ncp_proof_umpire.proofs.PhaseSteps.{Stands}
-use Rattle.ncp_proof_umpire.proofs.PhaseSeen.{view_same}
-use Rattle.ncp_proof_umpire.proofs.Talking.{control_talk, message_talk}
-use Rattle.ncp_proof_umpire_talk.proofs.TidyBooks.{Tidy}
-use Rattle.ncp_proof_umpire_talk.proofs.Proper.{AllProper}
+use Rattle.ncp_proof_umpire.proofs.PhaseSeen.{TextOnTime, text_on_time, view_same}
+use Rattle.ncp_proof_umpire.proofs.Talking.{message_talk, text_talk}
+use Rattle.ncp_proof_umpire_seen.proofs.TidyBooks.{Tidy}
+use Rattle.ncp_proof_umpire_seen.proofs.Proper.{AllProper}
 use Rattle.ncp_proof_umpire_talk.proofs.Carries.{Carries, ShowsBusy, is_unreset}
-use Rattle.ncp_proof_umpire_talk.proofs.GoesTold.{says_right, says_tells, none_left_reply, none_left_cls, all_said_tells}
+use Rattle.ncp_proof_umpire_talk.proofs.BusySlots.{BusySlots}
+use Rattle.ncp_proof_umpire_talk.proofs.GoesTold.{says_right, says_numbers, says_tells, none_left_reply, none_left_cls, all_said_tells}
 use Rattle.ncp_proof_umpire_talk.proofs.Spoken.{Spoken}
 use Rattle.ncp_proof_umpire_talk.proofs.SpokenOut.{Known, waited_by, GoesOut, AllTold, all_told, NoneLeft, none_left}
-use Rattle.ncp_proof_umpire_talk.proofs.SpokenHost.{cut_spoken}
+use Rattle.ncp_proof_umpire_talk.proofs.SpokenIn.{clash, rests_before}
+use Rattle.ncp_proof_umpire_counts.proofs.BooksRead.{said_reads}
+use Rattle.ncp_proof_umpire_talk.proofs.TextTells.{cut_right, cut_tells}
 
 -- ---- what goes out
 
@@ -61,12 +69,16 @@ up_unreset p u = go (p.down || p.want || p.owe) p.wait u
 
 goes_out : (me n : ℕ) (busy : Option ℕ) (zero : Bool) (kept : List Kept) (p : Peer) (slots : LinkSlots) → Good p.ends → Carries p slots → ShowsBusy me n kept slots → up p.phase ≡ true → GoesOut me n busy zero kept p.ends p.echoes.awaited
 goes_out me n busy zero kept p slots good carries shows u = record {
-  right = λ c w b o proper tidy t. says_right me n c p.ends p.echoes.awaited slots w kept b good proper (carries.busy (up_unreset p.phase u)) shows tidy t;
-  tells = λ c w b o proper room tidy t. says_tells me n c p.ends p.echoes.awaited w b good proper room tidy t;
+  right = λ c w b o proper tidy t. says_right me n p.ends p.echoes.awaited slots w kept b good carries.sexes held shows tidy c proper.0 t;
+  numbers = λ c w b o proper tidy t. says_numbers me n p.ends p.echoes.awaited slots w kept b good carries.sexes held shows tidy c t;
+  tells = λ c w b o proper room tidy t. says_tells me n p.ends p.echoes.awaited slots w kept b good carries.sexes held shows tidy c proper.0 room t;
   reply = λ b t. none_left_reply me n p.ends p.echoes.awaited b t;
   cls = λ b tidy t. none_left_cls me n p.ends p.echoes.awaited slots kept b good carries.sexes carries.agree carries.leaving shows t;
   said = λ b t. all_said_tells me n p.ends p.echoes.awaited b t;
 }
+  where
+    held : BusySlots p.ends slots
+    held = carries.busy (up_unreset p.phase u)
 
 -- what is found of what is said in a message that is read, and what is known after it
 pub record PeerTold (A : Umpire) (me n : ℕ) (fresh : Bool) (r : Result Message MessageFault) (p : Peer) : Type 0 where
@@ -88,7 +100,7 @@ pub commands_told : (A : Umpire) (me n : ℕ) (p : Peer) (slots : LinkSlots) (q 
     → PeerTold A me n true (Ok (message_with (leader_to n 0) 8 (bits_of_bytes (spellings (next_commands p.phase.waiting))))) (peer_sends p)
 commands_told A me n p slots q l a b c some sees k good carries shows known = record {
   none =
-      ap found items ∙ ap (λ (xs : List Finding). xs ++ left_out_findings turn talk A.kept (is_roomy text) after (after_talked turn talk (items_of cs None) v A.books)) told.none ∙ left.none;
+      ap found items ∙ ap (λ (xs : List Finding). xs ++ left_out_findings turn talk A.kept (is_roomy text) after (after_talked turn talk A.kept (items_of cs None) v A.books)) told.none ∙ left.none;
   known =
       subst (λ (x : View). Known me n (peer_sends p) x (books (items_said text))) (sym is)
       (subst (λ (x : List (Result Command CommandFault)). Known me n (peer_sends p) after (books x)) (sym items) left.known);
@@ -136,10 +148,10 @@ commands_told A me n p slots q l a b c some sees k good carries shows known = re
         ∙ ap (λ (ds : List Command). items_of ds (fault_in (spellings cs))) alone.0 ∙ ap (items_of cs) alone.1
 
     found : List (Result Command CommandFault) → List Finding
-    found said = said_findings turn talk A.kept said v A.books ++ left_out_findings turn talk A.kept (is_roomy text) (after_items turn said v) (after_talked turn talk said v A.books)
+    found said = said_findings turn talk A.kept said v A.books ++ left_out_findings turn talk A.kept (is_roomy text) (after_items turn said v) (after_talked turn talk A.kept said v A.books)
 
     books : List (Result Command CommandFault) → SeenBooks
-    books said = after_left_out turn talk (is_roomy text) (after_items turn said v) (after_talked turn talk said v A.books)
+    books said = after_left_out turn talk (is_roomy text) (after_items turn said v) (after_talked turn talk A.kept said v A.books)
 
     read : List (Result Command CommandFault) → View
     read said = after_room turn (is_roomy text) (after_items turn said v)
@@ -158,21 +170,33 @@ commands_told A me n p slots q l a b c some sees k good carries shows known = re
         all_told me n (busy_link me n A.kept) (knows_zero A me n) A.kept cs rest p q v A.books sees k.settled goes (subst AllProper (sym first) carries.proper) before
         (subst (λ (x : List Command). Known me n (waited_by x p) v A.books) (sym first) waited)
 
-    left : NoneLeft me n (busy_link me n A.kept) (knows_zero A me n) A.kept rest p (is_roomy text) after (after_talked turn talk (items_of cs None) v A.books)
+    left : NoneLeft me n (busy_link me n A.kept) (knows_zero A me n) A.kept rest p (is_roomy text) after (after_talked turn talk A.kept (items_of cs None) v A.books)
     left =
-        none_left me n (busy_link me n A.kept) (knows_zero A me n) A.kept rest p (is_roomy text) after (after_talked turn talk (items_of cs None) v A.books) goes (roomy_left p.phase.waiting c)
+        none_left me n (busy_link me n A.kept) (knows_zero A me n) A.kept rest p (is_roomy text) after (after_talked turn talk A.kept (items_of cs None) v A.books) goes (roomy_left p.phase.waiting c)
         (λ u r f. told.clear u some r f) told.known
 
+-- where the host is up, it waits for no reply, and owes none where none waits
+
+waits_not : (p : Phase) (q : Bool) (v : View) → up p ≡ true → Phased p q v → awaits_reply v.host.wait ≡ false
+waits_not p q v u k = let e = k.waits in grind arith
+
+none_owed : (p : Phase) → up p ≡ true → rrps p.waiting ≡ 0 → 0 < rrps p.waiting + bit p.owe → ⊥
+none_owed p u z o = let e = not_owed p u in omega (arith, z, e, o)
+  where
+    not_owed : (p : Phase) → up p ≡ true → bit p.owe ≡ 0
+    not_owed p u = grind arith
+
 -- a text
-pub text_told : (A : Umpire) (me n on : ℕ) (t : ℕ × List Bool) (p : Peer) → length A.views ≡ VIEWS → me < 256 → n < 256 → is_one_of on links ≡ true → (on == 0) ≡ false → Good p.ends → Known me n p (view_of A me n) A.books
-    → PeerTold A me n true (Ok (message_with (leader_to n on) t.0 t.1)) (cuts on p)
-text_told A me n on t p l a b u z good known = record {
-  none = unsaid (is_unused on) (on == 0) z;
+pub text_told : (A : Umpire) (me n on : ℕ) (t : ℕ × List Bool) (p : Peer) (q : Bool) → length A.views ≡ VIEWS → me < 256 → n < 256 → is_one_of on links ≡ true → (on == 0) ≡ false → answer (cut_in on p.ends) ≡ Some t → Stands p q (view_of A me n) → Good p.ends
+    → Known me n p (view_of A me n) A.books → PeerTold A me n true (Ok (message_with (leader_to n on) t.0 t.1)) (cuts on p)
+text_told A me n on t p q l a b u z cut k good known = record {
+  none = text_talk A me n me true m (used on u) z ∙ unsaid v.rests refl;
   known = λ f.
-      let k = known (ap (λ (x : SeenBooks). x.full) (sym (books (used on u) z)) ∙ f) in (
+      let reads = said_reads A me n me true true (Ok m) in
+      let before = known (reads.room f) in (
         subst (λ (x : SeenBooks). Spoken me n (cuts on p) (view_in (after_said A me n (turn_at A me n me true) true (Ok m)).views me n) x) (sym (books (used on u) z))
-            (subst (λ (x : View). Spoken me n (cuts on p) x A.books) (sym (view_same A.views me n (after_read (judged_reading m) turn m.text v) l a b ∙ view (used on u) z)) (cut_spoken me n on (busy_link me n A.kept) (knows_zero A me n) p v A.books good k.0)),
-        subst Tidy (sym (books (used on u) z)) k.1,
+            (subst (λ (x : View). Spoken me n (cuts on p) x (after_talked_text turn talk on m v A.books)) (sym (view_same A.views me n (after_read (judged_reading m) turn t.1 v) l a b ∙ view (used on u) z)) (spoken before v.rests refl)),
+        reads.tidy f before.1,
       );
 }
   where
@@ -188,12 +212,48 @@ text_told A me n on t p l a b u z good known = record {
     v : View
     v = view_of A me n
 
-    unsaid : (x y : Bool) → y ≡ false → (if true && (not x && y && t.0 == 8) then control_talk A me n me true t.1 else []) ≡ []
-    unsaid true y e = refl
-    unsaid false true e = absurd (cc e)
-    unsaid false false e = refl
+    w : TextOnTime me (busy_link me n A.kept) (knows_zero A me n) p q v
+    w = text_on_time me on (busy_link me n A.kept) (knows_zero A me n) t p q v cut k
 
-    books : is_unused on ≡ false → (on == 0) ≡ false → books_after_read (judged_reading m) turn talk on t.1 v A.books ≡ A.books
+    -- it is judged while the session does not rest
+    reach : (y : Bool) → v.rests ≡ y → reaches turn Thing.Text v ≡ not y
+    reach y r = by v.told (is_early turn Thing.Text v) v.rests y k.phased.told w.early r
+      where
+        by : (t e r y : Bool) → t ≡ true → (if not t || not e then None else Some (broken_by turn (early_rule turn Thing.Text v))) ≡ None → r ≡ y → (t && not e && not r && not (not true && awaits_reply v.host.wait)) ≡ not y
+        by true false true true a b c = refl
+        by true false false false a b c = refl
+        by true false true false a b c = absurd (cc c)
+        by true false false true a b c = absurd (cc c)
+        by true true r y a b c = absurd (cc b)
+        by false e r y a b c = absurd (cc a)
+
+    right : v.rests ≡ false → (f : Bool) → A.books.full ≡ f → text_rules talk on m A.books ≡ []
+    right r true f = ap (λ (x : Bool). if x then [] else led_text_rules on m A.books (text_lead talk on A.books)) f
+    right r false f = let before = known f in cut_right me n on p.ends p.echoes.awaited p.phase.waiting A.books t m good before.1 (before.0.tells r w.up_is) cut refl refl
+
+    unsaid : (y : Bool) → v.rests ≡ y → text_findings turn talk on m v A.books ≡ []
+    unsaid true r = ap (λ (x : Bool). if x then map (broken_by turn) (text_rules talk on m A.books) else []) (reach true r)
+    unsaid false r = ap (λ (x : Bool). if x then map (broken_by turn) (text_rules talk on m A.books) else []) (reach false r) ∙ ap (map (broken_by turn)) (right r A.books.full refl)
+
+    before_it : (after_thing turn Thing.Text v).rests ≡ false → v.rests ≡ false
+    before_it r = rests_before v.rests ((v.told && is_early turn Thing.Text v) && not (awaits_reply v.host.wait)) r
+
+    now : Bool → SeenBooks
+    now x = if x then books_after_text talk on m A.books else A.books
+
+    spoken : Spoken me n p v A.books × Tidy A.books → (y : Bool) → v.rests ≡ y → Spoken me n (cuts on p) (after_thing turn Thing.Text v) (now (reaches turn Thing.Text v))
+    spoken before true r = subst (λ (x : Bool). Spoken me n (cuts on p) (after_thing turn Thing.Text v) (now x)) (sym (reach true r)) (record {
+      owed = λ x o. clash v.rests r (before_it x);
+      waits = λ a. before.0.waits a;
+      tells = λ x d. clash v.rests r (before_it x);
+    })
+    spoken before false r = subst (λ (x : Bool). Spoken me n (cuts on p) (after_thing turn Thing.Text v) (now x)) (sym (reach false r)) (record {
+      owed = λ x o. absurd (none_owed p.phase w.up_is (w.none r) o);
+      waits = λ a. clash (awaits_reply v.host.wait) a (waits_not p.phase q v w.up_is k.phased);
+      tells = λ x d. cut_tells me n on p.ends p.echoes.awaited p.phase.waiting A.books t m good before.1 (before.0.tells r w.up_is) cut refl refl;
+    })
+
+    books : is_unused on ≡ false → (on == 0) ≡ false → books_after_read turn talk A.kept m v A.books (judged_reading m) ≡ after_talked_text turn talk on m v A.books
     books x y = rw (x, y) refl
 
     view : is_unused on ≡ false → (on == 0) ≡ false → after_read (judged_reading m) turn t.1 v ≡ after_thing turn Thing.Text v

@@ -1,9 +1,9 @@
 -- An RTS or a STR of the other comes to the host: all that is known of what was said stays known, whether the books find it
 -- right, refused or unclear.
-use Rattle.std.proofs.Common.{◌≡◌, ℕ, Bool, true, false, not, List, [], ◌∷◌, ◌++◌, Option, None, Some, is_some, ◌⊎◌, inl, inr, refl, sym, ap, ◌∙◌, subst}
+use Rattle.std.proofs.Common.{◌≡◌, ℕ, Bool, true, false, not, if◌then◌else◌, List, [], ◌∷◌, ◌++◌, Option, None, Some, is_some, ◌⊎◌, inl, inr, refl, sym, ap, ◌∙◌, subst, arith}
 use Rattle.std.proofs.lemmas.List.{append-nil}
 use Rattle.std.specs.FinMap.{get}
-use Rattle.std.specs.List.{list_any}
+use Rattle.std.specs.List.{list_any, position}
 use Rattle.std.proofs.lemmas.Bool.{and_parts}
 use Rattle.ncp_terms.specs.declared.command.Command.{Command}
 use Rattle.ncp_terms.specs.declared.command.Command.TheVariants.{Rts, Str}
@@ -16,6 +16,7 @@ use Rattle.ncp_model.specs.Commands.{errs}
 use Rattle.ncp_model.specs.Ends.{Ends, any, count, is_by_peer, hears_link, hear, map_after}
 use Rattle.ncp_model.specs.Peers.{is_full_up}
 use Rattle.ncp_proof_machine.proofs.EndsGood.{Good}
+use Rattle.ncp_umpire.specs.declared.finding.Rule.{Rule}
 use Rattle.ncp_umpire.specs.declared.life.Life.{Life}
 use Rattle.ncp_umpire.specs.declared.life.Request.{Request}
 use Rattle.ncp_umpire.specs.declared.life.Request.TheVariants.{Link, Size}
@@ -23,29 +24,37 @@ use Rattle.ncp_umpire.specs.declared.life.Topic.{Topic}
 use Rattle.ncp_umpire.specs.declared.talk.Talk.{Talk}
 use Rattle.ncp_umpire.specs.declared.talk.Verdict.{Verdict}
 use Rattle.ncp_umpire.specs.declared.talk.Verdict.TheVariants.{Right, Refused, Unclear}
-use Rattle.ncp_umpire.specs.Lives.{SeenBooks, is_senders, life_found, place_with_sockets, with_request_sent, is_marked, is_topic, rests_pair}
+use Rattle.ncp_umpire.specs.Lives.{SeenBooks, is_senders, has_link, life_in_place, life_found, place_with_sockets, with_request_sent, is_marked, is_topic, rests_pair}
 use Rattle.ncp_umpire.specs.Replies.{owes, error_wanted}
-use Rattle.ncp_umpire.specs.Requests.{is_of_sexes, request_verdict, rests_asked, asks, books_after_request}
-use Rattle.ncp_umpire.proofs.Shapes.{Ask, their_step, others_of}
+use Rattle.ncp_umpire.specs.Requests.{is_of_sexes, used_verdict, link_verdict, request_verdict, rests_asked, asks, books_after_request}
+use Rattle.ncp_umpire.proofs.Shapes.{Shape, Ask, their_legal, their_step, others_of}
 use Rattle.ncp_umpire.proofs.LinkOrder.{Sockets, same, same_is}
 use Rattle.ncp_umpire.proofs.BooksAt.{or_life, life_first, asks_at}
 use Rattle.ncp_umpire.proofs.Seeing.{is_of, number_in}
-use Rattle.ncp_proof_umpire_talk.proofs.KeptEnds.{kept}
-use Rattle.ncp_proof_umpire_talk.proofs.SeenBooks.{life_seen, seen_of, is_resting, rests_of, receives_at, OneSeen, asked_seen}
-use Rattle.ncp_proof_umpire_talk.proofs.Users.{Linked}
-use Rattle.ncp_proof_umpire_talk.proofs.Resting.{OneRests, pair_rests, pair_linked, mark_rests, mark_room, mark_keeps, mark_made}
-use Rattle.ncp_proof_umpire_talk.proofs.Meets.{Meets, linked_mark, due_room}
-use Rattle.ncp_proof_umpire_talk.proofs.Comes.{their_request}
-use Rattle.ncp_proof_umpire_talk.proofs.RequestsCome.{one_end, rts_comes, str_comes}
-use Rattle.ncp_proof_umpire_talk.proofs.Refusals.{error_fits}
-use Rattle.ncp_proof_umpire_talk.proofs.Echoing.{Echoing}
-use Rattle.ncp_proof_umpire_talk.proofs.Came.{has_come}
-use Rattle.ncp_proof_umpire_talk.proofs.HeldLinks.{heard_held, its_link_rests}
-use Rattle.ncp_proof_umpire_talk.proofs.RefusedRequests.{rts_refused_too, str_refused_too}
-use Rattle.ncp_proof_umpire_talk.proofs.HostMakes.{rts_made, str_made}
-use Rattle.ncp_proof_umpire_talk.proofs.EndsHear.{HeldBefore, rts_holds, str_holds, rts_heard, str_heard}
+use Rattle.ncp_proof_umpire_seen.proofs.KeptEnds.{kept}
+use Rattle.ncp_proof_umpire_seen.proofs.SeenBooks.{life_seen, seen_of, is_resting, rests_of, receives_at, OneSeen, asked_seen}
+use Rattle.ncp_proof_umpire_seen.proofs.Users.{Linked}
+use Rattle.ncp_proof_umpire_seen.proofs.Resting.{OneRests, pair_rests, pair_linked, link_rests_too, mark_room, mark_keeps, mark_made, due_room}
+use Rattle.ncp_proof_umpire_seen.proofs.Meets.{Meets, linked_mark}
+use Rattle.ncp_proof_umpire_seen.proofs.Comes.{their_request}
+use Rattle.ncp_proof_umpire_seen.proofs.RequestsCome.{one_end, rts_comes, str_comes}
+use Rattle.ncp_proof_umpire_seen.proofs.Echoing.{Echoing}
+use Rattle.ncp_proof_umpire_seen.proofs.Came.{has_come}
+use Rattle.ncp_proof_umpire_seen.proofs.HeldLinks.{heard_held, its_link_rests}
+use Rattle.ncp_proof_umpire_seen.proofs.RefusedRequests.{rts_refused_too, str_refused_too}
+use Rattle.ncp_proof_umpire_counts.proofs.HostMakes.{refusal_fits, rts_made, str_made}
+use Rattle.ncp_proof_umpire_seen.proofs.EndsHear.{HeldBefore, rts_holds, str_holds, rts_heard, str_heard}
 use Rattle.ncp_proof_umpire_talk.proofs.ToldSteps.{SameEchoes, same_marks, echoes_then, link_echoes, rest_echoes, echo_told, came_told, owed_tells, unclear_tells}
 use Rattle.ncp_proof_umpire_talk.proofs.Spoken.{Tells}
+use Rattle.ncp_proof_umpire_counts.proofs.Words.{link_given}
+use Rattle.ncp_proof_umpire_seen.proofs.TidyBooks.{Tidy}
+use Rattle.ncp_proof_umpire_counts.proofs.PlainSteps.{plain_link_rests, plain_rests, plain_asked, asked_counts}
+use Rattle.ncp_proof_umpire_counts.proofs.Counted.{Counted}
+use Rattle.ncp_proof_umpire_counts.proofs.CountedSteps.{pair_marked}
+use Rattle.ncp_proof_umpire_counts.proofs.RequestsCounted.{rts_ends, str_ends, rts_words, str_words, counted_request, counted_unclear}
+use Rattle.ncp_proof_umpire_counts.proofs.OwedItems.{OwedBy}
+use Rattle.ncp_proof_umpire_counts.proofs.OwedMoves.{owed_rts, owed_str}
+use Rattle.ncp_proof_umpire_counts.proofs.OwedUnclear.{owed_rts_unclear, owed_str_unclear}
 
 -- ---- the connection and the link that is asked for rest
 
@@ -58,7 +67,7 @@ module _ (me n : ℕ) (p : Sockets) (b : SeenBooks) where
 
   pub asked_rests : (request : Request) → (rested request).full ≡ false → OneRests me n b (rested request) p
   asked_rests (Link link) f =
-      mark_rests me n (Topic.LinkRests false link) b (rests_pair me n p.0 p.1 b) p (pair_rests me n p b (mark_room me n (Topic.LinkRests false link) (rests_pair me n p.0 p.1 b) f))
+      link_rests_too me n false link b (rests_pair me n p.0 p.1 b) p (pair_rests me n p b (mark_room me n (Topic.LinkRests false link) (rests_pair me n p.0 p.1 b) f))
   asked_rests (Size size) f = pair_rests me n p b f
 
   pub asked_linked : (m : Ends) (request : Request) → (rested request).full ≡ false → Linked me n b → Linked me n (rested request)
@@ -84,7 +93,7 @@ module _ (me n : ℕ) (p : Sockets) (b : SeenBooks) where
   asked_come request room h =
       ap has_come (asks_at hearing p.0 p.1 request b (place_with_sockets me n p.0 p.1 b.lives) refl room) ∙ go (life_found b.lives (place_with_sockets me n p.0 p.1 b.lives)) request (ap has_come (life_first me n p.0 p.1 b.lives) ∙ h)
     where
-      go : (o : Option Life) (r : Request) → has_come o ≡ true → has_come (Some (with_request_sent (or_life me n p.0 p.1 o) r)) ≡ true
+      go : (o : Option Life) (r : Request) → has_come o ≡ true → has_come (Some (with_request_sent (or_life me n p.0 p.1 b.number o) r)) ≡ true
       go None r h = absurd (cc h)
       go (Some life) (Link link) h = h
       go (Some life) (Size size) h = h
@@ -102,13 +111,15 @@ module _ (me n : ℕ) (m : Ends) (awaited : Bool) (w : List Command) (b : SeenBo
   taken = asks talk pair.local pair.remote request b (place_with_sockets me n pair.local pair.remote b.lives)
 
   taken_tells : is_of (is_senders pair.local) false request ≡ true → rests_of me n b p ≡ false → taken.full ≡ false → answer act ≡ Nothing → (receives pair ≡ true → HeldBefore (get m pair) (end_after (get m pair) act))
-      → Meets me n (map_after m pair act) w taken → Tells me n m awaited w b → Tells me n (map_after m pair act) awaited w taken
-  taken_tells sex calm room e holds meets tells = record {
+      → Meets me n (map_after m pair act) w taken → Counted me n (map_after m pair act) w taken → OwedBy me n (map_after m pair act) w taken → Tells me n m awaited w b → Tells me n (map_after m pair act) awaited w taken
+  taken_tells sex calm room e holds meets counted owed tells = record {
     meets = meets;
     held = heard_held me n m (map_after m pair act) b taken pair (end_after (get m pair) act) (their_step (Ask (number_in request)) (seen_of me n b p)) (one_end m pair act) one calm tells.held;
     echoing = subst (λ (x : List Command). Echoing me n awaited x taken) (append-nil w) (echo_told me n awaited w [] b taken (same_marks me n b taken one.marks) refl tells.echoing);
     came = came_told me n m (map_after m pair act) w w b taken pair (end_after (get m pair) act) (one_end m pair act) holds (λ v. refl) (λ v z. rests v (same v p) refl z)
         (λ link z. ap (list_any (is_topic me n (Topic.LinkRests true link))) one.marks ∙ z) (λ v old g r s a z h. inr (come v (same v p) refl h)) tells.came;
+    counted = counted;
+    owed = owed;
   }
     where
       one : OneSeen me n b taken p (their_step (Ask (number_in request)) (seen_of me n b p))
@@ -126,7 +137,35 @@ module _ (me n : ℕ) (m : Ends) (awaited : Bool) (w : List Command) (b : SeenBo
 
 -- ---- each of them
 
-module _ (me n : ℕ) (m : Ends) (awaited : Bool) (w : List Command) (b : SeenBooks) (good : Good m) (proper : (pair : Pair) → is_some (get m pair) ≡ true → is_proper pair ≡ true) where
+pub proper_sex : (pair : Pair) → is_proper pair ≡ true → sends pair ≡ is_senders pair.local
+proper_sex pair k = grind arith
+
+-- a request that is right is of a connection of which no number of the other was seen
+unlinked : (number : ℕ) (x : Option Shape) → their_legal (Ask number) x ≡ true → link_given true x ≡ None
+unlinked number None k = refl
+unlinked number (Some s) k = by s.others (and_parts (not (is_some s.others)) (not s.cls) k).0
+  where
+    by : (o : Option ℕ) → not (is_some o) ≡ true → o ≡ None
+    by None e = refl
+    by (Some given) e = absurd (cc e)
+
+-- and for a link that nobody has
+unfound : (me n link : ℕ) (c : Command) (b : SeenBooks) → link_verdict (record { at = me; peer = n; sent = false }) c (Link link) b ≡ Right → position (has_link me n false link) b.lives ≡ None
+unfound me n link c b v = go (position (has_link me n false link) b.lives) v
+  where
+    go : (o : Option ℕ) → used_verdict (record { at = me; peer = n; sent = false }) c (life_found b.lives o) ≡ Right → o ≡ None
+    go None v = refl
+    go (Some i) v = by (life_in_place b.lives i).peer_left v
+      where
+        by : (x : Bool) → (if x then Unclear (Some (Rule.LinkUsed c (life_in_place b.lives i).local (life_in_place b.lives i).remote)) else Refused (Rule.LinkUsed c (life_in_place b.lives i).local (life_in_place b.lives i).remote)) ≡ Right → Some i ≡ None
+        by true v = absurd (cc v)
+        by false v = absurd (cc v)
+
+no_sender : (x : Bool) → not x ≡ true → x ≡ false
+no_sender true e = absurd (cc e)
+no_sender false e = refl
+
+module _ (me n : ℕ) (m : Ends) (awaited : Bool) (w : List Command) (b : SeenBooks) (good : Good m) (proper : (pair : Pair) → is_some (get m pair) ≡ true → is_proper pair ≡ true) (tidy : Tidy b) where
   abbrev heard_talk : Talk
   heard_talk = record { at = me; peer = n; sent = false }
 
@@ -173,15 +212,22 @@ module _ (me n : ℕ) (m : Ends) (awaited : Bool) (w : List Command) (b : SeenBo
       right e f (inl k) = absurd (not_full act full k)
       right e f (inr (k, meets)) =
           let its = sender e in
-          silent (map_after m pair act) act (books_after_request heard_talk c send receive (Link link) Right b) k
-          (taken_tells me n m awaited w b pair act (Link link) its (their_request me n m w b c (send, receive) (is_of_sexes receive send) (Link link) its e).calm f k
-          (rts_holds pair link (any (hears_link link) m) (count is_by_peer m) (get m pair)) meets tells)
+          let q = their_request me n m w b c (send, receive) (is_of_sexes receive send) (Link link) its e in
+          let after = books_after_request heard_talk c send receive (Link link) Right b in
+          let one = asked_seen me n false (send, receive) b (Link link) its f in
+          let counts = asked_counts me n false (send, receive) (Link link) b f in
+          silent (map_after m pair act) act after k
+          (taken_tells me n m awaited w b pair act (Link link) its q.calm f k
+          (rts_holds pair link (any (hears_link link) m) (count is_by_peer m) (get m pair)) meets
+          (counted_request me n m (map_after m pair act) w b (send, receive) (Link link) (end_after (get m pair) act) its f q.legal q.calm (one_end m pair act) (rts_ends pair link (any (hears_link link) m) (count is_by_peer m) (get m pair))
+          (plain_asked me n false link b after (send, receive) one counts q.legal tells.counted.plain) tells.meets.tally.pairs tells.counted)
+          (owed_rts me n m w b pair link (count is_by_peer m) (any (hears_link link) m) after tells.counted.plain tidy (unfound me n link c b q.unused) one (unlinked link (seen_of me n b (send, receive)) q.legal) tells.owed) tells)
 
       go : (v : Verdict) → request_verdict heard_talk c send receive (is_of_sexes receive send) (Link link) b ≡ v → (books_after_request heard_talk c send receive (Link link) v b).full ≡ false → Told v
       go Right e f = right e f (rts_comes me n m w b receive send link (good.sound pair) tells.held e f tells.meets)
       go (Refused wrong) e f =
           refused c pair act (rts_refused_too me n m w b receive send link wrong e proper tells.meets)
-          (owed_tells me n m awaited w b (error_of 3 c) (error_wanted 3 3 c) true (error_fits 3 3 c) refl refl refl f tells)
+          (owed_tells me n m awaited w b (error_of 3 c) (error_wanted 3 3 c) true (refusal_fits c) refl f tells)
       go (Unclear wrong) e f =
           let mid = rests_asked heard_talk (Link link) (rests_pair me n send receive b) in
           let mid_room = due_room mid (record { at = me; peer = n; host = true; wanted = error_wanted 3 3 c; sure = false }) f in
@@ -189,8 +235,22 @@ module _ (me n : ℕ) (m : Ends) (awaited : Bool) (w : List Command) (b : SeenBo
           (asked_rests me n (send, receive) b (Link link) mid_room) (asked_linked me n (send, receive) b m (Link link) mid_room tells.meets.linked) (asked_echoes me n (send, receive) b (Link link))
           (asked_link_rests me n (send, receive) b (Link link) mid_room)
           (λ l s o. heard l (rts_heard pair link (any (hears_link link) m) (count is_by_peer m) (get m pair) l s o) mid_room)
-          (rts_holds pair link (any (hears_link link) m) (count is_by_peer m) (get m pair)) f tells
+          (rts_holds pair link (any (hears_link link) m) (count is_by_peer m) (get m pair)) refl
+          (counted_unclear me n m (map_after m pair act) w b mid (send, receive) (end_after (get m pair) act) (made_by_hearing (answer act)) (λ known. is_senders send ≡ true → known link ≡ true)
+          (asked_rests me n (send, receive) b (Link link) mid_room) (one_end m pair act) (rts_words pair link (any (hears_link link) m) (count is_by_peer m) (get m pair))
+          (λ known too s. too link (ap (λ (x : Bool). is_marked me n (Topic.LinkRests (not x) link) mid) s ∙ link_asked_rests me n (send, receive) b link mid_room))
+          (λ there. proper_sex pair (proper pair there)) (λ calm l g. marked l g mid_room)
+          (plain_link_rests me n false link (rests_pair me n send receive b)
+          (plain_rests me n (send, receive) b (asked_rests me n (send, receive) b (Link link) mid_room).room (mark_room me n (Topic.LinkRests false link) (rests_pair me n send receive b) mid_room) tells.counted.plain))
+          tells.meets.tally.pairs tells.counted)
+          (owed_rts_unclear me n m w b pair link (count is_by_peer m) (any (hears_link link) m) (error_wanted 3 3 c) refl (rts_made pair link (any (hears_link link) m) (count is_by_peer m) (get m pair) full) f tells.owed) f tells
         where
+          marked : (l : ℕ) → link_given (is_senders send) (seen_of me n b (send, receive)) ≡ Some l → (rests_asked heard_talk (Link link) (rests_pair me n send receive b)).full ≡ false
+              → is_marked me n (Topic.LinkRests (not (is_senders send)) l) (rests_asked heard_talk (Link link) (rests_pair me n send receive b)) ≡ true
+          marked l g f =
+              mark_keeps me n (Topic.LinkRests false link) (rests_pair me n send receive b) (Topic.LinkRests (not (is_senders send)) l)
+              (pair_marked me n (send, receive) b (mark_room me n (Topic.LinkRests false link) (rests_pair me n send receive b) f) l g)
+
           mid : SeenBooks
           mid = rests_asked heard_talk (Link link) (rests_pair me n send receive b)
 
@@ -228,15 +288,22 @@ module _ (me n : ℕ) (m : Ends) (awaited : Bool) (w : List Command) (b : SeenBo
       right e f (inl k) = absurd (not_full act full k)
       right e f (inr (k, meets)) =
           let its = receiver e in
-          silent (map_after m pair act) act (books_after_request heard_talk c receive send (Size size) Right b) k
-          (taken_tells me n m awaited w b pair act (Size size) its (their_request me n m w b c (receive, send) (is_of_sexes receive send) (Size size) its e).calm f k
-          (λ r. str_holds pair size (count is_by_peer m) (get m pair)) meets tells)
+          let q = their_request me n m w b c (receive, send) (is_of_sexes receive send) (Size size) its e in
+          let after = books_after_request heard_talk c receive send (Size size) Right b in
+          let one = asked_seen me n false (receive, send) b (Size size) its f in
+          let counts = asked_counts me n false (receive, send) (Size size) b f in
+          silent (map_after m pair act) act after k
+          (taken_tells me n m awaited w b pair act (Size size) its q.calm f k
+          (λ r. str_holds pair size (count is_by_peer m) (get m pair)) meets
+          (counted_request me n m (map_after m pair act) w b (receive, send) (Size size) (end_after (get m pair) act) its f q.legal q.calm (one_end m pair act) (str_ends pair size (count is_by_peer m) (get m pair))
+          (plain_asked me n false size b after (receive, send) one counts q.legal tells.counted.plain) tells.meets.tally.pairs tells.counted)
+          (owed_str me n m w b pair size (count is_by_peer m) after (their_step (Ask size) (seen_of me n b (receive, send))) (no_sender (is_senders receive) its) one tells.owed) tells)
 
       go : (v : Verdict) → request_verdict heard_talk c receive send (is_of_sexes receive send) (Size size) b ≡ v → (books_after_request heard_talk c receive send (Size size) v b).full ≡ false → Told v
       go Right e f = right e f (str_comes me n m w b send receive size (good.sound pair) e f tells.meets)
       go (Refused wrong) e f =
           refused c pair act (str_refused_too me n m w b send receive size wrong e tells.meets)
-          (owed_tells me n m awaited w b (error_of 3 c) (error_wanted 3 3 c) true (error_fits 3 3 c) refl refl refl f tells)
+          (owed_tells me n m awaited w b (error_of 3 c) (error_wanted 3 3 c) true (refusal_fits c) refl f tells)
       go (Unclear wrong) e f =
           let mid = rests_asked heard_talk (Size size) (rests_pair me n receive send b) in
           let mid_room = due_room mid (record { at = me; peer = n; host = true; wanted = error_wanted 3 3 c; sure = false }) f in
@@ -244,4 +311,9 @@ module _ (me n : ℕ) (m : Ends) (awaited : Bool) (w : List Command) (b : SeenBo
           (asked_rests me n (receive, send) b (Size size) mid_room) (asked_linked me n (receive, send) b m (Size size) mid_room tells.meets.linked) (asked_echoes me n (receive, send) b (Size size))
           (asked_link_rests me n (receive, send) b (Size size) mid_room)
           (λ l s o. inl (str_heard pair size (count is_by_peer m) (get m pair) l s o))
-          (λ r. str_holds pair size (count is_by_peer m) (get m pair)) f tells
+          (λ r. str_holds pair size (count is_by_peer m) (get m pair)) refl
+          (counted_unclear me n m (map_after m pair act) w b mid (receive, send) (end_after (get m pair) act) (made_by_hearing (answer act)) (λ known. Unit {0})
+          (asked_rests me n (receive, send) b (Size size) mid_room) (one_end m pair act) (str_words pair size (count is_by_peer m) (get m pair)) (λ known too. tt)
+          (λ there. proper_sex pair (proper pair there)) (λ calm l g. pair_marked me n (receive, send) b mid_room l g)
+          (plain_rests me n (receive, send) b (asked_rests me n (receive, send) b (Size size) mid_room).room mid_room tells.counted.plain) tells.meets.tally.pairs tells.counted)
+          (owed_str_unclear me n m w b pair size (count is_by_peer m) (error_wanted 3 3 c) refl (str_made pair size (count is_by_peer m) (get m pair) full) f tells.owed) f tells

@@ -11,10 +11,12 @@ use Rattle.ncp_model.proofs.ResetLists.{bit, rrps}
 use Rattle.ncp_umpire.specs.declared.view.View.{View}
 use Rattle.ncp_umpire.specs.Views.{awaits_reply}
 use Rattle.ncp_umpire.specs.Lives.{SeenBooks, is_life_between, is_mark_between, is_due_between}
-use Rattle.ncp_proof_umpire_talk.proofs.Meets.{Meets}
-use Rattle.ncp_proof_umpire_talk.proofs.Untaken.{Held}
-use Rattle.ncp_proof_umpire_talk.proofs.Echoing.{Echoing}
-use Rattle.ncp_proof_umpire_talk.proofs.Came.{Came}
+use Rattle.ncp_proof_umpire_seen.proofs.Meets.{Meets}
+use Rattle.ncp_proof_umpire_seen.proofs.Untaken.{Held}
+use Rattle.ncp_proof_umpire_seen.proofs.Echoing.{Echoing}
+use Rattle.ncp_proof_umpire_seen.proofs.Came.{Came}
+use Rattle.ncp_proof_umpire_counts.proofs.Counted.{Counted}
+use Rattle.ncp_proof_umpire_counts.proofs.OwedItems.{OwedBy}
 
 -- ---- what was said, and what the host keeps
 
@@ -24,6 +26,8 @@ pub record Tells (me n : ℕ) (m : Ends) (awaited : Bool) (w : List Command) (b 
   pub held : Held me n m b
   pub echoing : Echoing me n awaited w b
   pub came : Came me n m w b
+  pub counted : Counted me n m w b
+  pub owed : OwedBy me n m w b
 
 -- ---- between two hosts nothing was said
 

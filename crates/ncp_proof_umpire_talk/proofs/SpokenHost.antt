@@ -12,16 +12,16 @@ use Rattle.ncp_model.specs.declared.pair.Pair.{Pair}
 use Rattle.ncp_model.specs.declared.call_fault.CallFault.{CallFault}
 use Rattle.ncp_model.specs.Act.{Act, answer, end_after, made_if_any, made_by_call}
 use Rattle.ncp_model.specs.End.{End}
-use Rattle.ncp_model.specs.Ends.{Ends, put, sender_on, pair_of, cut_in, answered_at, answered_in, map_after, map_after_at, no_ends}
+use Rattle.ncp_model.specs.Ends.{Ends, put, sender_on, pair_of, answered_at, answered_in, map_after, map_after_at, no_ends}
 use Rattle.ncp_model.specs.Echo.{Echoes, echo_answer, echo_asked}
 use Rattle.ncp_model.specs.Texts.{Rfnm}
 use Rattle.ncp_model.specs.Happenings.{Happening, Happened, happens}
 use Rattle.ncp_model.specs.Phase.{Phase, up, is_rst, is_rrp, is_other, is_resetting, has_place, queued, goes_down, wants_reset, phase_answers, phase_asks, phase_settles, phase_makes, makes_all}
 use Rattle.ncp_model.specs.Sending.{is_full}
-use Rattle.ncp_model.specs.Peers.{Peer, PairCall, Ask_to_send, Ask_to_receive, Close, Give, Take, Allocate, Call_back, Interrupt, called, calls, calls_up, calls_echo, echo_called, calls_reset, cleared, cuts, frees, frees_up, settles, standing}
+use Rattle.ncp_model.specs.Peers.{Peer, PairCall, Ask_to_send, Ask_to_receive, Close, Give, Take, Allocate, Call_back, Interrupt, called, calls, calls_up, calls_echo, echo_called, calls_reset, cleared, frees, frees_up, settles, standing}
 use Rattle.ncp_model.proofs.ResetLists.{bit, others, rrps-append, rrps-purged, others-purged}
 use Rattle.ncp_model.proofs.EndsAfter.{after-at, after-elsewhere}
-use Rattle.ncp_model.proofs.LinksLead.{cut-led, answered-led}
+use Rattle.ncp_model.proofs.LinksLead.{answered-led}
 use Rattle.ncp_proof_headline.proofs.HostsJoined.{AllOther}
 use Rattle.ncp_proof_machine.proofs.EndsGood.{Good, put-changes}
 use Rattle.ncp_host.specs.PeerState.{PeerState, control_link, frees_on, after_answer, is_answered, answer_taken, answer_comes}
@@ -30,42 +30,42 @@ use Rattle.ncp_host.specs.Calls.{sockets}
 use Rattle.ncp_transcript.specs.declared.call.Call.{Call}
 use Rattle.ncp_transcript.specs.declared.note.HostNote.{HostNote}
 use Rattle.ncp_proof_runs.specs.Peers.{called_for, note_for}
-use Rattle.ncp_umpire.specs.declared.finding.Thing.{Thing}
 use Rattle.ncp_umpire.specs.declared.view.View.{View}
 use Rattle.ncp_umpire.specs.Views.{awaits_reply}
-use Rattle.ncp_umpire.specs.Phases.{is_early, after_thing}
 use Rattle.ncp_umpire.specs.declared.life.Topic.{Topic}
 use Rattle.ncp_umpire.specs.declared.view.Side.{Side}
 use Rattle.ncp_umpire.specs.Lives.{SeenBooks, is_marked}
 use Rattle.ncp_umpire.proofs.Shapes.{Say}
 use Rattle.ncp_umpire.proofs.LinkOrder.{Sockets, about}
 use Rattle.ncp_proof_umpire.proofs.HostSlots.{is_of_call}
-use Rattle.ncp_proof_umpire_talk.proofs.OwnMoves.{all_says, is_of_host}
-use Rattle.ncp_proof_umpire_talk.proofs.Meets.{same_lives}
-use Rattle.ncp_proof_umpire_talk.proofs.Comes.{says_append, replies_same}
-use Rattle.ncp_proof_umpire_talk.proofs.Echoing.{echo_waits}
-use Rattle.ncp_proof_umpire_talk.proofs.SeenBooks.{life_seen, rests_of}
-use Rattle.ncp_proof_umpire_talk.proofs.Came.{asks_in, has_come}
-use Rattle.ncp_proof_umpire_talk.proofs.Proper.{ProperEnds}
-use Rattle.ncp_proof_umpire_talk.proofs.OwnCame.{is_text_coming}
-use Rattle.ncp_proof_umpire_talk.proofs.NoResets.{happening_unreset, answer_unreset}
-use Rattle.ncp_proof_umpire_talk.proofs.OwnTells.{is_asking, unasked_free, call_free, own_tells}
+use Rattle.ncp_proof_umpire_seen.proofs.OwnMoves.{all_says, is_of_host}
+use Rattle.ncp_proof_umpire_seen.proofs.Comes.{says_append, unsaid_meets}
+use Rattle.ncp_proof_umpire_seen.proofs.Echoing.{echo_waits}
+use Rattle.ncp_proof_umpire_seen.proofs.SeenBooks.{life_seen, rests_of}
+use Rattle.ncp_proof_umpire_seen.proofs.Came.{asks_in, has_come}
+use Rattle.ncp_proof_umpire_seen.proofs.Proper.{ProperEnds}
+use Rattle.ncp_proof_umpire_seen.proofs.OwnCame.{is_text_coming}
+use Rattle.ncp_proof_umpire_seen.proofs.NoResets.{happening_unreset, answer_unreset}
+use Rattle.ncp_proof_umpire_talk.proofs.OwnTells.{is_asking, unasked_free, call_free, call_tells}
 use Rattle.ncp_proof_umpire_talk.proofs.Spoken.{Tells, Spoken}
+use Rattle.ncp_proof_umpire_counts.proofs.CallsCounted.{is_call}
+use Rattle.ncp_proof_umpire_talk.proofs.ToldSteps.{unworded_counted}
+use Rattle.ncp_proof_umpire_counts.proofs.OwedSteps.{owed_more}
 use Rattle.ncp_proof_umpire_talk.proofs.Begun.{begins_tells}
 use Rattle.ncp_proof_umpire_talk.proofs.MadeUp.{made_owed, owing, owing_same, made_tells}
-use Rattle.ncp_proof_umpire_talk.proofs.SpokenIn.{rests_before, settles_calm}
+use Rattle.ncp_proof_umpire_talk.proofs.SpokenIn.{settles_calm}
 
 -- ---- calls
 
-called_host : (call : PairCall) (full : Bool) (m : Ends) → (is_of_host (called call full m) ≡ true) × (is_text_coming (called call full m) ≡ false)
-called_host (Ask_to_send of_size room) full m = (refl, refl)
-called_host (Ask_to_receive room) full m = (refl, refl)
-called_host Close full m = (refl, refl)
-called_host (Give text) full m = (refl, refl)
-called_host (Take bytes) full m = (refl, refl)
-called_host (Allocate x y) full m = (refl, refl)
-called_host (Call_back x y) full m = (refl, refl)
-called_host Interrupt full m = (refl, refl)
+called_host : (call : PairCall) (full : Bool) (m : Ends) → (is_of_host (called call full m) ≡ true) × ((is_text_coming (called call full m) ≡ false) × (is_call (called call full m) ≡ true))
+called_host (Ask_to_send of_size room) full m = (refl, (refl, refl))
+called_host (Ask_to_receive room) full m = (refl, (refl, refl))
+called_host Close full m = (refl, (refl, refl))
+called_host (Give text) full m = (refl, (refl, refl))
+called_host (Take bytes) full m = (refl, (refl, refl))
+called_host (Allocate x y) full m = (refl, (refl, refl))
+called_host (Call_back x y) full m = (refl, (refl, refl))
+called_host Interrupt full m = (refl, (refl, refl))
 
 -- with commands made, while the host is up
 made_spoken : (me n : ℕ) (cs : List Command) (m : Ends) (s : Echoes) (p : Peer) (v : View) (b : SeenBooks) → Spoken me n p v b
@@ -95,15 +95,17 @@ calls_spoken me n pair call p v b good sexes k = go (up p.phase) refl
         made_tells me n it.made p.phase now p.echoes b (happening_unreset pair what (get p.ends pair)) d (λ x.
         let h = called_host call (is_full p.phase) p.ends in
         let c = put-changes p.ends pair what in
-        own_tells me n pair what p.ends now p.echoes.awaited p.phase.waiting b good h.0 h.1 (record { there = c.there; elsewhere = c.elsewhere }) (call_free call (is_full p.phase) p.ends pair sexes) (k.tells r x)))
+        call_tells me n pair what p.ends now p.echoes.awaited p.phase.waiting b good sexes h.0 h.1.0 h.1.1 (record { there = c.there; elsewhere = c.elsewhere }) (call_free call (is_full p.phase) p.ends pair sexes) (k.tells r x)))
 
 -- an ECO waits
 eco_tells : (me n byte : ℕ) (m : Ends) (w : List Command) (b : SeenBooks) → Tells me n m false w b → Tells me n m true (w ++ Command.Eco byte ∷ []) b
 eco_tells me n byte m w b t = record {
-  meets = same_lives me n m w (w ++ Command.Eco byte ∷ []) b b refl (λ on link z. z) none (replies_same me n w (Command.Eco byte ∷ []) b.dues refl t.meets.replies) t.meets;
+  meets = unsaid_meets me n m w b (Command.Eco byte ∷ []) refl t.meets;
   held = t.held;
   echoing = echo_waits me n byte w b t.echoing;
   came = λ u e g r h. subst (λ (x : List (Sockets × Say)). CameBy u e x) (sym none) (t.came u e g r h);
+  counted = unworded_counted me n m w b (Command.Eco byte) refl refl t.counted;
+  owed = owed_more me n m w (Command.Eco byte ∷ []) b refl t.owed;
 }
   where
     none : all_says (w ++ Command.Eco byte ∷ []) ≡ all_says w
@@ -246,42 +248,19 @@ pub record Led {A : Type 0} (m : Ends) (pair : Pair) (act : Act A) (cs : List Co
   pub what : Happening
   pub host : is_of_host what ≡ true
   pub text : is_text_coming what ≡ false
+  pub call : is_call what ≡ true
   pub asks : is_asking what ≡ false
   pub after : (happens pair what (get m pair)).after ≡ end_after (get m pair) act
   pub made : (happens pair what (get m pair)).made ≡ cs
 
-pub looked_tells : {A : Type 0} (me n : ℕ) (o : Option Pair) (act : Act A) (cs : List Command) (m : Ends) (awaited : Bool) (w : List Command) (b : SeenBooks) → Good m → ((pair : Pair) → o ≡ Some pair → Led m pair act cs) → (o ≡ None → cs ≡ [])
+pub looked_tells : {A : Type 0} (me n : ℕ) (o : Option Pair) (act : Act A) (cs : List Command) (m : Ends) (awaited : Bool) (w : List Command) (b : SeenBooks) → Good m → ProperEnds m → ((pair : Pair) → o ≡ Some pair → Led m pair act cs) → (o ≡ None → cs ≡ [])
     → Tells me n m awaited w b → Tells me n (map_after_at m o act) awaited (w ++ cs) b
-looked_tells me n None act cs m awaited w b good led none t = subst (λ (x : List Command). Tells me n m awaited x b) (sym (ap (λ (x : List Command). w ++ x) (none refl) ∙ append-nil w)) t
-looked_tells me n (Some pair) act cs m awaited w b good led none t =
+looked_tells me n None act cs m awaited w b good sexes led none t = subst (λ (x : List Command). Tells me n m awaited x b) (sym (ap (λ (x : List Command). w ++ x) (none refl) ∙ append-nil w)) t
+looked_tells me n (Some pair) act cs m awaited w b good sexes led none t =
     let l = led pair refl in
     subst (λ (x : List Command). Tells me n (map_after m pair act) awaited (w ++ x) b) l.made
-    (own_tells me n pair l.what m (map_after m pair act) awaited w b good l.host l.text
+    (call_tells me n pair l.what m (map_after m pair act) awaited w b good sexes l.host l.text l.call
     (record { there = after-at m pair act ∙ sym l.after; elsewhere = λ q d. after-elsewhere m pair q act d }) (unasked_free l.what m pair l.host l.asks) t)
-
--- ---- a text goes out
-
-pub cut_tells : (me n on : ℕ) (m : Ends) (awaited : Bool) (w : List Command) (b : SeenBooks) → Good m → Tells me n m awaited w b → Tells me n (map_after_at m (pair_of (sender_on on m)) (cut_in on m)) awaited w b
-cut_tells me n on m awaited w b good t =
-    subst (λ (x : List Command). Tells me n (map_after_at m (pair_of (sender_on on m)) (cut_in on m)) awaited x b) (append-nil w)
-    (looked_tells me n (pair_of (sender_on on m)) (cut_in on m) [] m awaited w b good (λ pair e. let l = cut-led m on pair e in record {
-      what = Happening.Text_goes_out;
-      host = refl;
-      text = refl;
-      asks = refl;
-      after = ap (λ (d : Happened). d.after) l.1;
-      made = ap (λ (d : Happened). d.made) l.1;
-    }) (λ e. refl) t)
-
-pub cut_spoken : (me n on : ℕ) (busy : Option ℕ) (zero : Bool) (p : Peer) (v : View) (b : SeenBooks) → Good p.ends → Spoken me n p v b → Spoken me n (cuts on p) (after_thing (record { by = me; sent = true; busy = busy; zero = zero }) Thing.Text v) b
-cut_spoken me n on busy zero p v b good k = record {
-  owed = λ r o. k.owed (before r) o;
-  waits = λ a. k.waits a;
-  tells = λ r d. cut_tells me n on p.ends p.echoes.awaited p.phase.waiting b good (k.tells (before r) d);
-}
-  where
-    before : (after_thing (record { by = me; sent = true; busy = busy; zero = zero }) Thing.Text v).rests ≡ false → v.rests ≡ false
-    before r = rests_before v.rests ((v.told && is_early (record { by = me; sent = true; busy = busy; zero = zero }) Thing.Text v) && not (awaits_reply v.host.wait)) r
 
 -- ---- a text was taken
 
@@ -303,8 +282,8 @@ pub record Down (p : Peer) : Type 0 where
   pub none : up p.phase ≡ false → p.ends ≡ no_ends
   pub calm : up p.phase ≡ false → others p.phase.waiting ≡ []
 
-frees_spoken : (me n on : ℕ) (p : Peer) (v : View) (b : SeenBooks) → Good p.ends → Down p → Spoken me n p v b → Spoken me n (frees on p) v b × Down (frees on p)
-frees_spoken me n on p v b good down k = go (up p.phase) refl
+frees_spoken : (me n on : ℕ) (p : Peer) (v : View) (b : SeenBooks) → Good p.ends → ProperEnds p.ends → Down p → Spoken me n p v b → Spoken me n (frees on p) v b × Down (frees on p)
+frees_spoken me n on p v b good sexes down k = go (up p.phase) refl
   where
     act : Act (Option Command)
     act = answered_in on Rfnm p.ends
@@ -330,10 +309,11 @@ frees_spoken me n on p v b good down k = go (up p.phase) refl
     go false u = (k, down)
     go true u = (
       made_spoken me n cs now p.echoes p v b k (λ d r. made_tells me n cs p.phase now p.echoes b (answer_unreset on p.ends) d (λ x.
-          looked_tells me n (pair_of (sender_on on p.ends)) act cs p.ends p.echoes.awaited p.phase.waiting b good (λ pair e. let l = answered-led p.ends on Rfnm pair e in record {
+          looked_tells me n (pair_of (sender_on on p.ends)) act cs p.ends p.echoes.awaited p.phase.waiting b good sexes (λ pair e. let l = answered-led p.ends on Rfnm pair e in record {
             what = Happening.Is_answered Rfnm;
             host = refl;
             text = refl;
+            call = refl;
             asks = refl;
             after = ap (λ (d : Happened). d.after) l.1;
             made = ap (λ (d : Happened). d.made) l.1;
@@ -341,15 +321,15 @@ frees_spoken me n on p v b good down k = go (up p.phase) refl
       record { none = λ d. none_down (up (makes_all cs p.phase)) d; calm = λ d. made_calm cs p.phase down.calm d },
     )
 
-pub answer_spoken : (me n on : ℕ) (how : Answer) (s : PeerState) (v : View) (b : SeenBooks) → Good s.peer.ends → Down s.peer → Spoken me n s.peer v b → Spoken me n (answer_comes on how s).peer v b
-answer_spoken me n on how s v b good down k = go (is_answered on s)
+pub answer_spoken : (me n on : ℕ) (how : Answer) (s : PeerState) (v : View) (b : SeenBooks) → Good s.peer.ends → ProperEnds s.peer.ends → Down s.peer → Spoken me n s.peer v b → Spoken me n (answer_comes on how s).peer v b
+answer_spoken me n on how s v b good sexes down k = go (is_answered on s)
   where
     counted : PeerState
     counted = record s { counts = record s.counts { stray = one_more s.counts.stray } }
 
     freed : (z : Bool) → Spoken me n (if z then s.peer else frees on s.peer) v b × Down (if z then s.peer else frees on s.peer)
     freed true = (k, down)
-    freed false = frees_spoken me n on s.peer v b good down k
+    freed false = frees_spoken me n on s.peer v b good sexes down k
 
     taken : (how : Answer) (slots : LinkSlots) → Spoken me n (after_answer on how slots s.peer) v b
     taken Rfnm slots = let f = freed (on == control_link) in settles_spoken me n (is_quiet slots) (frees_on on s.peer) v b f.1.none f.1.calm f.0

@@ -10,8 +10,10 @@ use Rattle.ncp_model.specs.Texts.{made_by_text}
 use Rattle.ncp_model.specs.Phase.{Phase, Reaction, up, is_other, is_rst, is_rrp, phase_answers, phase_asks, phase_settles, phase_hears, owes_answer, goes_down, makes_all}
 use Rattle.ncp_model.specs.Peers.{Peer, is_full_up, echo_replies, echoes_after, reaction, standing, makes, hears_other, hears, hears_fault, takes_text, hears_text}
 use Rattle.ncp_model.proofs.ResetLists.{others, others-append, others-purged}
-use Rattle.ncp_proof_umpire_talk.proofs.NoResets.{hearing_unreset, text_unreset}
+use Rattle.ncp_proof_umpire_seen.proofs.NoResets.{hearing_unreset, text_unreset}
 use Rattle.ncp_umpire.specs.declared.finding.Thing.{Thing}
+use Rattle.ncp_leader.specs.Message.{Message}
+use Rattle.ncp_umpire.specs.declared.kept.Kept.{Kept}
 use Rattle.ncp_umpire.specs.declared.phase.Turn.{Turn}
 use Rattle.ncp_umpire.specs.declared.talk.Talk.{Talk}
 use Rattle.ncp_umpire.specs.declared.view.View.{View}
@@ -21,7 +23,8 @@ use Rattle.ncp_umpire.specs.Views.{awaits_reply, is_answered_too_often, more_wai
 use Rattle.ncp_umpire.specs.Phases.{is_early, after_thing, after_item, after_reply_of_peer, after_untold_reply}
 use Rattle.ncp_umpire.specs.Lives.{SeenBooks, books_cleared}
 use Rattle.ncp_umpire.specs.Replies.{owes, fault_wanted}
-use Rattle.ncp_umpire.specs.Speaking.{books_after_command, books_after_text}
+use Rattle.ncp_umpire.specs.Speaking.{books_after_command}
+use Rattle.ncp_umpire.specs.Texts.{books_after_text}
 use Rattle.ncp_umpire.specs.Talked.{reaches, after_talk, after_talked_text}
 use Rattle.ncp_proof_umpire.proofs.Phased.{Phased}
 use Rattle.ncp_proof_umpire.proofs.PhaseSteps.{Stands}
@@ -71,7 +74,7 @@ anew_spoken me n now p v b is none quiet clear = record {
       (begins_tells me n p.echoes.awaited p.phase.waiting b (ap (λ (x : Phase). others x.waiting) is ∙ quiet) clear);
 }
 
-module _ (me n : ℕ) (busy : Option ℕ) (zero : Bool) where
+module _ (me n : ℕ) (busy : Option ℕ) (zero : Bool) (kept : List Kept) where
   abbrev coming : Turn
   coming = record { by = n; sent = false; busy = busy; zero = zero }
 
@@ -166,14 +169,14 @@ module _ (me n : ℕ) (busy : Option ℕ) (zero : Bool) where
   -- what it has to be shown of a command, of a fault, and of a text
   abbrev pub CommandTells : Command → Peer → SeenBooks → Type 0
   CommandTells c p b =
-      up p.phase ≡ true → is_full_up (answer (hear c p.ends)) ≡ false → (books_after_command hearing c b).full ≡ false → Tells me n p.ends p.echoes.awaited p.phase.waiting b
-      → Tells me n (map_after_at p.ends (leads_to c p.ends) (hear c p.ends)) (echoes_after c p.echoes).awaited (p.phase.waiting ++ (made_by_hearing (answer (hear c p.ends)) ++ echo_replies c)) (books_after_command hearing c b)
+      up p.phase ≡ true → is_full_up (answer (hear c p.ends)) ≡ false → (books_after_command hearing kept c b).full ≡ false → Tells me n p.ends p.echoes.awaited p.phase.waiting b
+      → Tells me n (map_after_at p.ends (leads_to c p.ends) (hear c p.ends)) (echoes_after c p.echoes).awaited (p.phase.waiting ++ (made_by_hearing (answer (hear c p.ends)) ++ echo_replies c)) (books_after_command hearing kept c b)
 
   other_spoken : (what : Thing) (c : Command) (p : Peer) (q : Bool) (v : View) (b : SeenBooks)
       → ((r : Reaction) → phase_hears c r p.phase ≡ (if up p.phase then (if r.full then goes_down p.phase else makes_all r.replies p.phase) else p.phase))
-      → Stands p q v → Spoken me n p v b → CommandTells c p b → (if reaches coming what v then books_after_command hearing c b else b).full ≡ false
-      → Spoken me n (if up p.phase then hears_other q c p else p) (after_thing coming what v) (if reaches coming what v then books_after_command hearing c b else b)
-  other_spoken what c p q v b is k s heard room = thing_spoken what p (hears_other q c p) q v b (books_after_command hearing c b) k s counts tell
+      → Stands p q v → Spoken me n p v b → CommandTells c p b → (if reaches coming what v then books_after_command hearing kept c b else b).full ≡ false
+      → Spoken me n (if up p.phase then hears_other q c p else p) (after_thing coming what v) (if reaches coming what v then books_after_command hearing kept c b else b)
+  other_spoken what c p q v b is k s heard room = thing_spoken what p (hears_other q c p) q v b (books_after_command hearing kept c b) k s counts tell
     where
       r : Reaction
       r = reaction q c p
@@ -195,26 +198,26 @@ module _ (me n : ℕ) (busy : Option ℕ) (zero : Bool) where
           go false = owing_same p.phase (makes_all r.replies p.phase) (made_owed r.replies p.phase)
 
       tell : reaches coming what v ≡ true → up p.phase ≡ true → up (phase_hears c r p.phase) ≡ true → Tells me n p.ends p.echoes.awaited p.phase.waiting b
-          → Tells me n (hears_other q c p).ends (hears_other q c p).echoes.awaited (hears_other q c p).phase.waiting (books_after_command hearing c b)
+          → Tells me n (hears_other q c p).ends (hears_other q c p).echoes.awaited (hears_other q c p).phase.waiting (books_after_command hearing kept c b)
       tell e u d t =
-          subst (λ (x : Phase). Tells me n (standing x m (echoes_after c p.echoes)).ends (standing x m (echoes_after c p.echoes)).echoes.awaited x.waiting (books_after_command hearing c b)) (sym (heard_is u))
+          subst (λ (x : Phase). Tells me n (standing x m (echoes_after c p.echoes)).ends (standing x m (echoes_after c p.echoes)).echoes.awaited x.waiting (books_after_command hearing kept c b)) (sym (heard_is u))
           (by r.full refl (ap up (sym (heard_is u)) ∙ d))
         where
           by : (full : Bool) → r.full ≡ full → up (now full) ≡ true
-              → Tells me n (standing (now full) m (echoes_after c p.echoes)).ends (standing (now full) m (echoes_after c p.echoes)).echoes.awaited (now full).waiting (books_after_command hearing c b)
+              → Tells me n (standing (now full) m (echoes_after c p.echoes)).ends (standing (now full) m (echoes_after c p.echoes)).echoes.awaited (now full).waiting (books_after_command hearing kept c b)
           by true f d = absurd (cc d)
           by false f d =
-              made_tells me n r.replies p.phase m (echoes_after c p.echoes) (books_after_command hearing c b) (hearing_unreset c p.ends) d
-              (λ x. heard u f (room_there (reaches coming what v) (books_after_command hearing c b) b e room) t)
+              made_tells me n r.replies p.phase m (echoes_after c p.echoes) (books_after_command hearing kept c b) (hearing_unreset c p.ends) d
+              (λ x. heard u f (room_there (reaches coming what v) (books_after_command hearing kept c b) b e room) t)
 
-  pub command_spoken : (c : Command) (p : Peer) (q : Bool) (v : View) (b : SeenBooks) → Stands p q v → Spoken me n p v b → (is_other c ≡ true → CommandTells c p b) → (after_talk coming hearing (Ok c) v b).full ≡ false
-      → Spoken me n (hears q c p) (after_item coming (Ok c) v) (after_talk coming hearing (Ok c) v b)
+  pub command_spoken : (c : Command) (p : Peer) (q : Bool) (v : View) (b : SeenBooks) → Stands p q v → Spoken me n p v b → (is_other c ≡ true → CommandTells c p b) → (after_talk coming hearing kept (Ok c) v b).full ≡ false
+      → Spoken me n (hears q c p) (after_item coming (Ok c) v) (after_talk coming hearing kept (Ok c) v b)
   command_spoken Command.Rst p q v b k s heard room =
       subst (λ (x : SeenBooks). Spoken me n (hears q Command.Rst p) (after_item coming (Ok Command.Rst) v) x) (sym is)
       (anew_spoken me n (phase_settles q (owes_answer p.phase)) (hears q Command.Rst p) (after_item coming (Ok Command.Rst) v) (books_cleared me n b) refl refl
       (settles_calm q (owes_answer p.phase) (others-purged p.phase.waiting)) (clear_cleared me n b))
     where
-      is : after_talk coming hearing (Ok Command.Rst) v b ≡ books_cleared me n b
+      is : after_talk coming hearing kept (Ok Command.Rst) v b ≡ books_cleared me n b
       is = go v.told k.phased.told
         where
           go : (t : Bool) → t ≡ true → (if (t || (zero && not (is_answered_too_often v.host.wait))) && not (false && not (awaits_reply (more_waiting v.host.wait))) then books_cleared me n b else if false then b else b) ≡ books_cleared me n b
@@ -273,8 +276,8 @@ module _ (me n : ℕ) (busy : Option ℕ) (zero : Bool) where
       (owes hearing (fault_wanted fault) true b).full ≡ false → Tells me n p.ends p.echoes.awaited p.phase.waiting b
       → Tells me n p.ends p.echoes.awaited (p.phase.waiting ++ Command.Err fault.code fault.bytes ∷ []) (owes hearing (fault_wanted fault) true b)
 
-  pub fault_spoken : (fault : CommandFault) (p : Peer) (q : Bool) (v : View) (b : SeenBooks) → Stands p q v → Spoken me n p v b → FaultTells fault p b → (after_talk coming hearing (Err fault) v b).full ≡ false
-      → Spoken me n (hears_fault fault p) (after_item coming (Err fault) v) (after_talk coming hearing (Err fault) v b)
+  pub fault_spoken : (fault : CommandFault) (p : Peer) (q : Bool) (v : View) (b : SeenBooks) → Stands p q v → Spoken me n p v b → FaultTells fault p b → (after_talk coming hearing kept (Err fault) v b).full ≡ false
+      → Spoken me n (hears_fault fault p) (after_item coming (Err fault) v) (after_talk coming hearing kept (Err fault) v b)
   fault_spoken fault p q v b k s heard room =
       thing_spoken Thing.Bad p (makes cs p) q v b (owes hearing (fault_wanted fault) true b) k s (λ u. owing_same p.phase (makes_all cs p.phase) (made_owed cs p.phase))
       (λ e u d t.
@@ -283,17 +286,17 @@ module _ (me n : ℕ) (busy : Option ℕ) (zero : Bool) where
       cs : List Command
       cs = Command.Err fault.code fault.bytes ∷ []
 
-  abbrev pub TextTells : ℕ → List Bool → ℕ → List Bool → Peer → SeenBooks → Type 0
-  TextTells on head of_size text p b =
-      (books_after_text me n on b).full ≡ false → Tells me n p.ends p.echoes.awaited p.phase.waiting b
-      → Tells me n (map_after_at p.ends (pair_of (receiver_on on p.ends)) (text_in on of_size text p.ends)) p.echoes.awaited (p.phase.waiting ++ made_by_text head text (answer (text_in on of_size text p.ends))) (books_after_text me n on b)
+  abbrev pub TextTells : ℕ → List Bool → ℕ → List Bool → Message → Peer → SeenBooks → Type 0
+  TextTells on head of_size text message p b =
+      (books_after_text hearing on message b).full ≡ false → Tells me n p.ends p.echoes.awaited p.phase.waiting b
+      → Tells me n (map_after_at p.ends (pair_of (receiver_on on p.ends)) (text_in on of_size text p.ends)) p.echoes.awaited (p.phase.waiting ++ made_by_text head text (answer (text_in on of_size text p.ends))) (books_after_text hearing on message b)
 
-  pub text_spoken : (on : ℕ) (head : List Bool) (of_size : ℕ) (text : List Bool) (p : Peer) (q : Bool) (v : View) (b : SeenBooks) → Stands p q v → Spoken me n p v b → TextTells on head of_size text p b
-      → (after_talked_text coming hearing on v b).full ≡ false → Spoken me n (hears_text on head of_size text p) (after_thing coming Thing.Text v) (after_talked_text coming hearing on v b)
-  text_spoken on head of_size text p q v b k s heard room =
-      thing_spoken Thing.Text p (takes_text on head of_size text p) q v b (books_after_text me n on b) k s (λ u. owing_same p.phase (makes_all cs p.phase) (made_owed cs p.phase))
+  pub text_spoken : (on : ℕ) (head : List Bool) (of_size : ℕ) (text : List Bool) (message : Message) (p : Peer) (q : Bool) (v : View) (b : SeenBooks) → Stands p q v → Spoken me n p v b → TextTells on head of_size text message p b
+      → (after_talked_text coming hearing on message v b).full ≡ false → Spoken me n (hears_text on head of_size text p) (after_thing coming Thing.Text v) (after_talked_text coming hearing on message v b)
+  text_spoken on head of_size text message p q v b k s heard room =
+      thing_spoken Thing.Text p (takes_text on head of_size text p) q v b (books_after_text hearing on message b) k s (λ u. owing_same p.phase (makes_all cs p.phase) (made_owed cs p.phase))
       (λ e u d t.
-      made_tells me n cs p.phase m p.echoes (books_after_text me n on b) (text_unreset head on of_size text p.ends) d (λ x. heard (room_there (reaches coming Thing.Text v) (books_after_text me n on b) b e room) t))
+      made_tells me n cs p.phase m p.echoes (books_after_text hearing on message b) (text_unreset head on of_size text p.ends) d (λ x. heard (room_there (reaches coming Thing.Text v) (books_after_text hearing on message b) b e room) t))
     where
       cs : List Command
       cs = made_by_text head text (answer (text_in on of_size text p.ends))

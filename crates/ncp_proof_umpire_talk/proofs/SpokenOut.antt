@@ -1,6 +1,6 @@
 -- The commands of a control message that goes out: by what was said before it, they break no rule of what is said, and nothing
 -- is left out behind them.
-use Rattle.std.proofs.Common.{◌≡◌, ℕ, ◌+◌, ◌<◌, ◌≤◌, Bool, true, false, not, ◌&&◌, ◌||◌, if◌then◌else◌, List, [], ◌∷◌, ◌++◌, Option, None, Ok, is_some, option_map, option_to_list, refl, sym, ap, ◌∙◌, subst, arith}
+use Rattle.std.proofs.Common.{◌≡◌, ℕ, ◌+◌, ◌<◌, ◌≤◌, Bool, true, false, not, ◌&&◌, ◌||◌, if◌then◌else◌, List, [], ◌∷◌, ◌++◌, Option, None, Ok, is_some, option_map, option_to_list, map, refl, sym, ap, ◌∙◌, subst, arith}
 use Rattle.ncp_terms.specs.declared.command.Command.{Command}
 use Rattle.ncp_control.specs.Texts.{items_of}
 use Rattle.ncp_model.specs.Ends.{Ends}
@@ -20,18 +20,20 @@ use Rattle.ncp_umpire.specs.Acts.{act_of}
 use Rattle.ncp_umpire.specs.Views.{awaits_reply, is_answered_too_often, more_waiting}
 use Rattle.ncp_umpire.specs.Phases.{broken_by, is_text, is_early, after_thing, after_item, after_items, unquiet_finding, after_reset_of_host, after_reset_of_peer, after_reply_of_host, after_reply_of_peer, after_untold_reply}
 use Rattle.ncp_umpire.specs.declared.due.Due.{Due}
-use Rattle.ncp_umpire.specs.Lives.{SeenBooks, is_due_between, books_cleared}
+use Rattle.ncp_umpire.specs.declared.life.Mark.{Mark}
+use Rattle.ncp_umpire.specs.Lives.{SeenBooks, is_mark_between, is_due_between, books_cleared}
 use Rattle.ncp_umpire.specs.Replies.{is_due_of}
-use Rattle.ncp_umpire.specs.Speaking.{command_rule, books_after_command, spoken_rule, reply_left_out, cls_left_out, after_all_said}
-use Rattle.ncp_umpire.specs.Talked.{reaches, act_reaches, clears, talk_finding, after_talk, after_talked, missing, tells_left_out, left_out_findings, after_left_out}
+use Rattle.ncp_umpire.specs.Allocation.{number_rules}
+use Rattle.ncp_umpire.specs.Speaking.{command_rule, books_after_command, spoken_rule, spoken_numbers, reply_left_out, cls_left_out, is_admission, after_all_said}
+use Rattle.ncp_umpire.specs.Talked.{reaches, act_reaches, clears, talk_finding, number_findings, after_talk, after_talked, missing, tells_left_out, left_out_findings, after_left_out}
 use Rattle.ncp_umpire.proofs.Parted.{said_findings}
 use Rattle.ncp_proof_umpire.proofs.Phased.{Phased, Settled, Sees}
 use Rattle.ncp_proof_umpire.proofs.PhaseGoes.{all_went}
 use Rattle.ncp_proof_umpire_talk.proofs.OnTime.{OnTime, on_time}
-use Rattle.ncp_proof_umpire_talk.proofs.Filtered.{none_of_none}
-use Rattle.ncp_proof_umpire_talk.proofs.TidyBooks.{Tidy, tidy_command, tidy_cleared}
-use Rattle.ncp_proof_umpire_talk.proofs.AllGo.{room_before}
-use Rattle.ncp_proof_umpire_talk.proofs.Proper.{AllProper}
+use Rattle.ncp_proof_umpire_seen.proofs.Filtered.{none_of_none}
+use Rattle.ncp_proof_umpire_seen.proofs.TidyBooks.{Tidy, tidy_command, tidy_cleared}
+use Rattle.ncp_proof_umpire_counts.proofs.AllGo.{room_before}
+use Rattle.ncp_proof_umpire_seen.proofs.Proper.{AllProper}
 use Rattle.ncp_proof_umpire_talk.proofs.Spoken.{Tells, Clear, Spoken}
 use Rattle.ncp_proof_umpire_talk.proofs.Begun.{clear_cleared, clear_reply, clear_cls, silent_tells}
 use Rattle.ncp_proof_umpire_talk.proofs.SpokenIn.{clash, rests_before}
@@ -54,7 +56,8 @@ module _ (me n : ℕ) (busy : Option ℕ) (zero : Bool) (kept : List Kept) where
   -- what has to be shown of a command that goes out
   pub record GoesOut (m : Ends) (awaited : Bool) : Type 0 where
     pub right : (c : Command) (w : List Command) (b : SeenBooks) → is_other c ≡ true → AllProper (c ∷ w) → Tidy b → Tells me n m awaited (c ∷ w) b → command_rule saying kept c b ≡ None
-    pub tells : (c : Command) (w : List Command) (b : SeenBooks) → is_other c ≡ true → AllProper (c ∷ w) → (books_after_command saying c b).full ≡ false → Tidy b → Tells me n m awaited (c ∷ w) b → Tells me n m awaited w (books_after_command saying c b)
+    pub numbers : (c : Command) (w : List Command) (b : SeenBooks) → is_other c ≡ true → AllProper (c ∷ w) → Tidy b → Tells me n m awaited (c ∷ w) b → number_rules saying c b ≡ []
+    pub tells : (c : Command) (w : List Command) (b : SeenBooks) → is_other c ≡ true → AllProper (c ∷ w) → (books_after_command saying kept c b).full ≡ false → Tidy b → Tells me n m awaited (c ∷ w) b → Tells me n m awaited w (books_after_command saying kept c b)
     pub reply : (b : SeenBooks) → Tells me n m awaited [] b → reply_left_out me n b ≡ None
     pub cls : (b : SeenBooks) → Tidy b → Tells me n m awaited [] b → cls_left_out me n kept b ≡ None
     pub said : (b : SeenBooks) → Tells me n m awaited [] b → Tells me n m awaited [] (after_all_said me n b)
@@ -62,29 +65,29 @@ module _ (me n : ℕ) (busy : Option ℕ) (zero : Bool) (kept : List Kept) where
   -- ---- one command
 
   pub record Told (c : Command) (u : List Command) (p : Peer) (v : View) (b : SeenBooks) : Type 0 where
-    pub none : option_to_list (talk_finding going saying kept (Ok c) v b) ≡ []
-    pub known : Known me n (waited_by u p) (after_item going (Ok c) v) (after_talk going saying (Ok c) v b)
+    pub none : option_to_list (talk_finding going saying kept (Ok c) v b) ++ number_findings going saying (Ok c) v b ≡ []
+    pub known : Known me n (waited_by u p) (after_item going (Ok c) v) (after_talk going saying kept (Ok c) v b)
 
   -- there was room before it
-  talk_room : (c : Command) (v : View) (b : SeenBooks) → (after_talk going saying (Ok c) v b).full ≡ false → b.full ≡ false
+  talk_room : (c : Command) (v : View) (b : SeenBooks) → (after_talk going saying kept (Ok c) v b).full ≡ false → b.full ≡ false
   talk_room c v b = go (clears going (act_of (Ok c)) v) (act_reaches going (act_of (Ok c)) v)
     where
-      go : (x y : Bool) → (if x then books_cleared me n b else if y then books_after_command saying c b else b).full ≡ false → b.full ≡ false
+      go : (x y : Bool) → (if x then books_cleared me n b else if y then books_after_command saying kept c b else b).full ≡ false → b.full ≡ false
       go true y f = f
-      go false true f = room_before me n true c b f
+      go false true f = room_before me n true kept c b f
       go false false f = f
 
-  talk_tidy : (c : Command) (v : View) (b : SeenBooks) → (after_talk going saying (Ok c) v b).full ≡ false → Tidy b → Tidy (after_talk going saying (Ok c) v b)
+  talk_tidy : (c : Command) (v : View) (b : SeenBooks) → (after_talk going saying kept (Ok c) v b).full ≡ false → Tidy b → Tidy (after_talk going saying kept (Ok c) v b)
   talk_tidy c v b f t = go (clears going (act_of (Ok c)) v) (act_reaches going (act_of (Ok c)) v) f
     where
-      go : (x y : Bool) → (if x then books_cleared me n b else if y then books_after_command saying c b else b).full ≡ false → Tidy (if x then books_cleared me n b else if y then books_after_command saying c b else b)
+      go : (x y : Bool) → (if x then books_cleared me n b else if y then books_after_command saying kept c b else b).full ≡ false → Tidy (if x then books_cleared me n b else if y then books_after_command saying kept c b else b)
       go true y f = tidy_cleared me n b t
-      go false true f = tidy_command saying c b f t
+      go false true f = tidy_command saying kept c b f t
       go false false f = t
 
   -- ---- RST: where it is waited for alone, all is forgotten
 
-  rst_books : (v : View) (b : SeenBooks) → v.told ≡ true → after_talk going saying (Ok Command.Rst) v b ≡ (if awaits_reply (more_waiting v.host.wait) then books_cleared me n b else b)
+  rst_books : (v : View) (b : SeenBooks) → v.told ≡ true → after_talk going saying kept (Ok Command.Rst) v b ≡ (if awaits_reply (more_waiting v.host.wait) then books_cleared me n b else b)
   rst_books v b t = go v.told (awaits_reply (more_waiting v.host.wait)) t
     where
       go : (t w : Bool) → t ≡ true → (if (t || (zero && not (is_answered_too_often v.host.wait))) && not (true && not w) then books_cleared me n b else if false then b else b) ≡ (if w then books_cleared me n b else b)
@@ -147,9 +150,9 @@ module _ (me n : ℕ) (busy : Option ℕ) (zero : Bool) (kept : List Kept) where
   rst_told : (u : List Command) (p : Peer) (q : Bool) (v : View) (b : SeenBooks) → Phased (record p.phase { waiting = Command.Rst ∷ u }) q v → Known me n (waited_by (Command.Rst ∷ u) p) v b → Told Command.Rst u p v b
   rst_told u p q v b k s = record { none = refl; known = λ f. (spoken (s (talk_room Command.Rst v b f)).0, talk_tidy Command.Rst v b f (s (talk_room Command.Rst v b f)).1) }
     where
-      spoken : Spoken me n (waited_by (Command.Rst ∷ u) p) v b → Spoken me n (waited_by u p) (after_item going (Ok Command.Rst) v) (after_talk going saying (Ok Command.Rst) v b)
+      spoken : Spoken me n (waited_by (Command.Rst ∷ u) p) v b → Spoken me n (waited_by u p) (after_item going (Ok Command.Rst) v) (after_talk going saying kept (Ok Command.Rst) v b)
       spoken s =
-          subst (λ (x : View). Spoken me n (waited_by u p) x (after_talk going saying (Ok Command.Rst) v b)) (sym (rst_view v k.told))
+          subst (λ (x : View). Spoken me n (waited_by u p) x (after_talk going saying kept (Ok Command.Rst) v b)) (sym (rst_view v k.told))
           (subst (λ (x : SeenBooks). Spoken me n (waited_by u p) (after_reset_of_host going v) x) (sym (rst_books v b k.told)) (record {
             owed = λ r o. rst_clear u p q v b k r;
             waits = λ a. subst (λ (x : Bool). Clear me n (if x then books_cleared me n b else b)) (sym a) (clear_cleared me n b);
@@ -178,22 +181,22 @@ module _ (me n : ℕ) (busy : Option ℕ) (zero : Bool) (kept : List Kept) where
       spoken s = subst (λ (x : View). Spoken me n (waited_by u p) x b) (sym (rrp_view v k.told)) (record {
         owed = λ r o. s.owed (rrp_before v r) some;
         waits = λ a. s.waits a;
-        tells = λ r d. silent_tells me n Command.Rrp p.ends p.echoes.awaited u b refl refl refl (s.tells (rrp_before v r) d);
+        tells = λ r d. silent_tells me n Command.Rrp p.ends p.echoes.awaited u b refl refl refl refl (s.tells (rrp_before v r) d);
       })
 
   -- ---- another command
 
   other_told : (what : Thing) (c : Command) (u : List Command) (p : Peer) (q : Bool) (v : View) (b : SeenBooks) → is_other c ≡ true → is_rst c ≡ false → is_rrp c ≡ false → is_text what ≡ false → (up p.phase ≡ true → GoesOut p.ends p.echoes.awaited) → AllProper (c ∷ u)
       → Phased (record p.phase { waiting = c ∷ u }) q v → Known me n (waited_by (c ∷ u) p) v b
-      → (option_to_list (if reaches going what v then option_map (broken_by going) (spoken_rule saying kept (Ok c) b) else None) ≡ [])
-      × Known me n (waited_by u p) (after_thing going what v) (if reaches going what v then books_after_command saying c b else b)
+      → (option_to_list (if reaches going what v then option_map (broken_by going) (spoken_rule saying kept (Ok c) b) else None) ++ (if reaches going what v then map (broken_by going) (spoken_numbers saying (Ok c) b) else []) ≡ [])
+      × Known me n (waited_by u p) (after_thing going what v) (if reaches going what v then books_after_command saying kept c b else b)
   other_told what c u p q v b o s t x g proper k known = go v.rests refl
     where
       i : OnTime me busy zero what u p.phase v
       i = on_time me busy zero what c u p.phase q v o s t x k
 
       After : Bool → Type 0
-      After y = (option_to_list (if y then option_map (broken_by going) (spoken_rule saying kept (Ok c) b) else None) ≡ []) × Known me n (waited_by u p) (after_thing going what v) (if y then books_after_command saying c b else b)
+      After y = (option_to_list (if y then option_map (broken_by going) (spoken_rule saying kept (Ok c) b) else None) ++ (if y then map (broken_by going) (spoken_numbers saying (Ok c) b) else []) ≡ []) × Known me n (waited_by u p) (after_thing going what v) (if y then books_after_command saying kept c b else b)
 
       reach : (y : Bool) → v.rests ≡ y → reaches going what v ≡ not y
       reach y r = by v.told (is_early going what v) v.rests y k.told i.early r
@@ -218,20 +221,23 @@ module _ (me n : ℕ) (busy : Option ℕ) (zero : Bool) (kept : List Kept) where
           (known f).1,
         ),
       )
-      go false r = subst After (sym (reach false r)) (none b.full refl, λ f. spoken f (known (room_before me n true c b f)))
+      go false r = subst After (sym (reach false r)) (none b.full refl, λ f. spoken f (known (room_before me n true kept c b f)))
         where
-          none : (y : Bool) → b.full ≡ y → option_to_list (option_map (broken_by going) (if y then None else command_rule saying kept c b)) ≡ []
+          none : (y : Bool) → b.full ≡ y → option_to_list (option_map (broken_by going) (if y then None else command_rule saying kept c b)) ++ map (broken_by going) (if y then [] else number_rules saying c b) ≡ []
           none true e = refl
-          none false e = let z = known e in ap (λ (w : Option Rule). option_to_list (option_map (broken_by going) w)) ((g i.up_is).right c u b o proper z.1 (z.0.tells r i.up_is))
+          none false e =
+              let z = known e in
+              ap (λ (w : Option Rule). option_to_list (option_map (broken_by going) w) ++ map (broken_by going) (number_rules saying c b)) ((g i.up_is).right c u b o proper z.1 (z.0.tells r i.up_is))
+              ∙ ap (λ (rules : List Rule). map (broken_by going) rules) ((g i.up_is).numbers c u b o proper z.1 (z.0.tells r i.up_is))
 
-          spoken : (books_after_command saying c b).full ≡ false → Spoken me n (waited_by (c ∷ u) p) v b × Tidy b → Spoken me n (waited_by u p) (after_thing going what v) (books_after_command saying c b) × Tidy (books_after_command saying c b)
+          spoken : (books_after_command saying kept c b).full ≡ false → Spoken me n (waited_by (c ∷ u) p) v b × Tidy b → Spoken me n (waited_by u p) (after_thing going what v) (books_after_command saying kept c b) × Tidy (books_after_command saying kept c b)
           spoken f z = (
-            subst (λ (w : View). Spoken me n (waited_by u p) w (books_after_command saying c b)) (sym i.same) (record {
+            subst (λ (w : View). Spoken me n (waited_by u p) w (books_after_command saying kept c b)) (sym i.same) (record {
               owed = λ y e. absurd (i.none e);
               waits = λ a. clash (awaits_reply v.host.wait) a i.even;
               tells = λ y d. (g i.up_is).tells c u b o proper f z.1 (z.0.tells r i.up_is);
             }),
-            tidy_command saying c b f z.1,
+            tidy_command saying kept c b f z.1,
           )
 
   told : (c : Command) (u : List Command) (p : Peer) (q : Bool) (v : View) (b : SeenBooks) → (up p.phase ≡ true → GoesOut p.ends p.echoes.awaited) → AllProper (c ∷ u) → Phased (record p.phase { waiting = c ∷ u }) q v → Known me n (waited_by (c ∷ u) p) v b → Told c u p v b
@@ -252,7 +258,7 @@ module _ (me n : ℕ) (busy : Option ℕ) (zero : Bool) (kept : List Kept) where
 
   -- where the host is not up, it is an RST or an RRP: and nothing was said behind it
   down_clear : (c : Command) (u : List Command) (p : Peer) (q : Bool) (v : View) (b : SeenBooks) → up p.phase ≡ false → Phased (record p.phase { waiting = c ∷ u }) q v → Known me n (waited_by (c ∷ u) p) v b
-      → (after_item going (Ok c) v).rests ≡ false → (after_talk going saying (Ok c) v b).full ≡ false → Clear me n (after_talk going saying (Ok c) v b)
+      → (after_item going (Ok c) v).rests ≡ false → (after_talk going saying kept (Ok c) v b).full ≡ false → Clear me n (after_talk going saying kept (Ok c) v b)
   down_clear Command.Rst u p q v b d k s r f =
       subst (Clear me n) (sym (rst_books v b k.told)) (rst_clear u p q v b k (ap (λ (x : View). x.rests) (sym (rst_view v k.told)) ∙ r))
   down_clear Command.Rrp u p q v b d k s r f = (s f).0.owed (rrp_before v (ap (λ (x : View). x.rests) (sym (rrp_view v k.told)) ∙ r)) (omega arith)
@@ -273,9 +279,9 @@ module _ (me n : ℕ) (busy : Option ℕ) (zero : Bool) (kept : List Kept) where
 
   pub record AllTold (cs rest : List Command) (p : Peer) (v : View) (b : SeenBooks) : Type 0 where
     pub none : said_findings going saying kept (items_of cs None) v b ≡ []
-    pub known : Known me n (waited_by rest p) (after_items going (items_of cs None) v) (after_talked going saying (items_of cs None) v b)
+    pub known : Known me n (waited_by rest p) (after_items going (items_of cs None) v) (after_talked going saying kept (items_of cs None) v b)
     -- nothing was said, where the host is not up
-    pub clear : up p.phase ≡ false → (cs ≡ [] → ⊥) → (after_items going (items_of cs None) v).rests ≡ false → (after_talked going saying (items_of cs None) v b).full ≡ false → Clear me n (after_talked going saying (items_of cs None) v b)
+    pub clear : up p.phase ≡ false → (cs ≡ [] → ⊥) → (after_items going (items_of cs None) v).rests ≡ false → (after_talked going saying kept (items_of cs None) v b).full ≡ false → Clear me n (after_talked going saying kept (items_of cs None) v b)
 
   pub all_told : (cs rest : List Command) (p : Peer) (q : Bool) (v : View) (b : SeenBooks) → Sees q busy → Settled p.phase q → (up p.phase ≡ true → GoesOut p.ends p.echoes.awaited) → AllProper (cs ++ rest) → Phased (record p.phase { waiting = cs ++ rest }) q v → Known me n (waited_by (cs ++ rest) p) v b
       → AllTold cs rest p v b
@@ -283,7 +289,7 @@ module _ (me n : ℕ) (busy : Option ℕ) (zero : Bool) (kept : List Kept) where
   all_told (c ∷ cs) rest p q v b e s g a k known =
       let one = told c (cs ++ rest) p q v b g a k known in
       let w : View = after_item going (Ok c) v in
-      let now : SeenBooks = after_talk going saying (Ok c) v b in
+      let now : SeenBooks = after_talk going saying kept (Ok c) v b in
       let more = all_told cs rest p q w now e s g a.1 (all_went me busy zero (c ∷ []) (cs ++ rest) p.phase q v e s k).phased one.known in
       record {
         none = ap (λ (xs : List Finding). xs ++ said_findings going saying kept (items_of cs None) w now) one.none ∙ more.none;
@@ -295,10 +301,10 @@ module _ (me n : ℕ) (busy : Option ℕ) (zero : Bool) (kept : List Kept) where
       w = after_item going (Ok c) v
 
       now : SeenBooks
-      now = after_talk going saying (Ok c) v b
+      now = after_talk going saying kept (Ok c) v b
 
-      last : (ds : List Command) → Known me n (waited_by (ds ++ rest) p) w now → AllTold ds rest p w now → up p.phase ≡ false → (after_items going (items_of ds None) w).rests ≡ false → (after_talked going saying (items_of ds None) w now).full ≡ false
-          → Clear me n (after_talked going saying (items_of ds None) w now)
+      last : (ds : List Command) → Known me n (waited_by (ds ++ rest) p) w now → AllTold ds rest p w now → up p.phase ≡ false → (after_items going (items_of ds None) w).rests ≡ false → (after_talked going saying kept (items_of ds None) w now).full ≡ false
+          → Clear me n (after_talked going saying kept (items_of ds None) w now)
       last [] y z d r f = down_clear c (cs ++ rest) p q v b d k known r f
       last (x ∷ ds) y z d r f = z.clear d (λ i. cc i) r f
 
@@ -326,7 +332,7 @@ module _ (me n : ℕ) (busy : Option ℕ) (zero : Bool) (kept : List Kept) where
       }
 
       said_clear : Clear me n b → Clear me n (after_all_said me n b)
-      said_clear c = (c.0, (c.1.0, none_of_none (is_due_between me n) (λ (due : Due). not (is_due_of me n true due)) b.dues c.1.1))
+      said_clear c = (c.0, (none_of_none (is_mark_between me n) (λ (mark : Mark). not (is_admission me n mark)) b.marks c.1.0, none_of_none (is_due_between me n) (λ (due : Due). not (is_due_of me n true due)) b.dues c.1.1))
 
       made : tells_left_out going room v b ≡ true → Left true
       made e = by (up p.phase) refl

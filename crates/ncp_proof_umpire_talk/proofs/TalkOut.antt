@@ -1,6 +1,6 @@
 -- A message goes out to a peer of a host: by no rule of what is said is the host found to be wrong, and what is known of all its
 -- peers is known after it.
-use Rattle.std.proofs.Common.{◌≡◌, ◌≢◌, ◌⊎◌, inl, inr, ℕ, ◌<◌, ◌==◌, Bool, true, false, not, ◌&&◌, ◌||◌, if◌then◌else◌, List, [], ◌∷◌, ◌++◌, length, Option, None, Some, Result, Ok, Err, option_map, option_to_list, filter, refl, sym, ap, ◌∙◌, subst}
+use Rattle.std.proofs.Common.{◌≡◌, ◌≢◌, ◌⊎◌, inl, inr, ℕ, ◌<◌, ◌==◌, Bool, true, false, not, ◌&&◌, ◌||◌, if◌then◌else◌, List, [], ◌∷◌, ◌++◌, length, map, Option, None, Some, Result, Ok, Err, option_map, option_to_list, filter, refl, sym, ap, ◌∙◌, subst}
 use Rattle.std.proofs.lemmas.Bool.Decides.{eqb_tells}
 use Rattle.ncp_leader.specs.declared.fault.MessageFault.{MessageFault}
 use Rattle.ncp_leader.specs.declared.leader.Leader.{Leader}
@@ -29,9 +29,13 @@ use Rattle.ncp_proof_runs.specs.Peers.{is_this_number, peer_of_leader, names, ou
 use Rattle.ncp_proof_runs.proofs.Said.{IsOut}
 use Rattle.ncp_proof_runs.proofs.States.{done}
 use Rattle.ncp_proof_runs.proofs.HostRuns.{Holds, some_same, note-state}
+use Rattle.ncp_umpire.specs.declared.act.Act.{Act}
+use Rattle.ncp_umpire.specs.declared.act.Act.TheVariants.{Reset, Reply, Other}
 use Rattle.ncp_umpire.specs.declared.finding.Finding.{Finding}
 use Rattle.ncp_umpire.specs.declared.finding.Thing.{Thing}
 use Rattle.ncp_umpire.specs.declared.kept.Kept.{Kept}
+use Rattle.ncp_umpire.specs.declared.message.Reading.{Reading}
+use Rattle.ncp_umpire.specs.declared.message.Reading.TheVariants.{Stop, Text, Control}
 use Rattle.ncp_umpire.specs.declared.phase.Turn.{Turn}
 use Rattle.ncp_umpire.specs.declared.talk.Talk.{Talk}
 use Rattle.ncp_umpire.specs.declared.umpire.Umpire.{Umpire}
@@ -40,12 +44,15 @@ use Rattle.ncp_umpire.specs.declared.views.TheConstants.{VIEWS}
 use Rattle.ncp_umpire.specs.declared.way.Way.TheVariants.{ToImp}
 use Rattle.ncp_umpire.specs.Lives.{SeenBooks}
 use Rattle.ncp_umpire.specs.Views.{awaits_reply, is_answered_too_often}
-use Rattle.ncp_umpire.specs.Phases.{broken_by, is_early, after_item, after_items, after_reset_of_host, after_reset_of_peer, view_after_reset, after_reply_of_host, after_reply_of_peer, after_untold_reply, view_after_reply}
-use Rattle.ncp_umpire.specs.Speaking.{spoken_rule, reply_left_out, cls_left_out}
+use Rattle.ncp_umpire.specs.Acts.{act_of}
+use Rattle.ncp_umpire.specs.Messages.{judged_reading}
+use Rattle.ncp_umpire.specs.Texts.{text_rules}
+use Rattle.ncp_umpire.specs.Phases.{broken_by, is_early, after_act, after_item, after_items, after_reset_of_host, after_reset_of_peer, view_after_reset, after_reply_of_host, after_reply_of_peer, after_untold_reply, view_after_reply}
+use Rattle.ncp_umpire.specs.Speaking.{spoken_rule, spoken_numbers, reply_left_out, cls_left_out}
 use Rattle.ncp_umpire.specs.Slots.{is_of, is_unknown, busy_link}
 use Rattle.ncp_umpire.specs.Tables.{view_in}
-use Rattle.ncp_umpire.specs.Talked.{reaches, missing, talk_finding, after_talk, after_talked, left_out_findings}
-use Rattle.ncp_umpire.specs.Judged.{new_umpire, sees, view_of, knows_zero, slot_of_link, same_of, fresh_out, changes_slot, view_after_out, umpire_after_out, turn_at, is_roomy, items_said, after_said, after_record}
+use Rattle.ncp_umpire.specs.Talked.{act_reaches, missing, talk_finding, number_findings, after_talk, after_talked, left_out_findings}
+use Rattle.ncp_umpire.specs.Judged.{new_umpire, next_number, sees, view_of, knows_zero, slot_of_link, same_of, fresh_out, changes_slot, view_after_out, umpire_after_out, turn_at, is_roomy, items_said, after_said, after_record}
 use Rattle.ncp_umpire.proofs.Following.{Keeps, said_keeps, out_is}
 use Rattle.ncp_umpire.proofs.Parted.{said_findings}
 use Rattle.ncp_proof_umpire.proofs.Linked.{Follows, after_out_of}
@@ -59,8 +66,8 @@ use Rattle.ncp_proof_umpire.proofs.Phased.{Sees}
 use Rattle.ncp_proof_umpire.proofs.PhaseSteps.{Stands}
 use Rattle.ncp_proof_umpire.proofs.PhaseSeen.{stands_quiet, quiet_zero, view_same, view_other}
 use Rattle.ncp_proof_umpire.proofs.PhaseWalk.{AllSeen, said_other, control_read, text_read, out_views, was_open, out_long, Goes, goes_on}
-use Rattle.ncp_proof_umpire.proofs.Talking.{is_control_text, message_talk}
-use Rattle.ncp_proof_umpire_talk.proofs.TidyBooks.{Tidy, tidy_begins}
+use Rattle.ncp_proof_umpire.proofs.Talking.{read_talk, message_talk}
+use Rattle.ncp_proof_umpire_seen.proofs.TidyBooks.{Tidy, tidy_begins}
 use Rattle.ncp_proof_umpire_talk.proofs.Carries.{Carries, ShowsBusy}
 use Rattle.ncp_proof_umpire_talk.proofs.ShowsKept.{shows_busy}
 use Rattle.ncp_proof_umpire_talk.proofs.CarriesOn.{out_carries, carries_begins}
@@ -68,10 +75,10 @@ use Rattle.ncp_proof_umpire_talk.proofs.Spoken.{Spoken}
 use Rattle.ncp_proof_umpire_talk.proofs.SpokenIn.{rests_before}
 use Rattle.ncp_proof_umpire_talk.proofs.SpokenOut.{Known}
 use Rattle.ncp_proof_umpire_talk.proofs.SpokenHost.{spoken_as}
-use Rattle.ncp_proof_umpire_talk.proofs.BooksRead.{Reads, said_reads, said_alikes}
-use Rattle.ncp_proof_umpire_talk.proofs.BooksRecord.{out_books}
+use Rattle.ncp_proof_umpire_counts.proofs.BooksRead.{Reads, said_reads, said_alikes}
+use Rattle.ncp_proof_umpire_counts.proofs.BooksRecord.{out_books}
 use Rattle.ncp_proof_umpire_talk.proofs.PeerOut.{PeerTold, again_told, commands_told, text_told}
-use Rattle.ncp_proof_umpire_talk.proofs.TalkWalk.{AllSpoken, spoken_alike, sound_of, not_both}
+use Rattle.ncp_proof_umpire_talk.proofs.TalkWalk.{AllSpoken, spoken_alike, numbered_spoken, sound_of, not_both}
 
 -- ---- to one peer
 
@@ -100,7 +107,7 @@ link_told A me n on message s long a b u fine ready busy k carries shows known1 
         of_text None f e = absurd (cc e)
         of_text (Some t) f e =
             subst (λ (r : Result Message MessageFault). PeerTold A me n true r (cuts on s.peer)) (sym (text_read n on message t b u (cut-written on s.peer.ends t fine.good fine.well.ends f) e))
-            (text_told A me n on t s.peer long a b u z fine.good known2)
+            (text_told A me n on t s.peer (is_quiet s.slots) long a b u z f k fine.good known2)
 
     by : (slot : LinkSlot) → slot_at s.slots on ≡ slot → output_by slot n on s.peer ≡ Some message → PeerTold A me n (is_empty slot) (message_in message) (after_by slot on s.peer)
     by Slot.Empty q e = made (on == control_link) refl e
@@ -142,13 +149,13 @@ peer_told ns me n h umpire message s is k small away p there follows ready seen 
     noted_view : view_in A.views me n ≡ noted
     noted_view = ap (λ (x : List View). view_in x me n) (out_views me n on umpire message roomy) ∙ view_same umpire.views me n noted seen.long small num
 
-    books : A.books ≡ umpire.books
+    books : A.books ≡ next_number umpire.books
     books = out_books (sees umpire me) me n on message
 
     known0 : A.books.full ≡ false → Spoken me n s.peer v A.books × Tidy A.books
     known0 f =
         let g = ap (λ (x : SeenBooks). x.full) (sym books) ∙ f in
-        (subst (λ (x : SeenBooks). Spoken me n s.peer v x) (sym books) (all.spoken roomy g n s there), subst Tidy (sym books) (all.tidy g))
+        (subst (λ (x : SeenBooks). Spoken me n s.peer v x) (sym books) (numbered_spoken me n s.peer v umpire.books (all.spoken roomy g n s there)), subst Tidy (sym books) (all.tidy g))
 
     known1 : Known me n s.peer (view_in A.views me n) A.books
     known1 f =
@@ -184,15 +191,18 @@ peer_told ns me n h umpire message s is k small away p there follows ready seen 
 -- ---- once too much is out, nothing is told of the phase, and nothing is found of what is said
 
 -- what is said reaches nothing
-unreached : (me : ℕ) (busy : Option ℕ) (what : Thing) (v : View) (o : Option Finding) → v.told ≡ false → (if reaches (record { by = me; sent = true; busy = busy; zero = false }) what v then o else None) ≡ None
-unreached me busy what v o t = ap (λ (x : Bool). if x then o else None) (go v.told t)
+unreached : (me : ℕ) (busy : Option ℕ) (zero : Bool) (act : Act) (v : View) → v.told ≡ false → act_reaches (record { by = me; sent = true; busy = busy; zero = zero }) act v ≡ false
+unreached me busy zero Reset v t = refl
+unreached me busy zero Reply v t = refl
+unreached me busy zero (Other what) v t = go v.told t
   where
-    go : (x : Bool) → x ≡ false → (x && not (is_early (record { by = me; sent = true; busy = busy; zero = false }) what v) && not v.rests && not (not true && awaits_reply v.host.wait)) ≡ false
+    go : (x : Bool) → x ≡ false → (x && not (is_early (record { by = me; sent = true; busy = busy; zero = zero }) what v) && not v.rests && not (not true && awaits_reply v.host.wait)) ≡ false
     go true e = absurd (cc e)
     go false e = refl
 
 record Silent (me : ℕ) (busy : Option ℕ) (talk : Talk) (kept : List Kept) (item : Result Command CommandFault) (v : View) (b : SeenBooks) : Type 0 where
   none : talk_finding (record { by = me; sent = true; busy = busy; zero = false }) talk kept item v b ≡ None
+  numbers : number_findings (record { by = me; sent = true; busy = busy; zero = false }) talk item v b ≡ []
   told : (after_item (record { by = me; sent = true; busy = busy; zero = false }) item v).told ≡ false
 
 still_untold : (me : ℕ) (busy : Option ℕ) (v : View) → v.told ≡ false → ((view_after_reset (record { by = me; sent = true; busy = busy; zero = false }) v).told ≡ false) × ((view_after_reply (record { by = me; sent = true; busy = busy; zero = false }) v).told ≡ false)
@@ -210,21 +220,22 @@ still_untold me busy v t = (reset v.told t, answered v.told t)
     answered false e = t
 
 silent : (me : ℕ) (busy : Option ℕ) (talk : Talk) (kept : List Kept) (item : Result Command CommandFault) (v : View) (b : SeenBooks) → v.told ≡ false → Silent me busy talk kept item v b
-silent me busy talk kept (Err fault) v b t = record { none = unreached me busy Thing.Bad v None t; told = t }
-silent me busy talk kept (Ok Command.Rst) v b t = record { none = refl; told = (still_untold me busy v t).0 }
-silent me busy talk kept (Ok Command.Rrp) v b t = record { none = refl; told = (still_untold me busy v t).1 }
-silent me busy talk kept (Ok Command.Nop) v b t = record { none = unreached me busy Thing.Nop v (option_map (broken_by (record { by = me; sent = true; busy = busy; zero = false })) (spoken_rule talk kept (Ok Command.Nop) b)) t; told = t }
-silent me busy talk kept (Ok (Command.Rts x y z)) v b t = record { none = unreached me busy Thing.Rts v (option_map (broken_by (record { by = me; sent = true; busy = busy; zero = false })) (spoken_rule talk kept (Ok (Command.Rts x y z)) b)) t; told = t }
-silent me busy talk kept (Ok (Command.Str x y z)) v b t = record { none = unreached me busy Thing.Str v (option_map (broken_by (record { by = me; sent = true; busy = busy; zero = false })) (spoken_rule talk kept (Ok (Command.Str x y z)) b)) t; told = t }
-silent me busy talk kept (Ok (Command.Cls x y)) v b t = record { none = unreached me busy Thing.Cls v (option_map (broken_by (record { by = me; sent = true; busy = busy; zero = false })) (spoken_rule talk kept (Ok (Command.Cls x y)) b)) t; told = t }
-silent me busy talk kept (Ok (Command.All x y z)) v b t = record { none = unreached me busy Thing.All v (option_map (broken_by (record { by = me; sent = true; busy = busy; zero = false })) (spoken_rule talk kept (Ok (Command.All x y z)) b)) t; told = t }
-silent me busy talk kept (Ok (Command.Gvb x y z)) v b t = record { none = unreached me busy Thing.Gvb v (option_map (broken_by (record { by = me; sent = true; busy = busy; zero = false })) (spoken_rule talk kept (Ok (Command.Gvb x y z)) b)) t; told = t }
-silent me busy talk kept (Ok (Command.Ret x y z)) v b t = record { none = unreached me busy Thing.Ret v (option_map (broken_by (record { by = me; sent = true; busy = busy; zero = false })) (spoken_rule talk kept (Ok (Command.Ret x y z)) b)) t; told = t }
-silent me busy talk kept (Ok (Command.Inr x)) v b t = record { none = unreached me busy Thing.Inr v (option_map (broken_by (record { by = me; sent = true; busy = busy; zero = false })) (spoken_rule talk kept (Ok (Command.Inr x)) b)) t; told = t }
-silent me busy talk kept (Ok (Command.Ins x)) v b t = record { none = unreached me busy Thing.Ins v (option_map (broken_by (record { by = me; sent = true; busy = busy; zero = false })) (spoken_rule talk kept (Ok (Command.Ins x)) b)) t; told = t }
-silent me busy talk kept (Ok (Command.Eco x)) v b t = record { none = unreached me busy Thing.Eco v (option_map (broken_by (record { by = me; sent = true; busy = busy; zero = false })) (spoken_rule talk kept (Ok (Command.Eco x)) b)) t; told = t }
-silent me busy talk kept (Ok (Command.Erp x)) v b t = record { none = unreached me busy Thing.Erp v (option_map (broken_by (record { by = me; sent = true; busy = busy; zero = false })) (spoken_rule talk kept (Ok (Command.Erp x)) b)) t; told = t }
-silent me busy talk kept (Ok (Command.Err x y)) v b t = record { none = unreached me busy Thing.Err v (option_map (broken_by (record { by = me; sent = true; busy = busy; zero = false })) (spoken_rule talk kept (Ok (Command.Err x y)) b)) t; told = t }
+silent me busy talk kept item v b t = record {
+  none = ap (λ (x : Bool). if x then option_map (broken_by turn) (spoken_rule talk kept item b) else None) nothing;
+  numbers = ap (λ (x : Bool). if x then map (broken_by turn) (spoken_numbers talk item b) else []) nothing;
+  told = untold (act_of item);
+}
+  where
+    turn : Turn
+    turn = record { by = me; sent = true; busy = busy; zero = false }
+
+    nothing : act_reaches turn (act_of item) v ≡ false
+    nothing = unreached me busy false (act_of item) v t
+
+    untold : (act : Act) → (after_act turn act v).told ≡ false
+    untold Reset = (still_untold me busy v t).0
+    untold Reply = (still_untold me busy v t).1
+    untold (Other what) = t
 
 record AllSilent (me : ℕ) (busy : Option ℕ) (talk : Talk) (kept : List Kept) (items : List (Result Command CommandFault)) (v : View) (b : SeenBooks) : Type 0 where
   none : said_findings (record { by = me; sent = true; busy = busy; zero = false }) talk kept items v b ≡ []
@@ -235,9 +246,12 @@ all_silent me busy talk kept [] v b t = record { none = refl; told = t }
 all_silent me busy talk kept (item ∷ items) v b t =
     let turn : Turn = record { by = me; sent = true; busy = busy; zero = false } in
     let one = silent me busy talk kept item v b t in
-    let more = all_silent me busy talk kept items (after_item turn item v) (after_talk turn talk item v b) one.told in
+    let now = after_talk turn talk kept item v b in
+    let more = all_silent me busy talk kept items (after_item turn item v) now one.told in
     record {
-      none = ap (λ (o : Option Finding). option_to_list o ++ said_findings turn talk kept items (after_item turn item v) (after_talk turn talk item v b)) one.none ∙ more.none;
+      none =
+          ap (λ (o : Option Finding). option_to_list o ++ number_findings turn talk item v b ++ said_findings turn talk kept items (after_item turn item v) now) one.none
+          ∙ ap (λ (xs : List Finding). xs ++ said_findings turn talk kept items (after_item turn item v) now) one.numbers ∙ more.none;
       told = more.told;
     }
 
@@ -258,7 +272,7 @@ and_full b false e = absurd (cc e)
 
 full_silent : (A : Umpire) (me n : ℕ) (fresh : Bool) (r : Result Message MessageFault) → A.full ≡ true → message_talk A me n me true fresh r ≡ []
 full_silent A me n fresh (Err fault) full = refl
-full_silent A me n fresh (Ok m) full = go (fresh && is_control_text m)
+full_silent A me n fresh (Ok m) full = go fresh (judged_reading m)
   where
     busy : Option ℕ
     busy = busy_link me n A.kept
@@ -272,24 +286,31 @@ full_silent A me n fresh (Ok m) full = go (fresh && is_control_text m)
     v : View
     v = view_of A me n
 
+    told : v.told ≡ false
+    told = and_full (view_in A.views me n).told A.full full
+
     k : AllSilent me busy talk A.kept items v A.books
-    k = all_silent me busy talk A.kept items v A.books (and_full (view_in A.views me n).told A.full full)
+    k = all_silent me busy talk A.kept items v A.books told
 
     said : Bool → List Finding
     said z =
         let turn : Turn = record { by = me; sent = true; busy = busy; zero = z } in
-        said_findings turn talk A.kept items v A.books ++ left_out_findings turn talk A.kept (is_roomy m.text) (after_items turn items v) (after_talked turn talk items v A.books)
+        said_findings turn talk A.kept items v A.books ++ left_out_findings turn talk A.kept (is_roomy m.text) (after_items turn items v) (after_talked turn talk A.kept items v A.books)
 
     zero : knows_zero A me n ≡ false
     zero = ap (λ (x : Bool). not x && not (is_unknown (slot_of_link A me n 0))) full
 
-    go : (x : Bool) → (if x then said (knows_zero A me n) else []) ≡ []
-    go false = refl
-    go true =
+    go : (x : Bool) (reading : Reading) → (if x then read_talk A me n me true m reading else []) ≡ []
+    go false reading = refl
+    go true Stop = refl
+    go true Text =
+        let turn : Turn = record { by = me; sent = true; busy = busy; zero = knows_zero A me n } in
+        ap (λ (x : Bool). if x then map (broken_by turn) (text_rules talk m.leader.link m A.books) else []) (unreached me busy (knows_zero A me n) (Other Thing.Text) v told)
+    go true Control =
         let turn : Turn = record { by = me; sent = true; busy = busy; zero = false } in
         ap said zero
-        ∙ ap (λ (xs : List Finding). xs ++ left_out_findings turn talk A.kept (is_roomy m.text) (after_items turn items v) (after_talked turn talk items v A.books)) k.none
-        ∙ none_left_out me busy talk A.kept (is_roomy m.text) (after_items turn items v) (after_talked turn talk items v A.books) k.told
+        ∙ ap (λ (xs : List Finding). xs ++ left_out_findings turn talk A.kept (is_roomy m.text) (after_items turn items v) (after_talked turn talk A.kept items v A.books)) k.none
+        ∙ none_left_out me busy talk A.kept (is_roomy m.text) (after_items turn items v) (after_talked turn talk A.kept items v A.books) k.told
 
 -- ---- a message
 
@@ -319,7 +340,7 @@ out_talks ns me n h umpire message s is k small away p there follows ready seen 
     now : Umpire
     now = after_said A me n (turn_at A me n me true) fresh (message_in message)
 
-    books : A.books ≡ umpire.books
+    books : A.books ≡ next_number umpire.books
     books = out_books (sees umpire me) me n on message
 
     reads : Reads A.books now.books
@@ -376,7 +397,7 @@ out_talks ns me n h umpire message s is k small away p there follows ready seen 
                 ∙ ap (λ (x : List View). view_in x me m) (out_views me n on umpire message (open_before full))
                 ∙ view_other umpire.views me n m (view_after_out (view_in umpire.views me n) (slot_of_link (sees umpire me) me n on) (same_of (sees umpire me) me n on message)) (λ e. apart_is.1 (sym e))))
                 (spoken_alike me m w.0.peer (view_in umpire.views me m) A.books now.books (said_alikes A me n me true fresh (message_in message) me m (not_both me n m apart_is.0))
-                (subst (λ (x : SeenBooks). Spoken me m w.0.peer (view_in umpire.views me m) x) (sym books) (all.spoken (open_before full) (roomy_before f) m w.0 w.1))))
+                (subst (λ (x : SeenBooks). Spoken me m w.0.peer (view_in umpire.views me m) x) (sym books) (numbered_spoken me m w.0.peer (view_in umpire.views me m) umpire.books (all.spoken (open_before full) (roomy_before f) m w.0 w.1)))))
 
 -- ---- the beginning
 

@@ -1,6 +1,6 @@
 -- What is known of what is said between a host and all its peers, through what goes out and what comes: by no rule is the host
 -- found to be wrong.
-use Rattle.std.proofs.Common.{◌≡◌, ◌≢◌, ◌⊎◌, inl, inr, ℕ, ◌<◌, ◌==◌, Bool, true, false, not, ◌&&◌, if◌then◌else◌, List, [], length, Option, None, Some, Result, Ok, Err, refl, sym, ap, ◌∙◌, subst}
+use Rattle.std.proofs.Common.{◌≡◌, ◌≢◌, ◌⊎◌, inl, inr, ℕ, ◌<◌, ◌==◌, Bool, true, false, not, ◌&&◌, if◌then◌else◌, List, [], length, Option, None, Some, Result, Ok, Err, filter, refl, sym, ap, ◌∙◌, subst}
 use Rattle.std.proofs.lemmas.Bool.{eqb-true}
 use Rattle.std.proofs.lemmas.Bool.Decides.{eqb_tells}
 use Rattle.ncp_leader.specs.declared.fault.MessageFault.{MessageFault}
@@ -11,7 +11,7 @@ use Rattle.ncp_leader.specs.Message.{Message, message_in}
 use Rattle.ncp_leader.proofs.Messages.{message_leader}
 use Rattle.ncp_terms.specs.declared.answer.Answer.{Answer}
 use Rattle.ncp_terms.specs.declared.answer.Answer.TheVariants.{Rfnm, Incomplete, Dead}
-use Rattle.ncp_slot.specs.Slots.{is_quiet}
+use Rattle.ncp_slot.specs.Slots.{slot_at, is_quiet}
 use Rattle.ncp_model.specs.Act.{answer}
 use Rattle.ncp_model.specs.Peers.{Peer, Ask_to_send, Ask_to_receive, Close, Give, Take, Allocate, Call_back, Interrupt}
 use Rattle.ncp_host.specs.PeerState.{PeerState, answer_comes}
@@ -35,31 +35,33 @@ use Rattle.ncp_umpire.specs.declared.way.Way.TheVariants.{FromImp}
 use Rattle.ncp_umpire.specs.Events.{is_answer}
 use Rattle.ncp_umpire.specs.Lives.{SeenBooks}
 use Rattle.ncp_umpire.specs.Tables.{view_in}
-use Rattle.ncp_umpire.specs.Slots.{place_of, busy_link}
+use Rattle.ncp_umpire.specs.Slots.{place_of, is_of, busy_link}
 use Rattle.ncp_umpire.specs.Messages.{judged_reading}
-use Rattle.ncp_umpire.specs.Judged.{sees, view_of, knows_zero, with_answer, umpire_after_answer, judges_coming, with_coming, after_in, turn_at, after_read, after_said, after_record}
+use Rattle.ncp_umpire.specs.Judged.{next_number, sees, view_of, knows_zero, with_answer, umpire_after_answer, judges_coming, with_coming, after_in, turn_at, after_read, after_said, after_record}
 use Rattle.ncp_umpire.proofs.Following.{said_keeps, short_is, other_is, own_is, in_is, answer_is}
 use Rattle.ncp_proof_umpire.proofs.Leaders.{apart}
 use Rattle.ncp_proof_umpire.proofs.Linked.{Follows, coming_keeps, no_regular}
 use Rattle.ncp_proof_umpire.proofs.HostSlots.{is_of_call, was}
 use Rattle.ncp_proof_umpire.proofs.ReadyPeers.{AllReady}
 use Rattle.ncp_proof_umpire.proofs.Fine.{Fine}
+use Rattle.ncp_proof_umpire.proofs.Shown.{Shows}
 use Rattle.ncp_proof_umpire.proofs.Fresh.{sees_busy}
 use Rattle.ncp_proof_umpire.proofs.Phased.{Sees}
 use Rattle.ncp_proof_umpire.proofs.PhaseSteps.{Stands}
 use Rattle.ncp_proof_umpire.proofs.PhaseSeen.{Seen, stands_as, view_same}
 use Rattle.ncp_proof_umpire.proofs.PhaseWalk.{AllSeen, said_other, not_full}
-use Rattle.ncp_proof_umpire_talk.proofs.TidyBooks.{Tidy}
+use Rattle.ncp_proof_umpire_seen.proofs.TidyBooks.{Tidy}
 use Rattle.ncp_proof_umpire_talk.proofs.Carries.{Carries}
+use Rattle.ncp_proof_umpire_talk.proofs.ShowsKept.{shows_busy}
 use Rattle.ncp_proof_umpire_talk.proofs.Borne.{Borne}
 use Rattle.ncp_proof_umpire_talk.proofs.CarriesOn.{quiet_tells, called_carries, message_carries, answer_carries}
 use Rattle.ncp_proof_umpire_talk.proofs.Spoken.{Spoken}
 use Rattle.ncp_proof_umpire_talk.proofs.Begun.{alike_tells, alike_clear}
-use Rattle.ncp_proof_umpire_talk.proofs.Elsewhere.{Alike}
+use Rattle.ncp_proof_umpire_seen.proofs.Elsewhere.{Alike}
 use Rattle.ncp_proof_umpire_talk.proofs.SpokenOut.{Known}
 use Rattle.ncp_proof_umpire_talk.proofs.SpokenHost.{call_spoken, answer_spoken, spoken_as}
-use Rattle.ncp_proof_umpire_talk.proofs.BooksRead.{Reads, said_reads, said_alikes}
-use Rattle.ncp_proof_umpire_talk.proofs.BooksRecord.{in_books, answer_books}
+use Rattle.ncp_proof_umpire_counts.proofs.BooksRead.{Reads, said_reads, said_alikes}
+use Rattle.ncp_proof_umpire_counts.proofs.BooksRecord.{in_books, answer_books, numbered_alike}
 use Rattle.ncp_proof_umpire_talk.proofs.PeerIn.{message_heard}
 
 -- ---- what is known of all peers
@@ -76,6 +78,10 @@ spoken_alike me n p v b now a k = record {
   waits = λ w. alike_clear me n b now a (k.waits w);
   tells = λ r u. alike_tells me n b now a p.ends p.echoes.awaited p.phase.waiting (k.tells r u);
 }
+
+-- the next record is judged
+pub numbered_spoken : (me n : ℕ) (p : Peer) (v : View) (b : SeenBooks) → Spoken me n p v b → Spoken me n p v (next_number b)
+numbered_spoken me n p v b k = spoken_alike me n p v b (next_number b) (numbered_alike me n b) k
 
 -- ---- what a host has for a peer is sound
 
@@ -160,7 +166,7 @@ call_talks ns me note h umpire k p c ready seen all = record {
 -- ---- what comes
 
 -- nothing of it is changed
-calm_talks : (ns : List ℕ) (me : ℕ) (note : HostNote) (h : Host) (umpire u : Umpire) → Holds ns h → IsHostSaid note h → u.views ≡ umpire.views → u.full ≡ umpire.full → u.books ≡ umpire.books
+calm_talks : (ns : List ℕ) (me : ℕ) (note : HostNote) (h : Host) (umpire u : Umpire) → Holds ns h → IsHostSaid note h → u.views ≡ umpire.views → u.full ≡ umpire.full → u.books ≡ next_number umpire.books
     → ((m : ℕ) (s : PeerState) → state_of h m ≡ Some s → (if names m note then note_for note s else s) ≡ s)
     → AllSpoken me h umpire → AllSpoken me (after_note note h) u
 calm_talks ns me note h umpire u k p v f b same all = record {
@@ -170,7 +176,7 @@ calm_talks ns me note h umpire u k p v f b same all = record {
       let w = was ns note h n t k p e in
       subst (λ (x : PeerState). Spoken me n x.peer (view_in u.views me n) u.books) (sym (w.2 ∙ same n w.0 w.1))
       (subst (λ (x : List View). Spoken me n w.0.peer (view_in x me n) u.books) (sym v)
-      (subst (λ (x : SeenBooks). Spoken me n w.0.peer (view_in umpire.views me n) x) (sym b) (all.spoken (sym f ∙ full) (ap (λ (x : SeenBooks). x.full) (sym b) ∙ room) n w.0 w.1)));
+      (subst (λ (x : SeenBooks). Spoken me n w.0.peer (view_in umpire.views me n) x) (sym b) (numbered_spoken me n w.0.peer (view_in umpire.views me n) umpire.books (all.spoken (sym f ∙ full) (ap (λ (x : SeenBooks). x.full) (sym b) ∙ room) n w.0 w.1))));
 }
 
 -- bits that are no regular message of a peer
@@ -226,7 +232,7 @@ coming_talks ns me h umpire bits leader k l p led away zero follows ready seen a
         go true = refl
         go false = refl
 
-    books : A.books ≡ umpire.books
+    books : A.books ≡ next_number umpire.books
     books = in_books (sees umpire me) me n leader.link
 
     reads : Reads A.books now.books
@@ -296,13 +302,19 @@ coming_talks ns me h umpire bits leader k l p led away zero follows ready seen a
                 of_n : Stands s.peer (is_quiet s.slots) (view_of A me n)
                 of_n = stands_as s.peer (is_quiet s.slots) v v.rests v.crowded (v.told && not A.full) refl (not_full v.told A.full at_n.phased.told (room ∙ open_before full)) at_n
 
+                shown : (l : ℕ) → Shows (filter (is_of me n l) A.kept) (slot_at s.slots l)
+                shown = (coming_keeps me h (sees umpire me) n leader.link away follows (room ∙ open_before full)).agrees n s there
+
                 busy : Sees (is_quiet s.slots) (busy_link me n A.kept)
-                busy = sees_busy me n A.kept s ((coming_keeps me h (sees umpire me) n leader.link away follows (room ∙ open_before full)).agrees n s there) o.used
+                busy = sees_busy me n A.kept s shown o.used
+
+                held : Carries s.peer s.slots
+                held = all.carries (open_before full) n s there
 
                 spoken_v : A.books.full ≡ false → Spoken me n s.peer v A.books
                 spoken_v g =
                     subst (λ (x : View). Spoken me n s.peer x A.books) (sym is_view)
-                    (subst (λ (x : SeenBooks). Spoken me n s.peer (view_in umpire.views me n) x) (sym books) (all.spoken (open_before full) (ap (λ (x : SeenBooks). x.full) (sym books) ∙ g) n s there))
+                    (subst (λ (x : SeenBooks). Spoken me n s.peer (view_in umpire.views me n) x) (sym books) (numbered_spoken me n s.peer (view_in umpire.views me n) umpire.books (all.spoken (open_before full) (ap (λ (x : SeenBooks). x.full) (sym books) ∙ g) n s there)))
 
                 known : Known me n s.peer (view_of A me n) A.books
                 known g = (spoken_as me n s.peer v (view_of A me n) A.books (λ r. r) refl (spoken_v g), subst Tidy (sym books) (all.tidy (ap (λ (x : SeenBooks). x.full) (sym books) ∙ g)))
@@ -315,11 +327,11 @@ coming_talks ns me h umpire bits leader k l p led away zero follows ready seen a
                     subst (λ (r : Result Message MessageFault). Spoken me n (message_after leader.link bits r s).peer (view_in (after_said A me n (turn_at A me n n false) true r).views me n) (after_said A me n (turn_at A me n n false) true r).books) (sym g)
                     read_on
                   where
+                    is_leader : x.leader ≡ leader
+                    is_leader = let ok : ◌≡◌ {A = Result Leader Short} (Ok x.leader) (Ok leader) = sym (message_leader bits x g) ∙ led in cc ok
+
                     link : x.leader.link ≡ leader.link
-                    link =
-                        let ok : ◌≡◌ {A = Result Leader Short} (Ok x.leader) (Ok leader) = sym (message_leader bits x g) ∙ led in
-                        let is : x.leader ≡ leader = cc ok in
-                        ap (λ (l : Leader). l.link) is
+                    link = ap (λ (l : Leader). l.link) is_leader
 
                     after : View
                     after = after_read (judged_reading x) (record { by = n; sent = false; busy = busy_link me n A.kept; zero = knows_zero A me n }) x.text (view_of A me n)
@@ -331,14 +343,15 @@ coming_talks ns me h umpire bits leader k l p led away zero follows ready seen a
                     read_on =
                         subst (λ (u : View). Spoken me n (message_after leader.link bits (Ok x) s).peer u (after_said A me n (turn_at A me n n false) true (Ok x)).books) (sym (view_same A.views me n after (ap length views ∙ seen.long) l small))
                         (subst (λ (j : ℕ). Spoken me n (message_after j bits (Ok x) s).peer after (after_said A me n (turn_at A me n n false) true (Ok x)).books) link
-                        (message_heard me n (busy_link me n A.kept) (knows_zero A me n) bits x s (view_of A me n) A.books busy (quiet_tells s.slots o.used) of_n (ready n s there).fine.good (borne_of s (all.carries (open_before full) n s there)) known here_room))
+                        (message_heard me n (busy_link me n A.kept) (knows_zero A me n) A.kept bits x s (view_of A me n) A.books g (ap (λ (l : Leader). l.host) is_leader) (ap (λ (l : Leader). l.kind) is_leader ∙ eqb-true leader.kind 0 zero)
+                        busy (quiet_tells s.slots o.used) (shows_busy me n A.kept s.slots shown) of_n (ready n s there).fine.good (borne_of s held) (sound_of s (is_quiet s.slots) (view_in umpire.views me n) held o.stands) known here_room))
 
             elsewhere : n ≢ m → (n == m) ≡ false → Spoken me m t.peer (view_in now.views me m) now.books
             elsewhere d eq =
                 subst (λ (x : PeerState). Spoken me m x.peer (view_in now.views me m) now.books) (sym (become m s t w.2 ∙ ap (λ (b : Bool). if b then message_after leader.link bits (message_in bits) s else s) eq))
                 (subst (λ (u : View). Spoken me m s.peer u now.books) (sym (said_other A me n m n false true (message_in bits) (λ e. d (sym e)) ∙ ap (λ (x : List View). view_in x me m) views))
                 (spoken_alike me m s.peer (view_in umpire.views me m) A.books now.books (said_alikes A me n n false true (message_in bits) me m (not_both me n m eq))
-                (subst (λ (x : SeenBooks). Spoken me m s.peer (view_in umpire.views me m) x) (sym books) turned)))
+                (subst (λ (x : SeenBooks). Spoken me m s.peer (view_in umpire.views me m) x) (sym books) (numbered_spoken me m s.peer (view_in umpire.views me m) umpire.books turned))))
 
             by : (((n == m) ≡ true) × (n ≡ m)) ⊎ (((n == m) ≡ false) × (n ≢ m)) → Spoken me m t.peer (view_in now.views me m) now.books
             by (inl same) = here same.1 same.0
@@ -346,7 +359,7 @@ coming_talks ns me h umpire bits leader k l p led away zero follows ready seen a
 
 -- an answer of a peer
 answer_talks : (ns : List ℕ) (me : ℕ) (h : Host) (umpire u : Umpire) (bits : List Bool) (leader : Leader) (note : HostNote) → Holds ns h → IsHostSaid note h → note ≡ HostNote.Answered leader.host leader.link (answer_of leader.kind) (received_in bits h)
-    → u.views ≡ umpire.views → u.full ≡ umpire.full → u.books ≡ umpire.books → AllReady h → AllSeen me h umpire → AllSpoken me h umpire → AllSpoken me (after_note note h) u
+    → u.views ≡ umpire.views → u.full ≡ umpire.full → u.books ≡ next_number umpire.books → AllReady h → AllSeen me h umpire → AllSpoken me h umpire → AllSpoken me (after_note note h) u
 answer_talks ns me h umpire u bits leader note k p is v f b ready seen all = record {
   tidy = λ room. subst Tidy (sym b) (all.tidy (ap (λ (x : SeenBooks). x.full) (sym b) ∙ room));
   carries = λ full n t e. let w = was ns note h n t k p e in subst (λ (x : PeerState). Carries x.peer x.slots) (sym (become n w.0 t w.2)) (held (sym f ∙ full) n w.0 w.1 (leader.host == n));
@@ -355,7 +368,7 @@ answer_talks ns me h umpire u bits leader note k p is v f b ready seen all = rec
       subst (λ (x : PeerState). Spoken me n x.peer (view_in u.views me n) u.books) (sym (become n w.0 t w.2))
       (subst (λ (x : List View). Spoken me n (now w.0 (leader.host == n)).peer (view_in x me n) u.books) (sym v)
       (subst (λ (x : SeenBooks). Spoken me n (now w.0 (leader.host == n)).peer (view_in umpire.views me n) x) (sym b)
-      (said (sym f ∙ full) (ap (λ (x : SeenBooks). x.full) (sym b) ∙ room) n w.0 w.1 (leader.host == n))));
+      (numbered_spoken me n (now w.0 (leader.host == n)).peer (view_in umpire.views me n) umpire.books (said (sym f ∙ full) (ap (λ (x : SeenBooks). x.full) (sym b) ∙ room) n w.0 w.1 (leader.host == n)))));
 }
   where
     now : PeerState → Bool → PeerState
@@ -374,7 +387,7 @@ answer_talks ns me h umpire u bits leader note k p is v f b ready seen all = rec
     said : umpire.full ≡ false → umpire.books.full ≡ false → (n : ℕ) (s : PeerState) → state_of h n ≡ Some s → (x : Bool) → Spoken me n (now s x).peer (view_in umpire.views me n) umpire.books
     said full room n s there true =
         let o = seen.each full n s there in
-        answer_spoken me n leader.link (answer_of leader.kind) s (view_in umpire.views me n) umpire.books (ready n s there).fine.good (record { none = o.stands.down; calm = o.stands.phased.calm }) (all.spoken full room n s there)
+        answer_spoken me n leader.link (answer_of leader.kind) s (view_in umpire.views me n) umpire.books (ready n s there).fine.good (all.carries full n s there).sexes (record { none = o.stands.down; calm = o.stands.phased.calm }) (all.spoken full room n s there)
     said full room n s there false = all.spoken full room n s there
 
 pub in_talks : (ns : List ℕ) (me : ℕ) (h : Host) (umpire : Umpire) (bits : List Bool) (note : HostNote) → Holds ns h → is_one_of me ns ≡ false → me < 256 → IsHostSaid note h → note ≡ note_of_bits bits h
@@ -390,7 +403,7 @@ in_talks ns me h umpire bits note k away small p is follows ready seen all = go 
     turned : (after : Umpire) → after_record umpire FromImp me bits ≡ after → AllSpoken me now after → AllSpoken me now (after_record umpire FromImp me bits)
     turned after e g = subst (λ (u : Umpire). AllSpoken me now u) (sym e) g
 
-    plain : (u : Umpire) → u.views ≡ umpire.views → u.full ≡ umpire.full → u.books ≡ umpire.books → note ≡ HostNote.In bits (received_in bits h) → (r : Result Leader Short) → leader_in bits ≡ r
+    plain : (u : Umpire) → u.views ≡ umpire.views → u.full ≡ umpire.full → u.books ≡ next_number umpire.books → note ≡ HostNote.In bits (received_in bits h) → (r : Result Leader Short) → leader_in bits ≡ r
         → ((leader : Leader) → r ≡ Ok leader → (leader.kind == 0) ≡ true → state_of h leader.host ≡ None) → AllSpoken me now u
     plain u a b c e r led none =
         subst (λ (x : HostNote). AllSpoken me (after_note x h) u) (sym e)

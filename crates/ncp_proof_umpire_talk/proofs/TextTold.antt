@@ -1,228 +1,245 @@
 -- A text of the other comes to the host: all that is known of what was said stays known. Of the receiver that takes it a text
 -- is seen to have come, or its link rests.
-use Rattle.std.proofs.Common.{◌≡◌, ℕ, ◌==◌, Bool, true, false, not, ◌&&◌, if◌then◌else◌, List, [], ◌∷◌, Option, None, Some, is_some, ◌⊎◌, inl, inr, eq-eqb, refl, sym, ap, ◌∙◌, subst, arith}
-use Rattle.std.specs.Prelude.{slice_set}
+use Rattle.std.proofs.Common.{◌≡◌, ◌<◌, ℕ, ◌==◌, Bool, true, false, not, ◌&&◌, ◌||◌, if◌then◌else◌, List, [], ◌∷◌, ◌++◌, length, Option, None, Some, is_some, ◌⊎◌, inl, inr, eq-eqb, refl, sym, ap, ◌∙◌, subst, arith}
+use Rattle.std.specs.Prelude.{◌-◌, nat_lt}
 use Rattle.std.specs.FinMap.{get}
-use Rattle.std.specs.List.{filter, position}
-use Rattle.std.proofs.Math.Bool.{beq}
+use Rattle.std.specs.List.{position}
 use Rattle.std.proofs.lemmas.Bool.{eqb-true, and_parts}
+use Rattle.std.proofs.lemmas.List.{append-nil}
+use Rattle.ncp_leader.specs.Message.{Message}
 use Rattle.ncp_terms.specs.declared.command.Command.{Command}
 use Rattle.ncp_model.specs.declared.pair.Pair.{Pair}
+use Rattle.ncp_model.specs.declared.outcomes.Took.{Took}
 use Rattle.ncp_model.specs.Pairs.{sends, receives, is_proper}
-use Rattle.ncp_model.specs.End.{End}
-use Rattle.ncp_model.specs.Ends.{Ends, uses_link}
+use Rattle.ncp_model.specs.End.{End, is_going, is_over}
+use Rattle.ncp_model.specs.Act.{Act, Stays, Becomes, answer, end_after, text_error}
+use Rattle.ncp_model.specs.Ends.{Ends, uses_link, receiver_on, pair_of, end_of, map_after, map_after_at}
+use Rattle.ncp_model.specs.Texts.{hear_text, text_at, made_by_text}
+use Rattle.ncp_model.specs.Happenings.{Happening}
 use Rattle.ncp_model.specs.Leading.{passes}
+use Rattle.ncp_model.proofs.LinksLead.{led}
+use Rattle.ncp_proof_watch.specs.Sound.{SoundAt}
 use Rattle.ncp_proof_machine.proofs.EndsGood.{Good}
-use Rattle.ncp_umpire.specs.declared.due.Due.{Due}
+use Rattle.ncp_umpire.specs.declared.lead.Lead.{Lead}
 use Rattle.ncp_umpire.specs.declared.life.Life.{Life}
 use Rattle.ncp_umpire.specs.declared.life.Topic.{Topic}
-use Rattle.ncp_umpire.specs.Lives.{SeenBooks, unasked_life, is_of_sockets, is_life_between, is_senders, is_number_given, has_link, life_in_place, is_marked, marks_now}
-use Rattle.ncp_umpire.specs.Replies.{is_due_of}
-use Rattle.ncp_umpire.specs.Speaking.{books_after_text}
+use Rattle.ncp_umpire.specs.declared.talk.Talk.{Talk}
+use Rattle.ncp_umpire.specs.Lives.{SeenBooks, is_of_sockets, is_senders, has_link, life_in_place, is_marked, put_life}
+use Rattle.ncp_umpire.specs.Allocation.{is_any}
+use Rattle.ncp_umpire.specs.Texts.{text_shown, admits_error, is_closed_for, text_lead, open_text_rules, used, after_text_came, life_came_at, text_rests, admits_error_if, led_after_text, books_after_text}
 use Rattle.ncp_umpire.proofs.Shapes.{Shape, Say, Ask, Leave, Agrees, is_closed}
-use Rattle.ncp_umpire.proofs.LinkOrder.{Sockets, number_of, about}
-use Rattle.ncp_umpire.proofs.Firsts.{first, set_first, found_first, none_first, set_found, Unique}
+use Rattle.ncp_umpire.proofs.LinkOrder.{Sockets, same, same_is, number_of, about}
 use Rattle.ncp_umpire.proofs.BooksAt.{has_sockets}
-use Rattle.ncp_umpire.proofs.Covers.{Covers}
 use Rattle.ncp_umpire.proofs.Seeing.{of_life, seen}
-use Rattle.ncp_proof_umpire_talk.proofs.KeptEnds.{of_end, kept}
-use Rattle.ncp_proof_umpire_talk.proofs.OwnMoves.{all_says, sockets_of, no_sender}
-use Rattle.ncp_proof_umpire_talk.proofs.Tallies.{rests_tally}
-use Rattle.ncp_proof_umpire_talk.proofs.Changed.{pair_at, kept_of}
-use Rattle.ncp_proof_umpire_talk.proofs.SeenBooks.{life_seen, seen_of, is_resting, rests_of, links_of, receives_at}
-use Rattle.ncp_proof_umpire_talk.proofs.Users.{Linked, first_passes}
-use Rattle.ncp_proof_umpire_talk.proofs.Resting.{mark_lives, mark_dues, mark_keeps, mark_made, mark_room}
-use Rattle.ncp_proof_umpire_talk.proofs.Meets.{Meets, is_judged_reply}
-use Rattle.ncp_proof_umpire_talk.proofs.Untaken.{Held}
-use Rattle.ncp_proof_umpire_talk.proofs.Came.{asks_in, has_come}
-use Rattle.ncp_proof_umpire_talk.proofs.TidyBooks.{Tidy, unique_put}
-use Rattle.ncp_proof_umpire_talk.proofs.RefusedRequests.{first_alone}
-use Rattle.ncp_proof_umpire_talk.proofs.ToldSteps.{SameEchoes, link_echoes}
+use Rattle.ncp_proof_umpire_seen.proofs.KeptEnds.{of_end, kept}
+use Rattle.ncp_proof_umpire_seen.proofs.OwnMoves.{all_says, sockets_of, Moved, no_sender, moves}
+use Rattle.ncp_proof_umpire_seen.proofs.Changed.{pair_at, kept_of, OneEnd, unlike}
+use Rattle.ncp_proof_umpire_seen.proofs.SeenBooks.{life_seen, seen_of, is_resting, rests_of, receives_at}
+use Rattle.ncp_proof_umpire_seen.proofs.Users.{Linked, first_passes}
+use Rattle.ncp_proof_umpire_seen.proofs.Resting.{mark_lives, mark_keeps, mark_made, mark_room}
+use Rattle.ncp_proof_umpire_seen.proofs.Meets.{Meets}
+use Rattle.ncp_proof_umpire_seen.proofs.Comes.{says_append, host_meets, unsaid_meets}
+use Rattle.ncp_proof_umpire_seen.proofs.Untaken.{Held}
+use Rattle.ncp_proof_umpire_seen.proofs.HeldLinks.{host_held}
+use Rattle.ncp_proof_umpire_seen.proofs.Echoing.{ecos, mark_other}
+use Rattle.ncp_proof_umpire_seen.proofs.Came.{asks_in, has_come, Came, receiving_socket}
+use Rattle.ncp_proof_umpire_seen.proofs.Proper.{ProperEnds}
+use Rattle.ncp_proof_umpire_seen.proofs.RequestsCome.{one_end}
+use Rattle.ncp_proof_umpire_seen.proofs.TidyBooks.{Tidy}
+use Rattle.ncp_proof_umpire_counts.proofs.LinkPlaces.{UserAt, AllUnique, LeadsTo, ToRest, ToNobody, ToClosed, ToUnasked, ToOpen, text_leads, user_found, user_seen, renumbered_here, renumbered_tidy, renumbered_unique}
+use Rattle.ncp_proof_umpire_counts.proofs.SameShapes.{SameShapes, shapes_meets, shapes_held, lives_same, numbered_same, shapes_then}
+use Rattle.ncp_proof_umpire_talk.proofs.ToldSteps.{SameEchoes, echoes_then, link_echoes, echo_told}
+use Rattle.ncp_proof_umpire_counts.proofs.TextErrors.{is_text_error, shown_by}
+use Rattle.ncp_proof_umpire_counts.proofs.PlainText.{plain_text}
+use Rattle.ncp_proof_umpire_talk.proofs.LedTold.{Beside}
+use Rattle.ncp_proof_umpire_counts.proofs.TheirText.{text_ends, text_made}
+use Rattle.ncp_proof_umpire_counts.proofs.TheirTexts.{text_both}
+use Rattle.ncp_proof_umpire_talk.proofs.Spoken.{Tells}
 
--- ---- the first of two tests, where one that both pass is another
+-- ---- the books after a text: the same shapes, and the same of the echoes
 
--- it is as before, or the other that is there now
-pub first_other : {A : Type 0} (t s : A → Bool) (xs : List A) (x z : A) → first t xs ≡ Some x → s z ≡ s x
-    → (first s (set_first t z xs) ≡ first s xs) ⊎ ((first s xs ≡ Some x) × (first s (set_first t z xs) ≡ Some z))
-first_other t s [] x z e k = absurd (cc e)
-first_other {A} t s (y ∷ ys) x z e k = go (t y) e (λ f. first_other t s ys x z f k)
-  where
-    Told : Bool → Type 0
-    Told b =
-        (first s (if b then z ∷ ys else y ∷ set_first t z ys) ≡ (if s y then Some y else first s ys))
-        ⊎ (((if s y then Some y else first s ys) ≡ Some x) × (first s (if b then z ∷ ys else y ∷ set_first t z ys) ≡ Some z))
-
-    here : y ≡ x → (b : Bool) → s x ≡ b → Told true
-    here is true f = inr (ap (λ (c : Bool). if c then Some y else first s ys) (ap s is ∙ f) ∙ ap (λ (a : A). Some a) is, ap (λ (c : Bool). if c then Some z else first s ys) (k ∙ f))
-    here is false f = inl (ap (λ (c : Bool). if c then Some z else first s ys) (k ∙ f) ∙ sym (ap (λ (c : Bool). if c then Some y else first s ys) (ap s is ∙ f)))
-
-    behind : (b : Bool) → s y ≡ b → (first s (set_first t z ys) ≡ first s ys) ⊎ ((first s ys ≡ Some x) × (first s (set_first t z ys) ≡ Some z)) → Told false
-    behind true f r = inl (ap (λ (c : Bool). if c then Some y else first s (set_first t z ys)) f ∙ sym (ap (λ (c : Bool). if c then Some y else first s ys) f))
-    behind false f (inl r) = inl (ap (λ (o : Option A). if s y then Some y else o) r)
-    behind false f (inr r) =
-        inr (ap (λ (c : Bool). if c then Some y else first s ys) f ∙ r.0, ap (λ (c : Bool). if c then Some y else first s (set_first t z ys)) f ∙ r.1)
-
-    go : (b : Bool) → (if b then Some y else first t ys) ≡ Some x → (first t ys ≡ Some x → (first s (set_first t z ys) ≡ first s ys) ⊎ ((first s ys ≡ Some x) × (first s (set_first t z ys) ≡ Some z))) → Told b
-    go true f rest = let is : y ≡ x = cc f in here is (s x) refl
-    go false f rest = behind (s y) refl (rest f)
-
--- where it is the first of both
-first_both : {A : Type 0} (t s : A → Bool) (xs : List A) (x z : A) → first t xs ≡ Some x → first s xs ≡ Some x → s z ≡ true → first s (set_first t z xs) ≡ Some z
-first_both t s [] x z e f k = absurd (cc e)
-first_both {A} t s (y ∷ ys) x z e f k = go (t y) refl e (λ g h. first_both t s ys x z g h k)
-  where
-    go : (b : Bool) → t y ≡ b → (if b then Some y else first t ys) ≡ Some x → (first t ys ≡ Some x → first s ys ≡ Some x → first s (set_first t z ys) ≡ Some z) → first s (if b then z ∷ ys else y ∷ set_first t z ys) ≡ Some z
-    go true i g rest = ap (λ (c : Bool). if c then Some z else first s ys) k
-    go false i g rest = by (s y) refl f
-      where
-        by : (c : Bool) → s y ≡ c → (if c then Some y else first s ys) ≡ Some x → (if s y then Some y else first s (set_first t z ys)) ≡ Some z
-        by true j h =
-            let is : y ≡ x = cc h in
-            let nay : false ≡ true = sym i ∙ ap t is ∙ first_passes t ys x g in absurd (cc nay)
-        by false j h = ap (λ (c : Bool). if c then Some y else first s (set_first t z ys)) j ∙ rest g h
-
--- ---- the books after a text
-
--- all is seen as before, but for what came; and what rested rests
-pub record TextSeen (me n : ℕ) (b after : SeenBooks) : Type 0 where
-  pub lives : (u : Sockets) → (life_seen me n after u ≡ life_seen me n b u) ⊎ ((life : Life) × ((life_seen me n b u ≡ Some life) × (life_seen me n after u ≡ Some (record life { came = true }))))
-  pub unique : ((u : Sockets) → Unique (is_of_sockets me n u.0 u.1) b.lives) → (u : Sockets) → Unique (is_of_sockets me n u.0 u.1) after.lives
-  pub marks : (on : Bool) (link : ℕ) → is_marked me n (Topic.LinkRests on link) b ≡ true → is_marked me n (Topic.LinkRests on link) after ≡ true
-  pub dues : after.dues ≡ b.dues
+record TextSeen (me n : ℕ) (b after : SeenBooks) : Type 0 where
+  pub shapes : SameShapes me n b after
   pub echoes : SameEchoes me n b after
 
-module _ (me n on : ℕ) (b : SeenBooks) where
-  abbrev its : Life → Bool
-  its = has_link me n true on
+-- where a text leads: to a connection that the other has not closed, for which it is seen to have come; or to none, and then the
+-- link rests
+data TextTo (me n on : ℕ) (b after : SeenBooks) : Type 0 where
+  ToUser : (v : Sockets) (user : UserAt me n true on b v) → (life_in_place b.lives user.place).peer_left ≡ false → has_come (life_seen me n after v) ≡ true → TextTo me n on b after
+  ToNone : ((v : Sockets) (user : UserAt me n true on b v) → (life_in_place b.lives user.place).peer_left ≡ false → ⊥) → is_marked me n (Topic.LinkRests true on) after ≡ true → TextTo me n on b after
 
-  abbrev come_to : ℕ → Life
-  come_to i = record (life_in_place b.lives i) { came = true }
+module _ (me n on : ℕ) (message : Message) where
+  abbrev hearing : Talk
+  hearing = record { at = me; peer = n; sent = false }
 
-  abbrev came_there : ℕ → SeenBooks
-  came_there i = record b { lives = slice_set b.lives i (come_to i) }
+  abbrev error_topic : Topic
+  error_topic = Topic.Admits true (text_shown n message)
 
-  there : (i : ℕ) → position its b.lives ≡ Some i → slice_set b.lives i (come_to i) ≡ set_first its (come_to i) b.lives
-  there i e = set_found its (come_to i) b.lives i (unasked_life 0 0 0 0) e
+  seen_itself : (b : SeenBooks) → AllUnique me n b → Linked me n b → TextSeen me n b b
+  seen_itself b unique linked = record { shapes = lives_same me n b b refl (λ host link z. z) unique linked; echoes = (refl, refl) }
 
-  found : (i : ℕ) → position its b.lives ≡ Some i → first its b.lives ≡ Some (life_in_place b.lives i)
-  found i e = found_first its b.lives i (unasked_life 0 0 0 0) e
+  seen_then : (a b d : SeenBooks) → TextSeen me n a b → TextSeen me n b d → TextSeen me n a d
+  seen_then a b d j k = record { shapes = shapes_then me n a b d j.shapes k.shapes; echoes = echoes_then me n a b d j.echoes k.echoes }
 
-  came_seen : (i : ℕ) → position its b.lives ≡ Some i → TextSeen me n b (came_there i)
-  came_seen i e = record {
-    lives = λ u. by u (first_other its (is_of_sockets me n u.0 u.1) b.lives (life_in_place b.lives i) (come_to i) (found i e) refl);
-    unique = λ k u. subst (Unique (is_of_sockets me n u.0 u.1)) (sym (there i e))
-        (unique_put (is_of_sockets me n u.0 u.1) its b.lives (come_to i) (life_in_place b.lives i) (found i e) (λ z. inl z) (k u));
-    marks = λ side link z. z;
-    dues = refl;
-    echoes = (refl, refl);
+  admits_seen : (b : SeenBooks) → AllUnique me n b → Linked me n b → TextSeen me n b (admits_error hearing message b)
+  admits_seen b unique linked = record {
+    shapes = lives_same me n b (admits_error hearing message b) (mark_lives me n error_topic b) (λ host link z. mark_keeps me n error_topic b (Topic.LinkRests host link) z) unique linked;
+    echoes = (mark_other me n error_topic (Topic.EchoesRest true) b refl, mark_other me n error_topic (Topic.Asks true) b refl);
   }
-    where
-      by : (u : Sockets)
-          → (first (is_of_sockets me n u.0 u.1) (set_first its (come_to i) b.lives) ≡ life_seen me n b u) ⊎ ((life_seen me n b u ≡ Some (life_in_place b.lives i)) × (first (is_of_sockets me n u.0 u.1) (set_first its (come_to i) b.lives) ≡ Some (come_to i)))
-          → (life_seen me n (came_there i) u ≡ life_seen me n b u) ⊎ ((life : Life) × ((life_seen me n b u ≡ Some life) × (life_seen me n (came_there i) u ≡ Some (record life { came = true }))))
-      by u (inl k) = inl (ap (first (is_of_sockets me n u.0 u.1)) (there i e) ∙ k)
-      by u (inr k) = inr (life_in_place b.lives i, (k.0, ap (first (is_of_sockets me n u.0 u.1)) (there i e) ∙ k.1))
 
-  marked_seen : TextSeen me n b (marks_now me n (Topic.LinkRests true on) b)
-  marked_seen = record {
-    lives = λ u. inl (ap (first (is_of_sockets me n u.0 u.1)) (mark_lives me n (Topic.LinkRests true on) b));
-    unique = λ k u. subst (Unique (is_of_sockets me n u.0 u.1)) (sym (mark_lives me n (Topic.LinkRests true on) b)) (k u);
-    marks = λ side link z. mark_keeps me n (Topic.LinkRests true on) b (Topic.LinkRests side link) z;
-    dues = mark_dues me n (Topic.LinkRests true on) b;
+  rests_seen : (b : SeenBooks) → AllUnique me n b → Linked me n b → TextSeen me n b (text_rests hearing on b)
+  rests_seen b unique linked = record {
+    shapes = lives_same me n b (text_rests hearing on b) (mark_lives me n (Topic.LinkRests true on) b) (λ host link z. mark_keeps me n (Topic.LinkRests true on) b (Topic.LinkRests host link) z) unique linked;
     echoes = link_echoes me n true on b;
   }
 
-  -- by whether the link has a user, which the other has not closed
-  abbrev text_books : Option ℕ → SeenBooks
-  text_books None = marks_now me n (Topic.LinkRests true on) b
-  text_books (Some i) = if (life_in_place b.lives i).peer_left then marks_now me n (Topic.LinkRests true on) b else came_there i
-
-  pub text_seen : TextSeen me n b (books_after_text me n on b)
-  text_seen = go (position its b.lives) refl
+  came_seen : (b : SeenBooks) → AllUnique me n b → Linked me n b → TextSeen me n b (after_text_came hearing on b)
+  came_seen b unique linked = go (position (has_link me n true on) b.lives) refl
     where
-      go : (o : Option ℕ) → position its b.lives ≡ o → TextSeen me n b (text_books o)
-      go None e = marked_seen
+      go : (o : Option ℕ) → position (has_link me n true on) b.lives ≡ o → TextSeen me n b (life_came_at b o)
+      go None e = seen_itself b unique linked
       go (Some i) e = by (life_in_place b.lives i).peer_left
         where
-          by : (x : Bool) → TextSeen me n b (if x then marks_now me n (Topic.LinkRests true on) b else came_there i)
-          by true = marked_seen
-          by false = came_seen i e
+          there : (u : Sockets) (user : UserAt me n true on b u) → TextSeen me n b (put_life b (Some user.place) (record (life_in_place b.lives user.place) { came = true }))
+          there u user =
+              let life = life_in_place b.lives user.place in
+              record { shapes = numbered_same me n true on b u user life.messages life.bits life.recall true unique linked (λ z. refl); echoes = (refl, refl) }
 
-  pub text_room : (books_after_text me n on b).full ≡ false → b.full ≡ false
-  text_room = go (position its b.lives)
+          by : (x : Bool) → TextSeen me n b (if x then b else put_life b (Some i) (record (life_in_place b.lives i) { came = true }))
+          by true = seen_itself b unique linked
+          by false =
+              let it = user_found me n true on b unique i e in
+              subst (λ (j : ℕ). TextSeen me n b (put_life b (Some j) (record (life_in_place b.lives j) { came = true }))) it.there (there it.u it.user)
+
+  -- it came for the user of the link
+  came_for : (b : SeenBooks) → AllUnique me n b → (v : Sockets) (user : UserAt me n true on b v) → (life_in_place b.lives user.place).peer_left ≡ false → has_come (life_seen me n (after_text_came hearing on b) v) ≡ true
+  came_for b unique v user k =
+      ap (λ (x : SeenBooks). has_come (life_seen me n x v)) is ∙ ap has_come (renumbered_here me n true on b v user life.messages life.bits life.recall true unique)
     where
-      go : (o : Option ℕ) → (text_books o).full ≡ false → b.full ≡ false
-      go None f = mark_room me n (Topic.LinkRests true on) b f
-      go (Some i) f = by (life_in_place b.lives i).peer_left f
-        where
-          by : (x : Bool) → (if x then marks_now me n (Topic.LinkRests true on) b else came_there i).full ≡ false → b.full ≡ false
-          by true f = mark_room me n (Topic.LinkRests true on) b f
-          by false f = f
+      life : Life
+      life = life_in_place b.lives user.place
 
-  -- the link has no user, or one that the other closed: then it rests; or the text came for its user
-  pub data TextTo : Type 0 where
-    OfNone : first its b.lives ≡ None → is_marked me n (Topic.LinkRests true on) (books_after_text me n on b) ≡ true → TextTo
-    OfClosed : (life : Life) → first its b.lives ≡ Some life → life.peer_left ≡ true → is_marked me n (Topic.LinkRests true on) (books_after_text me n on b) ≡ true → TextTo
-    OfUser : (life : Life) → first its b.lives ≡ Some life → life.peer_left ≡ false
-        → ((s : Life → Bool) → first s (books_after_text me n on b).lives ≡ first s (set_first its (record life { came = true }) b.lives)) → TextTo
+      is : after_text_came hearing on b ≡ put_life b (Some user.place) (record (life_in_place b.lives user.place) { came = true })
+      is = ap (life_came_at b) user.found ∙ ap (λ (x : Bool). if x then b else put_life b (Some user.place) (record (life_in_place b.lives user.place) { came = true })) k
 
-  pub text_to : (books_after_text me n on b).full ≡ false → TextTo
-  text_to f = go (position its b.lives) refl refl f
-    where
-      go : (o : Option ℕ) → position its b.lives ≡ o → text_books (position its b.lives) ≡ text_books o → (text_books o).full ≡ false → TextTo
-      go None e s f = OfNone (none_first its b.lives e) (ap (is_marked me n (Topic.LinkRests true on)) s ∙ mark_made me n (Topic.LinkRests true on) b f)
-      go (Some i) e s f = by (life_in_place b.lives i).peer_left refl s f
-        where
-          by : (x : Bool) → (life_in_place b.lives i).peer_left ≡ x → text_books (position its b.lives) ≡ (if x then marks_now me n (Topic.LinkRests true on) b else came_there i)
-              → (if x then marks_now me n (Topic.LinkRests true on) b else came_there i).full ≡ false → TextTo
-          by true k s f = OfClosed (life_in_place b.lives i) (found i e) k (ap (is_marked me n (Topic.LinkRests true on)) s ∙ mark_made me n (Topic.LinkRests true on) b f)
-          by false k s f = OfUser (life_in_place b.lives i) (found i e) k (λ t. ap (λ (x : SeenBooks). first t x.lives) s ∙ ap (first t) (there i e))
+  -- with what it takes: other numbers
+  abbrev less : (b : SeenBooks) → ℕ → SeenBooks
+  less b place = put_life b (Some place) (used (length message.text) (life_in_place b.lives place))
 
--- ---- so all else is as it was
+  used_seen : (b : SeenBooks) → AllUnique me n b → Linked me n b → (u : Sockets) (user : UserAt me n true on b u) → TextSeen me n b (less b user.place)
+  used_seen b unique linked u user =
+      let life = life_in_place b.lives user.place in
+      record { shapes = numbered_same me n true on b u user (life.messages - 1) (life.bits - length message.text) life.recall life.came unique linked (λ z. sym (ap has_come user.seen) ∙ z); echoes = (refl, refl) }
 
-module _ (me n : ℕ) (m : Ends) (w : List Command) (b after : SeenBooks) (k : TextSeen me n b after) where
-  seen_same : (u : Sockets) → seen_of me n after u ≡ seen_of me n b u
-  seen_same u = go (k.lives u)
-    where
-      go : (life_seen me n after u ≡ life_seen me n b u) ⊎ ((life : Life) × ((life_seen me n b u ≡ Some life) × (life_seen me n after u ≡ Some (record life { came = true })))) → seen_of me n after u ≡ seen_of me n b u
-      go (inl e) = ap seen e
-      go (inr r) = ap seen r.1.1 ∙ sym (ap seen r.1.0)
+  wrong_seen : (x y : Bool) (b : SeenBooks) → AllUnique me n b → Linked me n b → TextSeen me n b (admits_error_if x hearing message (if y then text_rests hearing on b else b))
+  wrong_seen true true b unique linked =
+      let mid = rests_seen b unique linked in
+      seen_then b (text_rests hearing on b) (admits_error hearing message (text_rests hearing on b)) mid (admits_seen (text_rests hearing on b) mid.shapes.unique mid.shapes.linked)
+  wrong_seen true false b unique linked = admits_seen b unique linked
+  wrong_seen false true b unique linked = rests_seen b unique linked
+  wrong_seen false false b unique linked = seen_itself b unique linked
 
-  pub rest_same : (u : Sockets) → rests_of me n after u ≡ rests_of me n b u
-  rest_same u = go (k.lives u)
-    where
-      go : (life_seen me n after u ≡ life_seen me n b u) ⊎ ((life : Life) × ((life_seen me n b u ≡ Some life) × (life_seen me n after u ≡ Some (record life { came = true })))) → rests_of me n after u ≡ rests_of me n b u
-      go (inl e) = ap is_resting e
-      go (inr r) = ap is_resting r.1.1 ∙ sym (ap is_resting r.1.0)
+  module _ (b : SeenBooks) (tidy : Tidy b) (unique : AllUnique me n b) (linked : Linked me n b) where
+    abbrev led_books : Lead → SeenBooks
+    led_books l = led_after_text (record { at = me; peer = n; sent = false }) on message b l
 
-  pub come_still : (u : Sockets) → has_come (life_seen me n b u) ≡ true → has_come (life_seen me n after u) ≡ true
-  come_still u h = go (k.lives u)
-    where
-      go : (life_seen me n after u ≡ life_seen me n b u) ⊎ ((life : Life) × ((life_seen me n b u ≡ Some life) × (life_seen me n after u ≡ Some (record life { came = true })))) → has_come (life_seen me n after u) ≡ true
-      go (inl e) = ap has_come e ∙ h
-      go (inr r) = ap has_come r.1.1
+    came_then : TextSeen me n b (admits_error hearing message (after_text_came hearing on b))
+    came_then =
+        let mid = came_seen b unique linked in
+        seen_then b (after_text_came hearing on b) (admits_error hearing message (after_text_came hearing on b)) mid (admits_seen (after_text_came hearing on b) mid.shapes.unique mid.shapes.linked)
 
-  linked_still : Linked me n b → Linked me n after
-  linked_still linked u life link e r l = go (k.lives u)
-    where
-      go : (life_seen me n after u ≡ life_seen me n b u) ⊎ ((old : Life) × ((life_seen me n b u ≡ Some old) × (life_seen me n after u ≡ Some (record old { came = true })))) → is_marked me n (Topic.LinkRests (receives_at u) link) after ≡ true
-      go (inl s) = k.marks (receives_at u) link (linked u life link (sym s ∙ e) r l)
-      go (inr t) =
-          let is : record t.0 { came = true } ≡ life = cc (sym t.1.1 ∙ e) in
-          k.marks (receives_at u) link (linked u t.0 link t.1.0 (ap (λ (x : Life). x.rests) is ∙ r) (ap (λ (x : Life). x.link) is ∙ l))
+    rests_then : TextSeen me n b (admits_error hearing message (text_rests hearing on b))
+    rests_then = wrong_seen true true b unique linked
 
-  pub text_meets : Meets me n m w b → Meets me n m w after
-  text_meets meets = record {
-    tally =
-        rests_tally receives_at (links_of me n b) (rests_of me n b) (links_of me n after) (rests_of me n after) (all_says w) (kept_of m) (seen_of me n b) (kept_of m) (seen_of me n after)
-        (λ link z. k.marks true link z) (λ v r. (sym (rest_same v) ∙ r, (refl, seen_same v))) meets.tally;
-    unique = k.unique meets.unique;
-    replies = subst (λ (ds : List Due). Covers (is_due_of me n true) ds (filter is_judged_reply w)) (sym k.dues) meets.replies;
-    linked = linked_still meets.linked;
-  }
+    open_then : (u : Sockets) (user : UserAt me n true on b u) (x y : Bool)
+        → TextSeen me n (after_text_came hearing on (less b user.place)) (admits_error_if x hearing message (if y then text_rests hearing on (after_text_came hearing on (less b user.place)) else after_text_came hearing on (less b user.place)))
+    open_then u user x y =
+        let first = used_seen b unique linked u user in
+        let second = came_seen (less b user.place) first.shapes.unique first.shapes.linked in
+        wrong_seen x y (after_text_came hearing on (less b user.place)) second.shapes.unique second.shapes.linked
 
-  pub text_held : Held me n m b → Held me n m after
-  text_held held u e g r s h = k.marks false e.link (held u e g (sym (rest_same u) ∙ r) s h)
+    text_seen : TextSeen me n b (books_after_text (record { at = me; peer = n; sent = false }) on message b)
+    text_seen = go (text_lead hearing on b) (text_leads me n false on b unique)
+      where
+        go : (l : Lead) → LeadsTo me n (is_closed_for hearing) true on b l → TextSeen me n b (led_books l)
+        go l (ToRest e marked) = subst (λ (x : Lead). TextSeen me n b (led_books x)) (sym e) came_then
+        go l (ToNobody e marked none) = subst (λ (x : Lead). TextSeen me n b (led_books x)) (sym e) rests_then
+        go l (ToClosed e marked u user k) = subst (λ (x : Lead). TextSeen me n b (led_books x)) (sym e) rests_then
+        go l (ToUnasked u user e marked k) = subst (λ (x : Lead). TextSeen me n b (led_books x)) (sym e) came_then
+        go l (ToOpen u user e marked size k) =
+            let is = is_any (open_text_rules on message (life_in_place b.lives user.place)) in
+            let first = used_seen b unique linked u user in
+            let second = came_seen (less b user.place) first.shapes.unique first.shapes.linked in
+            subst (λ (x : Lead). TextSeen me n b (led_books x)) (sym e)
+            (seen_then b (after_text_came hearing on (less b user.place)) (led_books (Lead.Open user.place)) (seen_then b (less b user.place) (after_text_came hearing on (less b user.place)) first second) (open_then u user is (is && true)))
+
+    -- ---- where it leads
+
+    same_place : (u v : Sockets) (user : UserAt me n true on b u) (other : UserAt me n true on b v) → other.place ≡ user.place
+    same_place u v user other = cc (sym other.found ∙ user.found)
+
+    at_unclosed : (x : Bool) → (x || false) ≡ false → x ≡ false
+    at_unclosed true e = absurd (cc e)
+    at_unclosed false e = refl
+
+    -- where the link rests, or nothing of it is seen to be asked for by the other
+    text_to : (books_after_text (record { at = me; peer = n; sent = false }) on message b).full ≡ false → TextTo me n on b (books_after_text (record { at = me; peer = n; sent = false }) on message b)
+    text_to room = go (text_lead hearing on b) (text_leads me n false on b unique) room
+      where
+        came_there : (u : Sockets) (user : UserAt me n true on b u) → (life_in_place b.lives user.place).peer_left ≡ false → TextTo me n on b (admits_error hearing message (after_text_came hearing on b))
+        came_there u user k =
+            let mid = came_seen b unique linked in
+            ToUser u user k ((admits_seen (after_text_came hearing on b) mid.shapes.unique mid.shapes.linked).shapes.came u (came_for b unique u user k))
+
+        at_rest : is_marked me n (Topic.LinkRests true on) b ≡ true → TextTo me n on b (admits_error hearing message (after_text_came hearing on b))
+        at_rest marked = by (position (has_link me n true on) b.lives) refl
+          where
+            still : is_marked me n (Topic.LinkRests true on) (admits_error hearing message (after_text_came hearing on b)) ≡ true
+            still = came_then.shapes.links true on marked
+
+            by : (o : Option ℕ) → position (has_link me n true on) b.lives ≡ o → TextTo me n on b (admits_error hearing message (after_text_came hearing on b))
+            by None p = ToNone (λ v user k. let nay : None ≡ Some user.place = sym p ∙ user.found in cc nay) still
+            by (Some i) p = let it = user_found me n true on b unique i p in closed it.u it.user (life_in_place b.lives it.user.place).peer_left refl
+              where
+                closed : (u : Sockets) (user : UserAt me n true on b u) (x : Bool) → (life_in_place b.lives user.place).peer_left ≡ x → TextTo me n on b (admits_error hearing message (after_text_came hearing on b))
+                closed u user false k = came_there u user k
+                closed u user true k = ToNone (λ v other z. let nay : true ≡ false = sym k ∙ ap (λ (x : ℕ). (life_in_place b.lives x).peer_left) (sym (same_place u v user other)) ∙ z in cc nay) still
+
+        marked_now : (admits_error hearing message (text_rests hearing on b)).full ≡ false → is_marked me n (Topic.LinkRests true on) (admits_error hearing message (text_rests hearing on b)) ≡ true
+        marked_now f = mark_keeps me n error_topic (text_rests hearing on b) (Topic.LinkRests true on) (mark_made me n (Topic.LinkRests true on) b (mark_room me n error_topic (text_rests hearing on b) f))
+
+        opened : (u : Sockets) (user : UserAt me n true on b u) → (life_in_place b.lives user.place).peer_left ≡ false → TextTo me n on b (led_books (Lead.Open user.place))
+        opened u user k =
+            let is = is_any (open_text_rules on message (life_in_place b.lives user.place)) in
+            ToUser u user k ((open_then u user is (is && true)).shapes.came u (came_for (less b user.place) less_unique u less_user (ap (λ (x : Life). x.peer_left) less_life ∙ k)))
+          where
+            old : Life
+            old = life_in_place b.lives user.place
+
+            less_unique : AllUnique me n (less b user.place)
+            less_unique = renumbered_unique me n true on b u user (old.messages - 1) (old.bits - length message.text) old.recall old.came unique
+
+            less_here : life_seen me n (less b user.place) u ≡ Some (used (length message.text) old)
+            less_here = renumbered_here me n true on b u user (old.messages - 1) (old.bits - length message.text) old.recall old.came unique
+
+            less_user : UserAt me n true on (less b user.place) u
+            less_user =
+                user_seen me n true on (less b user.place) (renumbered_tidy me n true on b u user (old.messages - 1) (old.bits - length message.text) old.recall old.came tidy) u (used (length message.text) old) less_here user.receives user.given
+
+            less_life : life_in_place (less b user.place).lives less_user.place ≡ used (length message.text) old
+            less_life = cc (sym less_user.seen ∙ less_here)
+
+        go : (l : Lead) → LeadsTo me n (is_closed_for hearing) true on b l → (led_books l).full ≡ false → TextTo me n on b (led_books l)
+        go l (ToRest e marked) f = subst (λ (x : Lead). TextTo me n on b (led_books x)) (sym e) (at_rest marked)
+        go l (ToNobody e unmarked none) f =
+            subst (λ (x : Lead). TextTo me n on b (led_books x)) (sym e)
+            (ToNone (λ v user k. let nay : None ≡ Some user.place = sym none ∙ user.found in cc nay) (marked_now (subst (λ (x : Lead). (led_books x).full ≡ false) e f)))
+        go l (ToClosed e unmarked u user k) f =
+            subst (λ (x : Lead). TextTo me n on b (led_books x)) (sym e)
+            (ToNone (λ v other z.
+            let nay : true ≡ false = sym k ∙ ap (λ (x : Bool). x || false) (ap (λ (x : ℕ). (life_in_place b.lives x).peer_left) (sym (same_place u v user other)) ∙ z) in cc nay) (marked_now (subst (λ (x : Lead). (led_books x).full ≡ false) e f)))
+        go l (ToUnasked u user e unmarked k) f = subst (λ (x : Lead). TextTo me n on b (led_books x)) (sym e) (came_there u user (at_unclosed (life_in_place b.lives user.place).peer_left k.0))
+        go l (ToOpen u user e unmarked size k) f = subst (λ (x : Lead). TextTo me n on b (led_books x)) (sym e) (opened u user (at_unclosed (life_in_place b.lives user.place).peer_left k.0))
 
 -- ---- the own request of one that is not closed
 
@@ -252,60 +269,18 @@ number_was (Leave ∷ q) s (Some x) number z c o (l, g) = go x.cls g (number_was
 
 -- ---- the receiver to which the link leads: a text is seen to have come for it, or the link rests
 
-receiving : (pair : Pair) → receives pair ≡ true → is_senders pair.local ≡ false
-receiving pair r = grind arith
-
 only_receives : (pair : Pair) → is_senders pair.local ≡ false → is_proper pair ≡ true → receives pair ≡ true
 only_receives pair k p = grind arith
 
-unsent : (x : Bool) → not (beq x true) ≡ true → x ≡ false
+unsent : (x : Bool) → not x ≡ true → x ≡ false
 unsent true e = absurd (cc e)
 unsent false e = refl
 
-module _ (me n on : ℕ) (m : Ends) (w : List Command) (b : SeenBooks) (good : Good m) (proper : (pair : Pair) → is_some (get m pair) ≡ true → is_proper pair ≡ true) (tidy : Tidy b) (meets : Meets me n m w b) where
-  abbrev now : SeenBooks
-  now = books_after_text me n on b
-
+module _ (me n on : ℕ) (m : Ends) (w : List Command) (b now : SeenBooks) (good : Good m) (proper : ProperEnds m) (tidy : Tidy b) (meets : Meets me n m w b) (same_shapes : SameShapes me n b now) (to : TextTo me n on b now) where
   abbrev Known : Sockets → Type 0
   Known u = (rests_of me n now u ≡ true) ⊎ ((if asks_in (about u (all_says w)) then is_marked me n (Topic.LinkRests true on) now else has_come (life_seen me n now u)) ≡ true)
 
-  -- the user of the link
-  record User (life : Life) : Type 0 where
-    pub at : life.at ≡ me
-    pub peer : life.peer ≡ n
-    pub receiver : is_senders life.local ≡ false
-    pub link : life.link ≡ Some on
-    pub is_seen : life_seen me n b (life.local, life.remote) ≡ Some life
-
-  user : (life : Life) → first (has_link me n true on) b.lives ≡ Some life → User life
-  user life f = record {
-    at = eqb-true life.at me ends.0;
-    peer = eqb-true life.peer n ends.1;
-    receiver = unsent (is_senders life.local) between.1;
-    link = given life.link parts.1;
-    is_seen = first_alone (has_link me n true on) (is_of_sockets me n life.local life.remote) b.lives life f own (meets.unique (life.local, life.remote));
-  }
-    where
-      parts : ((is_life_between me n life && not (beq (is_senders life.local) true)) ≡ true) × (is_number_given life.link on ≡ true)
-      parts = and_parts (is_life_between me n life && not (beq (is_senders life.local) true)) (is_number_given life.link on) (first_passes (has_link me n true on) b.lives life f)
-
-      between : (is_life_between me n life ≡ true) × (not (beq (is_senders life.local) true) ≡ true)
-      between = and_parts (is_life_between me n life) (not (beq (is_senders life.local) true)) parts.0
-
-      ends : ((life.at == me) ≡ true) × ((life.peer == n) ≡ true)
-      ends = and_parts (life.at == me) (life.peer == n) between.0
-
-      given : (o : Option ℕ) → is_number_given o on ≡ true → o ≡ Some on
-      given None k = absurd (cc k)
-      given (Some x) k = ap (λ (y : ℕ). Some y) (eqb-true x on k)
-
-      own : is_of_sockets me n life.local life.remote life ≡ true
-      own =
-          ap (λ (x : Bool). x && (life.local == life.local) && (life.remote == life.remote)) between.0
-          ∙ ap (λ (x : Bool). true && x && (life.remote == life.remote)) (eq-eqb life.local life.local refl)
-          ∙ eq-eqb life.remote life.remote refl
-
-  module _ (pair : Pair) (e : End) (g : get m pair ≡ Some e) (r : receives pair ≡ true) (a : e.asked ≡ true) (l : e.link ≡ on) (c : e.cls ≡ false) (room : (books_after_text me n on b).full ≡ false) where
+  module _ (pair : Pair) (e : End) (g : get m pair ≡ Some e) (r : receives pair ≡ true) (a : e.asked ≡ true) (l : e.link ≡ on) (c : e.cls ≡ false) where
     abbrev u : Sockets
     u = (pair.local, pair.remote)
 
@@ -321,92 +296,286 @@ module _ (me n on : ℕ) (m : Ends) (w : List Command) (b : SeenBooks) (good : G
     agrees : rests_of me n b u ≡ false → Agrees q (Some (of_end false e)) (seen_of me n b u)
     agrees z = subst (λ (x : Option Shape). Agrees q x (seen_of me n b u)) shape (meets.tally.pairs u z)
 
+    is_receiver : receives_at u ≡ true
+    is_receiver = receiving_socket pair r
+
     -- no request of it waits: it is the user
-    it_is_user : rests_of me n b u ≡ false → asks_in q ≡ false → (life : Life) × ((life_seen me n b u ≡ Some life) × ((life.peer_left ≡ false) × (has_link me n true on life ≡ true)))
+    it_is_user : rests_of me n b u ≡ false → asks_in q ≡ false → (user : UserAt me n true on b u) × ((life_in_place b.lives user.place).peer_left ≡ false)
     it_is_user z k =
         let was = number_was q (of_end false e) (seen_of me n b u) on k c own_number (agrees z) in
         by (life_seen me n b u) refl was.0 was.1
       where
-        by : (o : Option Life) → life_seen me n b u ≡ o → number_of (seen o) ≡ Some on → is_closed (seen o) ≡ false → (life : Life) × ((life_seen me n b u ≡ Some life) × ((life.peer_left ≡ false) × (has_link me n true on life ≡ true)))
+        by : (o : Option Life) → life_seen me n b u ≡ o → number_of (seen o) ≡ Some on → is_closed (seen o) ≡ false → (user : UserAt me n true on b u) × ((life_in_place b.lives user.place).peer_left ≡ false)
         by None f x y = absurd (cc x)
         by (Some life) f x y =
-            let is = has_sockets me n pair.local pair.remote life (first_passes (is_of_sockets me n pair.local pair.remote) b.lives life f) in
-            let sex : is_senders life.local ≡ false = ap is_senders is.local ∙ receiving pair r in
-            let has : life.link ≡ Some on = sym (ap (λ (z : Bool). if z then life.size else life.link) sex) ∙ x in
-            (life, (f, (y, rw (eq-eqb life.at me is.at, eq-eqb life.peer n is.peer, sex, has, eq-eqb on on refl) refl)))
+            let user = user_seen me n true on b tidy u life f is_receiver has in
+            (user, ap (λ (z : Option Life). is_closed (seen z)) (sym user.seen ∙ f) ∙ y)
+          where
+            sex : is_senders life.local ≡ false
+            sex = ap is_senders (sockets_there life f) ∙ unsent (is_senders pair.local) is_receiver
+              where
+                sockets_there : (life : Life) → life_seen me n b u ≡ Some life → life.local ≡ pair.local
+                sockets_there life f = (has_sockets me n pair.local pair.remote life (first_passes (is_of_sockets me n pair.local pair.remote) b.lives life f)).local
 
-    came_for_it : rests_of me n b u ≡ false → asks_in q ≡ false → TextTo me n on b → has_come (life_seen me n now u) ≡ true
-    came_for_it z k to = go to
+            has : life.link ≡ Some on
+            has = sym (ap (λ (z : Bool). if z then life.size else life.link) sex) ∙ x
+
+    came_for_it : rests_of me n b u ≡ false → asks_in q ≡ false → has_come (life_seen me n now u) ≡ true
+    came_for_it z k = go to
       where
-        its : (life : Life) × ((life_seen me n b u ≡ Some life) × ((life.peer_left ≡ false) × (has_link me n true on life ≡ true)))
+        its : (user : UserAt me n true on b u) × ((life_in_place b.lives user.place).peer_left ≡ false)
         its = it_is_user z k
 
-        first_its : first (has_link me n true on) b.lives ≡ Some its.0
-        first_its = first_alone (is_of_sockets me n pair.local pair.remote) (has_link me n true on) b.lives its.0 its.1.0 its.1.1.1 (tidy.alone me n true on)
+        go : TextTo me n on b now → has_come (life_seen me n now u) ≡ true
+        go (ToNone none marked) = absurd (none u its.0 its.1)
+        go (ToUser v user k come) = ap (λ (x : Sockets). has_come (life_seen me n now x)) (sym is) ∙ come
+          where
+            place : user.place ≡ its.0.place
+            place = cc (sym user.found ∙ its.0.found)
 
-        go : TextTo me n on b → has_come (life_seen me n now u) ≡ true
-        go (OfNone f i) = let nay : None ≡ Some its.0 = sym f ∙ first_its in absurd (cc nay)
-        go (OfClosed life f d i) =
-            let is : life ≡ its.0 = cc (sym f ∙ first_its) in
-            let nay : true ≡ false = sym d ∙ ap (λ (x : Life). x.peer_left) is ∙ its.1.1.0 in absurd (cc nay)
-        go (OfUser life f d i) =
-            let is : life ≡ its.0 = cc (sym f ∙ first_its) in
-            let seen_there : life_seen me n b u ≡ Some life = its.1.0 ∙ ap (λ (x : Life). Some x) (sym is) in
-            ap has_come
-            (i (is_of_sockets me n pair.local pair.remote)
-            ∙ first_both (has_link me n true on) (is_of_sockets me n pair.local pair.remote) b.lives life (record life { came = true }) f seen_there
-            (first_passes (is_of_sockets me n pair.local pair.remote) b.lives life seen_there))
+            same_life : life_in_place b.lives user.place ≡ life_in_place b.lives its.0.place
+            same_life = ap (life_in_place b.lives) place
+
+            local : v.0 ≡ pair.local
+            local = sym user.sockets.local ∙ ap (λ (x : Life). x.local) same_life ∙ its.0.sockets.local
+
+            remote : v.1 ≡ pair.remote
+            remote = sym user.sockets.remote ∙ ap (λ (x : Life). x.remote) same_life ∙ its.0.sockets.remote
+
+            is : v ≡ u
+            is = ap (λ (x : ℕ). (x, v.1)) local ∙ ap (λ (x : ℕ). (pair.local, x)) remote
 
     -- a request of it waits: another is the user, which is over at the host, and which the other has closed, or which rests
-    link_rests_then : rests_of me n b u ≡ false → asks_in q ≡ true → TextTo me n on b → is_marked me n (Topic.LinkRests true on) now ≡ true
-    link_rests_then z k (OfNone f i) = i
-    link_rests_then z k (OfClosed life f d i) = i
-    link_rests_then z k (OfUser life f d i) = by_rest life.rests refl
+    link_rests_then : asks_in q ≡ true → is_marked me n (Topic.LinkRests true on) now ≡ true
+    link_rests_then k = go to
       where
-        v : Sockets
-        v = (life.local, life.remote)
-
-        is : User life
-        is = user life f
-
-        its_number : number_of (seen (Some life)) ≡ Some on
-        its_number = ap (λ (x : Bool). if x then life.size else life.link) is.receiver ∙ is.link
-
-        stays : life.rests ≡ false → (number_of (kept_of m v) ≡ Some on) × (asks_in (about v (all_says w)) ≡ false)
-        stays y =
-            own_stays (about v (all_says w)) (kept_of m v) (Some (of_life life)) on its_number d
-            (subst (λ (x : Option Life). Agrees (about v (all_says w)) (kept_of m v) (seen x)) is.is_seen (meets.tally.pairs v (ap is_resting is.is_seen ∙ y)))
-
-        uses : (o : Option End) → get m (pair_at v) ≡ o → number_of (kept (sends (pair_at v)) o) ≡ Some on → passes (uses_link on) (pair_at v) o ≡ true
-        uses None h x = absurd (cc x)
-        uses (Some y) h x =
-            let rs : receives (pair_at v) ≡ true = only_receives (pair_at v) is.receiver (proper (pair_at v) (ap is_some h)) in
-            ap (λ (z : Bool). z && y.asked && (y.link == on)) rs ∙ by y.asked (sym (ap (λ (z : Bool). number_of (kept z (Some y))) (no_sender (pair_at v) rs)) ∙ x)
+        go : TextTo me n on b now → is_marked me n (Topic.LinkRests true on) now ≡ true
+        go (ToNone none marked) = marked
+        go (ToUser v user d come) = by_rest (rests_of me n b v) refl
           where
-            by : (z : Bool) → (if z then Some y.link else None) ≡ Some on → (z && (y.link == on)) ≡ true
-            by false x = absurd (cc x)
-            by true x = let same_link : y.link ≡ on = cc x in eq-eqb y.link on same_link
+            life : Life
+            life = life_in_place b.lives user.place
 
-        used : passes (uses_link on) pair (get m pair) ≡ true
-        used = ap (passes (uses_link on) pair) g ∙ ap (λ (z : Bool). z && e.asked && (e.link == on)) r ∙ ap (λ (z : Bool). z && (e.link == on)) a ∙ eq-eqb e.link on l
+            sex : is_senders life.local ≡ false
+            sex = ap is_senders user.sockets.local ∙ unsent (is_senders v.0) user.receives
 
-        by_rest : (y : Bool) → life.rests ≡ y → is_marked me n (Topic.LinkRests true on) now ≡ true
-        by_rest true y =
-            (text_seen me n on b).marks true on
-            (ap (λ (x : Bool). is_marked me n (Topic.LinkRests (not x) on) b) (sym is.receiver) ∙ meets.linked v life on is.is_seen y is.link)
-        by_rest false y =
-            let st = stays y in
-            let same_pair : pair_at v ≡ pair = good.asked on (pair_at v) pair (uses (get m (pair_at v)) refl st.0) used in
-            let same_sockets : v ≡ u = ap sockets_of same_pair in
-            let nay : true ≡ false = sym k ∙ ap (λ (x : Sockets). asks_in (about x (all_says w))) (sym same_sockets) ∙ st.1 in absurd (cc nay)
+            its_number : number_of (seen (Some life)) ≡ Some on
+            its_number = ap (λ (x : Bool). if x then life.size else life.link) sex ∙ user.given
 
-    pub text_known : Known u
+            stays : rests_of me n b v ≡ false → (number_of (kept_of m v) ≡ Some on) × (asks_in (about v (all_says w)) ≡ false)
+            stays y =
+                own_stays (about v (all_says w)) (kept_of m v) (Some (of_life life)) on its_number d
+                (subst (λ (x : Option Life). Agrees (about v (all_says w)) (kept_of m v) (seen x)) user.seen (meets.tally.pairs v y))
+
+            uses : (o : Option End) → get m (pair_at v) ≡ o → number_of (kept (sends (pair_at v)) o) ≡ Some on → passes (uses_link on) (pair_at v) o ≡ true
+            uses None h x = absurd (cc x)
+            uses (Some y) h x =
+                let rs : receives (pair_at v) ≡ true = only_receives (pair_at v) (unsent (is_senders v.0) user.receives) (proper (pair_at v) (ap is_some h)) in
+                ap (λ (z : Bool). z && y.asked && (y.link == on)) rs ∙ by y.asked (sym (ap (λ (z : Bool). number_of (kept z (Some y))) (no_sender (pair_at v) rs)) ∙ x)
+              where
+                by : (z : Bool) → (if z then Some y.link else None) ≡ Some on → (z && (y.link == on)) ≡ true
+                by false x = absurd (cc x)
+                by true x = let same_link : y.link ≡ on = cc x in eq-eqb y.link on same_link
+
+            used_link : passes (uses_link on) pair (get m pair) ≡ true
+            used_link = ap (passes (uses_link on) pair) g ∙ ap (λ (z : Bool). z && e.asked && (e.link == on)) r ∙ ap (λ (z : Bool). z && (e.link == on)) a ∙ eq-eqb e.link on l
+
+            by_rest : (y : Bool) → rests_of me n b v ≡ y → is_marked me n (Topic.LinkRests true on) now ≡ true
+            by_rest true y =
+                same_shapes.links true on
+                (ap (λ (x : Bool). is_marked me n (Topic.LinkRests x on) b) (sym user.receives) ∙ meets.linked v life on user.seen (sym (ap is_resting user.seen) ∙ y) user.given)
+            by_rest false y =
+                let st = stays y in
+                let same_pair : pair_at v ≡ pair = good.asked on (pair_at v) pair (uses (get m (pair_at v)) refl st.0) used_link in
+                let same_sockets : v ≡ u = ap sockets_of same_pair in
+                let nay : true ≡ false = sym k ∙ ap (λ (x : Sockets). asks_in (about x (all_says w))) (sym same_sockets) ∙ st.1 in absurd (cc nay)
+
+    text_known : Known u
     text_known = by_rest (rests_of me n b u) refl
       where
         by_asks : (z : rests_of me n b u ≡ false) → (x : Bool) → asks_in q ≡ x → Known u
-        by_asks z true k = inr (ap (λ (x : Bool). if x then is_marked me n (Topic.LinkRests true on) now else has_come (life_seen me n now u)) k ∙ link_rests_then z k (text_to me n on b room))
-        by_asks z false k = inr (ap (λ (x : Bool). if x then is_marked me n (Topic.LinkRests true on) now else has_come (life_seen me n now u)) k ∙ came_for_it z k (text_to me n on b room))
+        by_asks z true k = inr (ap (λ (x : Bool). if x then is_marked me n (Topic.LinkRests true on) now else has_come (life_seen me n now u)) k ∙ link_rests_then k)
+        by_asks z false k = inr (ap (λ (x : Bool). if x then is_marked me n (Topic.LinkRests true on) now else has_come (life_seen me n now u)) k ∙ came_for_it z k)
 
         by_rest : (x : Bool) → rests_of me n b u ≡ x → Known u
-        by_rest true z = inl (rest_same me n m w b now (text_seen me n on b) u ∙ z)
+        by_rest true z = inl (same_shapes.rests u ∙ z)
         by_rest false z = by_asks z (asks_in q) refl
+
+-- ---- what the host does with it
+
+-- what is made of it is no word of a connection, and no ECO
+made_says : (head text : List Bool) (taken : Took) → all_says (made_by_text head text taken) ≡ []
+made_says head text Took.Admitted = refl
+made_says head text Took.Late = refl
+made_says head text Took.WrongSize = refl
+made_says head text Took.Over = refl
+made_says head text Took.NotOpen = refl
+
+made_no_eco : (head text : List Bool) (taken : Took) → ecos (made_by_text head text taken) ≡ 0
+made_no_eco head text Took.Admitted = refl
+made_no_eco head text Took.Late = refl
+made_no_eco head text Took.WrongSize = refl
+made_no_eco head text Took.Over = refl
+made_no_eco head text Took.NotOpen = refl
+
+-- an end that is on its way out stays as it is; the link of any stays
+late_same : (of_size : ℕ) (text : List Bool) (e : End) → is_going e ≡ true → end_after (Some e) (hear_text of_size text (Some e)) ≡ Some e
+late_same of_size text e g = ap (λ (x : Bool). end_after (Some e) (if x then Stays Took.Late else if not e.opened then Stays Took.NotOpen else text_at of_size text e)) g
+
+link_stays : (of_size : ℕ) (text : List Bool) (e now : End) → end_after (Some e) (hear_text of_size text (Some e)) ≡ Some now → e.link ≡ now.link
+link_stays of_size text e now k = go (is_going e) e.opened (of_size == e.size) (e.messages == 0 || nat_lt e.bits (length text)) k
+  where
+    taken : End
+    taken = record e { messages = e.messages - 1; bits = e.bits - length text; stored = e.stored ++ text }
+
+    acts : Bool → Bool → Bool → Bool → Act Took
+    acts g o s v = if g then Stays Took.Late else if not o then Stays Took.NotOpen else if not s then Stays Took.WrongSize else if v then Stays Took.Over else Becomes taken Took.Admitted
+
+    stayed : Some e ≡ Some now → e.link ≡ now.link
+    stayed k = let is : e ≡ now = cc k in ap (λ (x : End). x.link) is
+
+    go : (g o s v : Bool) → end_after (Some e) (acts g o s v) ≡ Some now → e.link ≡ now.link
+    go true o s v k = stayed k
+    go false false s v k = stayed k
+    go false true false v k = stayed k
+    go false true true true k = stayed k
+    go false true true false k = by (is_over taken) k
+      where
+        by : (x : Bool) → (if x then None else Some taken) ≡ Some now → e.link ≡ now.link
+        by true k = absurd (cc k)
+        by false k = let is : taken ≡ now = cc k in ap (λ (x : End). x.link) is
+
+-- ---- what meets, is held and echoes, and what came
+
+module _ (me n on : ℕ) (head : List Bool) (message : Message) (m : Ends) (awaited : Bool) (w : List Command) (b : SeenBooks) (good : Good m) (proper : ProperEnds m) (tidy : Tidy b) (tells : Beside me n m awaited w b)
+    (room : (books_after_text (record { at = me; peer = n; sent = false }) on message b).full ≡ false) where
+  abbrev now : SeenBooks
+  now = books_after_text (record { at = me; peer = n; sent = false }) on message b
+
+  texts : TextSeen me n b now
+  texts = text_seen me n on message b tidy tells.meets.unique tells.meets.linked
+
+  goes_to : TextTo me n on b now
+  goes_to = text_to me n on message b tidy tells.meets.unique tells.meets.linked room
+
+  abbrev KnownBy : Sockets → ℕ → Bool → Type 0
+  KnownBy v link x = (rests_of me n now v ≡ true) ⊎ ((if x then is_marked me n (Topic.LinkRests true link) now else has_come (life_seen me n now v)) ≡ true)
+
+  -- what is known of another stays known
+  lifted : (v : Sockets) (link : ℕ) (x : Bool) → (rests_of me n b v ≡ true) ⊎ ((if x then is_marked me n (Topic.LinkRests true link) b else has_come (life_seen me n b v)) ≡ true) → KnownBy v link x
+  lifted v link x (inl k) = inl (texts.shapes.rests v ∙ k)
+  lifted v link true (inr k) = inr (texts.shapes.links true link k)
+  lifted v link false (inr k) = inr (texts.shapes.came v k)
+
+  as_made : (cs : List Command) → all_says cs ≡ [] → (v : Sockets) (link : ℕ) → KnownBy v link (asks_in (about v (all_says w))) → KnownBy v link (asks_in (about v (all_says (w ++ cs))))
+  as_made cs s v link k =
+      subst (λ (x : List (Sockets × Say)). KnownBy v link (asks_in (about v x))) (sym (says_append w cs ∙ ap (λ (x : List (Sockets × Say)). all_says w ++ x) s ∙ append-nil (all_says w))) k
+
+  told : (then_ends : Ends) (cs : List Command) → Meets me n then_ends (w ++ cs) b → Held me n then_ends b → ecos cs ≡ 0 → Came me n then_ends (w ++ cs) now → Beside me n then_ends awaited (w ++ cs) now
+  told then_ends cs meets held k came = record {
+    meets = shapes_meets me n then_ends (w ++ cs) b now texts.shapes meets;
+    held = shapes_held me n then_ends b now texts.shapes held;
+    echoing = echo_told me n awaited w cs b now texts.echoes k tells.echoing;
+    came = came;
+  }
+
+  -- the link leads to no end
+  none_there : Beside me n m awaited (w ++ text_error head message.text ∷ []) now
+  none_there =
+      told m (text_error head message.text ∷ []) (unsaid_meets me n m w b (text_error head message.text ∷ []) refl tells.meets) tells.held refl
+      (λ v e g r s. as_made (text_error head message.text ∷ []) refl v e.link (lifted v e.link (asks_in (about v (all_says w))) (tells.came v e g r s)))
+
+  some_there : (pair : Pair) (e : End) → get m pair ≡ Some e → passes (uses_link on) pair (get m pair) ≡ true
+      → Beside me n (map_after m pair (hear_text message.size message.text (Some e))) awaited (w ++ made_by_text head message.text (answer (hear_text message.size message.text (Some e)))) now
+  some_there pair e g p = told after cs meets held (made_no_eco head message.text (answer act)) came
+    where
+      act : Act Took
+      act = hear_text message.size message.text (Some e)
+
+      after : Ends
+      after = map_after m pair act
+
+      cs : List Command
+      cs = made_by_text head message.text (answer act)
+
+      what : Happening
+      what = Happening.Text_comes head message.size message.text
+
+      one : OneEnd m after pair (end_after (get m pair) act)
+      one = one_end m pair act
+
+      moved : Moved (sends pair) pair (get m pair) (end_after (get m pair) act) cs
+      moved = subst (λ (o : Option End). Moved (sends pair) pair o (end_after o act) cs) (sym g) (moves pair what (Some e) refl (subst (SoundAt pair) g (good.sound pair)))
+
+      meets : Meets me n after (w ++ cs) b
+      meets =
+          host_meets me n m w b after pair (end_after (get m pair) act) cs one moved
+          (λ k s. let nay : [] ≡ (sockets_of pair, Ask k) ∷ [] = sym (made_says head message.text (answer act)) ∙ s in absurd (cc nay)) tells.meets
+
+      held : Held me n after b
+      held = host_held me n m after b pair (end_after (get m pair) act) cs one moved tells.held
+
+      its_use : (receives pair && e.asked && (e.link == on)) ≡ true
+      its_use = sym (ap (passes (uses_link on) pair) g) ∙ p
+
+      its : ((receives pair && e.asked) ≡ true) × ((e.link == on) ≡ true)
+      its = and_parts (receives pair && e.asked) (e.link == on) its_use
+
+      receiver : (receives pair ≡ true) × (e.asked ≡ true)
+      receiver = and_parts (receives pair) e.asked its.0
+
+      link : e.link ≡ on
+      link = eqb-true e.link on its.1
+
+      -- one that the other has closed is on its way out
+      unclosed : is_going e ≡ false → e.cls ≡ false
+      unclosed k = by e.cls refl
+        where
+          sound : SoundAt pair (Some e)
+          sound = subst (SoundAt pair) g (good.sound pair)
+
+          by : (x : Bool) → e.cls ≡ x → e.cls ≡ false
+          by false c = c
+          by true c = let nay : true ≡ false = sym (ap (λ (x : Bool). x || e.left) (sound.shut c)) ∙ k in absurd (cc nay)
+
+      here : (x : Bool) → is_going e ≡ x → (v : Sockets) → v ≡ (pair.local, pair.remote) → (now_there : End) → end_after (Some e) act ≡ Some now_there → 0 < length now_there.stored
+          → KnownBy v now_there.link (asks_in (about v (all_says w)))
+      here true k v i y z s =
+          let same_end : e ≡ y = cc (sym (late_same message.size message.text e k) ∙ z) in
+          lifted v y.link (asks_in (about v (all_says w)))
+          (tells.came v y (ap (λ (u : Sockets). get m (pair_at u)) i ∙ g ∙ ap (λ (u : End). Some u) same_end) (ap (λ (u : Sockets). receives (pair_at u)) i ∙ receiver.0) s)
+      here false k v i y z s =
+          subst (λ (l : ℕ). KnownBy v l (asks_in (about v (all_says w)))) (sym link ∙ link_stays message.size message.text e y z)
+          (subst (λ (u : Sockets). KnownBy u on (asks_in (about u (all_says w)))) (sym i)
+          (text_known me n on m w b now good proper tidy tells.meets texts.shapes goes_to pair e g receiver.0 receiver.1 link (unclosed k)))
+
+      came : Came me n after (w ++ cs) now
+      came v y h r s = as_made cs (made_says head message.text (answer act)) v y.link (at_it (same v (sockets_of pair)) refl)
+        where
+          at_it : (x : Bool) → same v (sockets_of pair) ≡ x → KnownBy v y.link (asks_in (about v (all_says w)))
+          at_it true d =
+              let i : v ≡ (pair.local, pair.remote) = same_is v (sockets_of pair) d in
+              here (is_going e) refl v i y (ap (λ (o : Option End). end_after o act) (sym g) ∙ sym one.there ∙ ap (λ (u : Sockets). get after (pair_at u)) (sym i) ∙ h) s
+          at_it false d = lifted v y.link (asks_in (about v (all_says w))) (tells.came v y (sym (one.elsewhere (pair_at v) (unlike v (sockets_of pair) d)) ∙ h) r s)
+
+  pub text_beside : Beside me n (text_ends m on message) awaited (w ++ text_made m on head message) now
+  text_beside = go (receiver_on on m) refl
+    where
+      go : (o : Option (Pair × End)) → receiver_on on m ≡ o
+          → Beside me n (map_after_at m (pair_of o) (hear_text message.size message.text (end_of o))) awaited (w ++ made_by_text head message.text (answer (hear_text message.size message.text (end_of o)))) now
+      go None e = none_there
+      go (Some q) e =
+          let l = led (uses_link on) m q.0 (ap pair_of e) in
+          some_there q.0 q.1 (l.0 ∙ ap end_of e) l.1
+
+-- ---- a text comes
+
+-- shown: the ERR about it is that which is admitted; about: and it is told as one about a text
+pub text_tells : (me n on : ℕ) (head : List Bool) (message : Message) (m : Ends) (awaited : Bool) (w : List Command) (b : SeenBooks) → Good m → ProperEnds m → shown_by (text_error head message.text) ≡ text_shown n message → is_text_error (text_error head message.text) ≡ true
+    → (books_after_text (record { at = me; peer = n; sent = false }) on message b).full ≡ false → Tidy b → Tells me n m awaited w b
+    → Tells me n (text_ends m on message) awaited (w ++ text_made m on head message) (books_after_text (record { at = me; peer = n; sent = false }) on message b)
+text_tells me n on head message m awaited w b good proper shown about room tidy t =
+    let beside = text_beside me n on head message m awaited w b good proper tidy (record { meets = t.meets; held = t.held; echoing = t.echoing; came = t.came }) room in
+    let both =
+    text_both me n m good proper w b tidy t.meets.unique t.meets.linked t.meets.tally.pairs t.counted t.owed on head message shown about room (plain_text me n on message b t.meets.unique t.counted.plain) in
+    record { meets = beside.meets; held = beside.held; echoing = beside.echoing; came = beside.came; counted = both.0; owed = both.1 }

@@ -4,7 +4,8 @@ use Rattle.std.proofs.Common.{◌≡◌, ◌<◌, ◌≤◌, ◌+◌, ℕ, Bool,
 use Rattle.std.proofs.lemmas.List.{append-nil}
 use Rattle.std.specs.Prelude.{nat_lt, slice_set}
 use Rattle.std.specs.FinMap.{get}
-use Rattle.std.specs.List.{list_any, position}
+use Rattle.std.specs.List.{filter, list_any, position}
+use Rattle.std.proofs.lemmas.List.Elements.{filter-append}
 use Rattle.ncp_terms.specs.declared.command.Command.{Command}
 use Rattle.ncp_model.specs.declared.pair.Pair.{Pair}
 use Rattle.ncp_model.specs.declared.outcomes.Heard.{Heard}
@@ -18,26 +19,31 @@ use Rattle.ncp_umpire.specs.declared.due.Due.{Due}
 use Rattle.ncp_umpire.specs.declared.due.Wanted.{Wanted}
 use Rattle.ncp_umpire.specs.declared.life.Life.{Life}
 use Rattle.ncp_umpire.specs.declared.life.Topic.{Topic}
-use Rattle.ncp_umpire.specs.Lives.{SeenBooks, unasked_life, is_of_sockets, is_senders, life_in_place, is_marked, is_topic, with_life, with_due, marks_now, rests_pair}
-use Rattle.ncp_umpire.specs.Replies.{says_wanted, owes}
+use Rattle.ncp_umpire.specs.Lives.{SeenBooks, unasked_life, is_of_sockets, is_senders, life_in_place, is_marked, is_topic, with_life, with_due, marks_now, link_rests_now, rests_pair}
+use Rattle.ncp_umpire.specs.declared.talk.Talk.{Talk}
+use Rattle.ncp_umpire.specs.Replies.{owes}
 use Rattle.ncp_umpire.proofs.Shapes.{Say, others_of}
 use Rattle.ncp_umpire.proofs.LinkOrder.{Sockets, same, same_is, about}
 use Rattle.ncp_umpire.proofs.Firsts.{first}
-use Rattle.ncp_proof_umpire_talk.proofs.KeptEnds.{kept}
-use Rattle.ncp_proof_umpire_talk.proofs.OwnMoves.{says_of, all_says, sockets_of}
-use Rattle.ncp_proof_umpire_talk.proofs.Changed.{pair_at, OneEnd, unlike}
-use Rattle.ncp_proof_umpire_talk.proofs.SeenBooks.{life_seen, is_resting, rests_of, receives_at}
-use Rattle.ncp_proof_umpire_talk.proofs.Users.{Linked}
-use Rattle.ncp_proof_umpire_talk.proofs.Resting.{OneRests}
-use Rattle.ncp_proof_umpire_talk.proofs.Meets.{is_judged_reply, due_with}
-use Rattle.ncp_proof_umpire_talk.proofs.Comes.{says_append, refused_meets}
-use Rattle.ncp_proof_umpire_talk.proofs.Echoing.{Echoing, ecos, others_wait, mark_other}
-use Rattle.ncp_proof_umpire_talk.proofs.RequestsCome.{one_end}
-use Rattle.ncp_proof_umpire_talk.proofs.Came.{asks_in, has_come, Came}
-use Rattle.ncp_proof_umpire_talk.proofs.HeldLinks.{same_held, rests_held}
-use Rattle.ncp_proof_umpire_talk.proofs.HostMakes.{HostMade, makes_no_eco, asks_as_before, unclear_told}
-use Rattle.ncp_proof_umpire_talk.proofs.EndsHear.{HeldBefore}
+use Rattle.ncp_proof_umpire_seen.proofs.KeptEnds.{kept}
+use Rattle.ncp_proof_umpire_seen.proofs.OwnMoves.{all_says, sockets_of}
+use Rattle.ncp_proof_umpire_seen.proofs.Changed.{pair_at, OneEnd, unlike}
+use Rattle.ncp_proof_umpire_seen.proofs.SeenBooks.{life_seen, is_resting, rests_of, receives_at}
+use Rattle.ncp_proof_umpire_seen.proofs.Users.{Linked}
+use Rattle.ncp_proof_umpire_seen.proofs.Resting.{OneRests, due_with}
+use Rattle.ncp_proof_umpire_seen.proofs.Comes.{says_append, refused_meets}
+use Rattle.ncp_proof_umpire_seen.proofs.Echoing.{Echoing, ecos, others_wait, mark_other}
+use Rattle.ncp_proof_umpire_seen.proofs.RequestsCome.{one_end}
+use Rattle.ncp_proof_umpire_seen.proofs.Came.{asks_in, has_come, Came}
+use Rattle.ncp_proof_umpire_seen.proofs.HeldLinks.{same_held, rests_held}
+use Rattle.ncp_proof_umpire_counts.proofs.HostMakes.{FitReply, HostMade, makes_no_eco, asks_as_before, unclear_told}
+use Rattle.ncp_proof_umpire_seen.proofs.EndsHear.{HeldBefore}
 use Rattle.ncp_proof_umpire_talk.proofs.Spoken.{Tells}
+use Rattle.ncp_proof_umpire_counts.proofs.Plain.{is_ret_wanted, plain_owed}
+use Rattle.ncp_proof_umpire_counts.proofs.TextErrors.{is_text_error, admitted_more, admitted_wider}
+use Rattle.ncp_proof_umpire_counts.proofs.Counted.{Counted, is_worded, counted_wider}
+use Rattle.ncp_proof_umpire_counts.proofs.OwedItems.{sent_rests, links_sent, OwedBy}
+use Rattle.ncp_proof_umpire_counts.proofs.OwedSteps.{made_reply}
 
 -- ---- echoes
 
@@ -63,7 +69,7 @@ rest_echoes me n p b = go (position (is_of_sockets me n p.0 p.1) b.lives)
 
     link_rested : ℕ → Option ℕ → SeenBooks
     link_rested i None = put_there i
-    link_rested i (Some link) = marks_now me n (Topic.LinkRests (not (is_senders (life_in_place b.lives i).local)) link) (put_there i)
+    link_rested i (Some link) = link_rests_now me n (not (is_senders (life_in_place b.lives i).local)) link (put_there i)
 
     rested : Option ℕ → SeenBooks
     rested None = with_life b (record (unasked_life me n p.0 p.1) { rests = true })
@@ -149,22 +155,39 @@ came_told me n m now w u b after pair end one holds asks rests marks come came v
         let old = holds (ap receives (sym is) ∙ r) e there s in
         as_asked (known old.0 (ap (get m) is ∙ old.1.0) old.1.1.0 old.1.1.1)
 
+-- ---- one more reply is due
+
+pub owes_counted : (me n : ℕ) (m : Ends) (w : List Command) (b : SeenBooks) (talk : Talk) (wanted : Wanted) (sure : Bool) → is_ret_wanted wanted ≡ false → (owes talk wanted sure b).full ≡ false → Counted me n m w b
+    → Counted me n m w (owes talk wanted sure b)
+owes_counted me n m w b talk wanted sure r room c =
+    let due : Due = record { at = talk.at; peer = talk.peer; host = not talk.sent; wanted = wanted; sure = sure } in
+    let is = due_with b due room in
+    counted_wider me n m w w b (with_due b due) (λ u. ap (λ (xs : List Life). first (is_of_sockets me n u.0 u.1) xs) is.1.0) (λ host link z. ap (list_any (is_topic me n (Topic.LinkRests host link))) is.1.1 ∙ z) refl
+    (plain_owed me n talk wanted sure b r c.plain) (admitted_wider me n w b (with_due b due) (λ bytes z. ap (list_any (is_topic me n (Topic.Admits true bytes))) is.1.1 ∙ z) c.admitted) c
+
+-- what is no word and no ERR about a text waits behind
+pub unworded_counted : (me n : ℕ) (m : Ends) (w : List Command) (b : SeenBooks) (c : Command) → is_worded c ≡ false → is_text_error c ≡ false → Counted me n m w b → Counted me n m (w ++ c ∷ []) b
+unworded_counted me n m w b c j t k =
+    counted_wider me n m w (w ++ c ∷ []) b b (λ u. refl) (λ host link z. z) (filter-append is_worded w (c ∷ []) ∙ ap (λ (x : Bool). filter is_worded w ++ (if x then c ∷ [] else [])) j ∙ append-nil (filter is_worded w))
+    k.plain (admitted_more me n w (c ∷ []) b k.admitted ((λ e. let nay : true ≡ false = sym e ∙ t in absurd (cc nay)), tt)) k
+
 -- ---- the host owes a reply, and makes it
 
-pub owed_tells : (me n : ℕ) (m : Ends) (awaited : Bool) (w : List Command) (b : SeenBooks) (reply : Command) (wanted : Wanted) (sure : Bool)
-    → says_wanted wanted reply ≡ true → is_judged_reply reply ≡ true → says_of reply ≡ [] → ecos (reply ∷ []) ≡ 0
+pub owed_tells : (me n : ℕ) (m : Ends) (awaited : Bool) (w : List Command) (b : SeenBooks) (reply : Command) (wanted : Wanted) (sure : Bool) → FitReply wanted reply → is_ret_wanted wanted ≡ false
     → (owes (record { at = me; peer = n; sent = false }) wanted sure b).full ≡ false → Tells me n m awaited w b
     → Tells me n m awaited (w ++ reply ∷ []) (owes (record { at = me; peer = n; sent = false }) wanted sure b)
-owed_tells me n m awaited w b reply wanted sure f j s k room tells =
+owed_tells me n m awaited w b reply wanted sure fit r room tells =
     let due : Due = record { at = me; peer = n; host = true; wanted = wanted; sure = sure } in
     let is = due_with b due room in
     record {
-      meets = refused_meets me n m w b reply wanted sure f j s room tells.meets;
+      meets = refused_meets me n m w b reply wanted sure fit.says room tells.meets;
       held = same_held me n m b (with_due b due) is.1.0 (λ on link z. ap (list_any (is_topic me n (Topic.LinkRests on link))) is.1.1 ∙ z) tells.held;
-      echoing = echo_told me n awaited w (reply ∷ []) b (with_due b due) (same_marks me n b (with_due b due) is.1.1) k tells.echoing;
+      echoing = echo_told me n awaited w (reply ∷ []) b (with_due b due) (same_marks me n b (with_due b due) is.1.1) fit.echoes tells.echoing;
       came = came_same me n m w (w ++ reply ∷ []) b (with_due b due) is.1.0 (λ link z. ap (list_any (is_topic me n (Topic.LinkRests true link))) is.1.1 ∙ z)
-          (λ v. ap (λ (x : List (Sockets × Say)). asks_in (about v x)) (says_append w (reply ∷ []) ∙ ap (λ (x : List (Sockets × Say)). all_says w ++ (x ++ [])) s ∙ append-nil (all_says w)))
+          (λ v. ap (λ (x : List (Sockets × Say)). asks_in (about v x)) (says_append w (reply ∷ []) ∙ ap (λ (x : List (Sockets × Say)). all_says w ++ (x ++ [])) fit.says ∙ append-nil (all_says w)))
           tells.came;
+      counted = owes_counted me n m (w ++ reply ∷ []) b (record { at = me; peer = n; sent = false }) wanted sure r room (unworded_counted me n m w b reply fit.unworded fit.plain tells.counted);
+      owed = made_reply me n m w b wanted sure reply room r fit.fits (fit.item (sent_rests me n b) (links_sent me n b)) tells.owed;
     }
 
 -- ---- the connection rests from then on
@@ -174,9 +197,11 @@ pub unclear_tells : (me n : ℕ) (m : Ends) (awaited : Bool) (w : List Command) 
     → ((life : Life) (link : ℕ) → life_seen me n b (sockets_of pair) ≡ Some life → life.link ≡ Some link → is_marked me n (Topic.LinkRests (receives_at (sockets_of pair)) link) mid ≡ true)
     → ((link : ℕ) → sends pair ≡ true → others_of (kept (sends pair) (end_after (get m pair) act)) ≡ Some link → (others_of (kept (sends pair) (get m pair)) ≡ Some link) ⊎ (is_marked me n (Topic.LinkRests false link) mid ≡ true))
     → (receives pair ≡ true → HeldBefore (get m pair) (end_after (get m pair) act))
+    → is_ret_wanted wanted ≡ false → Counted me n (map_after m pair act) (w ++ made_by_hearing (answer act)) mid
+    → OwedBy me n (map_after m pair act) (w ++ made_by_hearing (answer act)) (owes (record { at = me; peer = n; sent = false }) wanted false mid)
     → (owes (record { at = me; peer = n; sent = false }) wanted false mid).full ≡ false → Tells me n m awaited w b
     → Tells me n (map_after m pair act) awaited (w ++ made_by_hearing (answer act)) (owes (record { at = me; peer = n; sent = false }) wanted false mid)
-unclear_tells me n m awaited w b mid pair act wanted made k linked echoes link_rests heard holds room tells =
+unclear_tells me n m awaited w b mid pair act wanted made k linked echoes link_rests heard holds r counted owed room tells =
     let due : Due = record { at = me; peer = n; host = true; wanted = wanted; sure = false } in
     let is = due_with mid due room in
     record {
@@ -187,6 +212,8 @@ unclear_tells me n m awaited w b mid pair act wanted made k linked echoes link_r
       came = came_same me n (map_after m pair act) (w ++ made_by_hearing (answer act)) (w ++ made_by_hearing (answer act)) mid (with_due mid due) is.1.0 (λ link z. ap (list_any (is_topic me n (Topic.LinkRests true link))) is.1.1 ∙ z) (λ v. refl)
           (came_told me n m (map_after m pair act) w (w ++ made_by_hearing (answer act)) b mid pair (end_after (get m pair) act) (one_end m pair act) holds (asks_as_before wanted pair act w made)
           (λ v z. rests v (same v (sockets_of pair)) refl z) (λ link z. k.marks (Topic.LinkRests true link) z) (λ v old g r s a z h. come v (same v (sockets_of pair)) refl h) tells.came);
+      counted = owes_counted me n (map_after m pair act) (w ++ made_by_hearing (answer act)) mid (record { at = me; peer = n; sent = false }) wanted false r room counted;
+      owed = owed;
     }
   where
     rests : (v : Sockets) (x : Bool) → same v (sockets_of pair) ≡ x → rests_of me n b v ≡ true → rests_of me n mid v ≡ true

@@ -1,6 +1,6 @@
--- A recording at the interface of host 1 by which the law shows that it speaks of something.
+-- Recordings at the interface of host 1 by which the law shows that it speaks of something.
 use Rattle.std.specs.Prelude.{Bool, true, false, List, [], ◌∷◌, ◌++◌, replicate}
-use Rattle.ncp_proof_runs.specs.Examples.{byte_of_two, message_on_0}
+use Rattle.ncp_proof_runs.specs.Examples.{byte_of_two, message_on_0, message_on_2}
 use Rattle.ncp_umpire.specs.declared.way.Way.{Way}
 use Rattle.ncp_umpire.specs.declared.way.Way.TheVariants.{ToImp, FromImp}
 
@@ -36,3 +36,7 @@ echo_and_echo =
 -- a reset that is answered; then two echoes in one message
 abbrev pub echo_before_its_reply : List (Way × List Bool)
 echo_before_its_reply = (ToImp, rst_alone) ∷ (FromImp, taken_by_2) ∷ (FromImp, rrp_alone) ∷ (ToImp, echo_and_echo) ∷ []
+
+-- a reset that is answered; then a text of one byte on link 2, which no connection has
+abbrev pub text_to_nobody : List (Way × List Bool)
+text_to_nobody = (ToImp, rst_alone) ∷ (FromImp, taken_by_2) ∷ (FromImp, rrp_alone) ∷ (ToImp, message_on_2 ++ front_of_one ++ byte_of_two) ∷ []

@@ -1,6 +1,6 @@
 //! No false alarm by any rule: whatever is asked of a host, and whatever bits come, an audit of all that passes its interface
-//! finds nothing against it: by the rules of requests, CLS, replies, ERR and echo no more than by those of messages and the
-//! phase. The law is the contract of a function that does nothing.
+//! finds nothing against it: by the rules of requests, CLS, replies, ERR and echo, and of allocation, no more than by those of
+//! messages and the phase. The law is the contract of a function that does nothing.
 //!
 //! - *Use:* what `ncp audit` says against a host rests on it.
 //! - *Proved:* the law of `talk`, by all rules, in any file.

@@ -2,10 +2,11 @@
 ghost use Rattle.std.specs.Prelude.{◌≡◌, ◌∷◌, [], true, false};
 ghost use Rattle.std.specs.List.{list_all};
 ghost use Rattle.ncp_umpire.specs.declared.finding.Rule.{Rule};
+ghost use Rattle.ncp_umpire.specs.declared.finding.Unopened.{Unopened};
 ghost use Rattle.ncp_umpire.specs.Judged.{new_umpire, by_host};
-ghost use Rattle.ncp_proof_umpire.specs.Recordings.{findings_from, spares, is_of_messages_and_phase, is_of_requests_and_replies};
+ghost use Rattle.ncp_proof_umpire.specs.Recordings.{findings_from, spares, is_of_messages_and_phase, is_of_requests_and_replies, is_of_allocation};
 ghost use Rattle.ncp_proof_umpire_talk.specs.AllRules.{NobodyBlamedAtAll};
-ghost use Rattle.ncp_proof_umpire_talk.specs.Talking.{echo_before_its_reply};
+ghost use Rattle.ncp_proof_umpire_talk.specs.Talking.{echo_before_its_reply, text_to_nobody};
 
 /// No host is found to break any rule at its own interface: whatever calls are made, whatever bits come, and whatever is
 /// recorded at other interfaces, an audit finds nothing against it in its whole recording, by whatever rules are asked for,
@@ -15,9 +16,12 @@ pub fn no_host_is_blamed_by_any_rule()
 {}
 
 /// That this law speaks of something: a host that sends a second ECO before the ERP is found to be wrong, by a rule of
-/// requests and replies, and by none of messages and the phase.
+/// requests and replies, and by none of messages and the phase; and one that sends a text where there is no connection, by a
+/// rule of allocation.
 pub fn wrong_talk_is_blamed()
     ensures found { findings_from (new_umpire false) 1 echo_before_its_reply ≡ by_host 1 (Rule.EcoAgain 2) ∷ [] }
     ensures blamed { list_all (spares is_of_requests_and_replies 1) (findings_from (new_umpire false) 1 echo_before_its_reply) ≡ false }
     ensures spared { list_all (spares is_of_messages_and_phase 1) (findings_from (new_umpire false) 1 echo_before_its_reply) ≡ true }
+    ensures unopened { findings_from (new_umpire false) 1 text_to_nobody ≡ by_host 1 (Rule.TextNotOpen 2 Unopened.NoPair) ∷ [] }
+    ensures allocated { list_all (spares is_of_allocation 1) (findings_from (new_umpire false) 1 text_to_nobody) ≡ false }
 {}

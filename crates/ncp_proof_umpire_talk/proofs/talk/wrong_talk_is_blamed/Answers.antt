@@ -15,3 +15,11 @@ returns-clause-blamed c = refl
 pub returns-clause-spared : goal.returns-clause-spared
 unfolding number_of byte_of bytes_of command_with command_at commands_within
 returns-clause-spared c = refl
+
+pub returns-clause-unopened : goal.returns-clause-unopened
+unfolding number_of byte_of bytes_of command_with command_at commands_within
+returns-clause-unopened c = refl
+
+pub returns-clause-allocated : goal.returns-clause-allocated
+unfolding number_of byte_of bytes_of command_with command_at commands_within
+returns-clause-allocated c = refl
