@@ -1,208 +1,166 @@
 -- What two hosts saw of each other, and what is on its way, through all that the two say: what either says, and what comes.
-use Rattle.std.proofs.Common.{◌≡◌, ℕ, ◌==◌, Bool, true, false, not, ◌&&◌, if◌then◌else◌, List, [], ◌∷◌, ◌++◌, Option, None, Some, refl, sym, ap, ◌∙◌, subst}
+use Rattle.std.proofs.Common.{◌≡◌, ℕ, Bool, true, false, not, List, [], ◌∷◌, ◌++◌, Option, None, Some, refl, sym, ap, ◌∙◌, subst, arith}
 use Rattle.ncp_terms.specs.declared.command.Command.{Command}
-use Rattle.ncp_terms.specs.declared.command.Command.TheVariants.{Rts, Str, Cls, Eco, Erp, Err, Nop, All, Gvb, Ret, Inr, Ins, Rst, Rrp}
-use Rattle.ncp_umpire.proofs.Shapes.{Shape, Say, Ask, Leave}
-use Rattle.ncp_umpire.proofs.LinkOrder.{Sockets, same}
-use Rattle.ncp_proof_umpire_talk.proofs.SeenBooks.{step}
-use Rattle.ncp_proof_umpire_whole.proofs.Said.{Said, SaidAlike, unspoken, say_of, link_wanted, may_say, FitsBy, number_by, IsLinkFree, Legal, after_say, after_said_by, LegalRun, after_run, facing_shape, facing, Abreast}
-use Rattle.ncp_proof_umpire_whole.proofs.Diamond.{alike_back, alike_then, legal_alike, after_alike, EitherOrderAll, either_order_all}
+use Rattle.ncp_umpire.proofs.Shapes.{Shape}
+use Rattle.ncp_umpire.proofs.LinkOrder.{Sockets}
+use Rattle.ncp_proof_umpire_counts.proofs.Words.{Count}
+use Rattle.ncp_proof_umpire_whole.proofs.Tallied.{Owing, MatchesOwed}
+use Rattle.ncp_proof_umpire_whole.proofs.Said.{Said, SaidAlike, unspoken, takes_by, number_by, Legal, after_said_by, after_run, facing_shape, facing_user}
+use Rattle.ncp_proof_umpire_whole.proofs.Diamond.{alike_back, run_append, legal_append, own_run, own_end}
+use Rattle.ncp_proof_umpire_whole.proofs.UsersSaid.{link_between, fit_none}
+use Rattle.ncp_proof_umpire_whole.proofs.LegalFaces.{number_faces, legal_faces}
+use Rattle.ncp_proof_umpire_whole.proofs.StepFaces.{link_receives, link_sends, step_faces}
+use Rattle.ncp_proof_umpire_whole.proofs.Abreast.{Afloat, float_messages, float_bits, messages_afloat, bits_afloat, FacesOn, Mirrors, AllSending, Sane, Abreast, LeavesNoText}
+use Rattle.ncp_proof_umpire_whole.proofs.SaneSteps.{sane_step, sane_run}
+use Rattle.ncp_proof_umpire_whole.proofs.UsersRun.{sends_heard, sends_run, sends_own}
 
--- ---- lists
+-- ---- where the same was said
 
-run_append : (s : Bool) (cs ds : List Command) (x : Said) → after_run s (cs ++ ds) x ≡ after_run s ds (after_run s cs x)
-run_append s [] ds x = refl
-run_append s (c ∷ cs) ds x = run_append s cs ds (after_said_by s c x)
+mirrors_alike : {x z y : Said} {tx ty : Afloat} → SaidAlike x z → Mirrors x y tx ty → Mirrors z y tx ty
+mirrors_alike {x} {z} {y} {tx} {ty} e m = record {
+  shapes = λ u. sym (e.shapes u) ∙ m.shapes u;
+  users = λ s link. sym (e.users s link) ∙ m.users s link;
+  here = λ u t. subst (λ (k : Count). FacesOn (u.1, u.0) k (y.counts (u.1, u.0)) (y.owing true) (link_between u (z.shapes u)) ty) (e.counts u)
+      (subst (λ (o : Option Shape). FacesOn (u.1, u.0) (x.counts u) (y.counts (u.1, u.0)) (y.owing true) (link_between u o) ty) (e.shapes u) (m.here u t));
+  there = λ u t. subst (λ (k : Count). FacesOn u (y.counts (u.1, u.0)) k (z.owing true) (link_between u (z.shapes u)) tx) (e.counts u)
+      (subst (λ (os : List Owing). FacesOn u (y.counts (u.1, u.0)) (x.counts u) os (link_between u (z.shapes u)) tx) (e.owing true)
+      (subst (λ (o : Option Shape). FacesOn u (y.counts (u.1, u.0)) (x.counts u) (x.owing true) (link_between u o) tx) (e.shapes u) (m.there u t)));
+  mine = subst (λ (os : List Owing). MatchesOwed os (y.owing true)) (e.owing false) m.mine;
+  theirs = subst (λ (os : List Owing). MatchesOwed (y.owing false) os) (e.owing true) m.theirs;
+}
 
-legal_append : (s : Bool) (cs ds : List Command) (x : Said) → LegalRun s cs x → LegalRun s ds (after_run s cs x) → LegalRun s (cs ++ ds) x
-legal_append s [] ds x l r = r
-legal_append s (c ∷ cs) ds x (k, l) r = (k, legal_append s cs ds (after_said_by s c x) l r)
+-- ---- where the same texts are on their way
 
--- ---- as the other sees it
+same_text : (o : Option ℕ) (t s : Afloat) → ((link : ℕ) → t link ≡ s link) → (messages_afloat o t ≡ messages_afloat o s) × (bits_afloat o t ≡ bits_afloat o s)
+same_text None t s k = (refl, refl)
+same_text (Some link) t s k = (ap float_messages (k link), ap float_bits (k link))
+
+faces_floats : (v : Sockets) (received sent : Count) (owing : List Owing) (o : Option ℕ) (t s : Afloat) → ((link : ℕ) → t link ≡ s link) → FacesOn v received sent owing o t → FacesOn v received sent owing o s
+faces_floats v received sent owing o t s k f =
+    let same = same_text o t s k in
+    let a = same.0 in
+    let b = same.1 in
+    let c = f.messages in
+    let d = f.bits in record { messages = omega (arith, a, c); bits = omega (arith, b, d); recall = f.recall }
+
+sends_floats : {x : Said} (t s : Afloat) → ((link : ℕ) → t link ≡ s link) → AllSending x t → AllSending x s
+sends_floats t s k sends link size bits e = sends link size bits (k link ∙ e)
+
+pub floats_alike : {x y : Said} {hs ks : List Command} {tx ty ux uy : Afloat} → ((link : ℕ) → tx link ≡ ux link) → ((link : ℕ) → ty link ≡ uy link) → Abreast x hs tx y ks ty → Abreast x hs ux y ks uy
+floats_alike {x} {y} {hs} {ks} {tx} {ty} {ux} {uy} k j a = record {
+  here = a.here;
+  there = a.there;
+  meet = record {
+    shapes = a.meet.shapes;
+    users = a.meet.users;
+    here = λ u t. faces_floats (u.1, u.0) ((after_run false ks x).counts u) ((after_run false hs y).counts (u.1, u.0)) ((after_run false hs y).owing true) (link_between u ((after_run false ks x).shapes u)) ty uy j (a.meet.here u t);
+    there = λ u t. faces_floats u ((after_run false hs y).counts (u.1, u.0)) ((after_run false ks x).counts u) ((after_run false ks x).owing true) (link_between u ((after_run false ks x).shapes u)) tx ux k (a.meet.there u t);
+    mine = a.meet.mine;
+    theirs = a.meet.theirs;
+  };
+  goes = sends_floats tx ux k a.goes;
+  comes = sends_floats ty uy j a.comes;
+  sane = a.sane;
+  sane_there = a.sane_there;
+}
+
+-- ---- nothing is on its way
+
+pub unspoken_abreast : Abreast unspoken [] (λ link. None) unspoken [] (λ link. None)
+unspoken_abreast = record {
+  here = tt;
+  there = tt;
+  meet = record {
+    shapes = λ u. refl;
+    users = λ s link. refl;
+    here = λ u t. record { messages = omega arith; bits = omega arith; recall = refl };
+    there = λ u t. record { messages = omega arith; bits = omega arith; recall = refl };
+    mine = tt;
+    theirs = tt;
+  };
+  goes = λ link size bits e. absurd (cc e);
+  comes = λ link size bits e. absurd (cc e);
+  sane = none;
+  sane_there = none;
+}
+  where
+    none : Sane unspoken
+    none = record { fit = fit_none; owes = λ s. tt }
+
+-- ---- the other is the one
 
 facing_twice : (m : Option Shape) → facing_shape (facing_shape m) ≡ m
 facing_twice None = refl
 facing_twice (Some m) = refl
 
-facing_back : (x : Said) → SaidAlike (facing (facing x)) x
-facing_back x = record { shapes = λ u. facing_twice (x.shapes u); mine = refl; theirs = refl }
+user_twice : (o : Option Sockets) → facing_user (facing_user o) ≡ o
+user_twice None = refl
+user_twice (Some u) = refl
 
-facing_alike : {x y : Said} → SaidAlike x y → SaidAlike (facing x) (facing y)
-facing_alike e = record { shapes = λ u. ap facing_shape (e.shapes (u.1, u.0)); mine = e.theirs; theirs = e.mine }
-
-facing_unspoken : SaidAlike (facing unspoken) unspoken
-facing_unspoken = record { shapes = λ u. refl; mine = refl; theirs = refl }
-
--- ---- what the one may say by what it sees it may, by what the other sees
-
-facing_may : (s : Bool) (a : Say) (m : Option Shape) → may_say (not s) a (facing_shape m) ≡ may_say s a m
-facing_may true (Ask n) None = refl
-facing_may true (Ask n) (Some m) = refl
-facing_may true Leave None = refl
-facing_may true Leave (Some m) = refl
-facing_may false (Ask n) None = refl
-facing_may false (Ask n) (Some m) = refl
-facing_may false Leave None = refl
-facing_may false Leave (Some m) = refl
-
-facing_step : (s : Bool) (a : Say) (m : Option Shape) → facing_shape (step s a m) ≡ step (not s) a (facing_shape m)
-facing_step true (Ask n) None = refl
-facing_step true (Ask n) (Some m) = refl
-facing_step true Leave None = refl
-facing_step true Leave (Some m) = go m.cls
-  where
-    go : (b : Bool) → facing_shape (if b then None else Some (record m { left = true })) ≡ (if b then None else Some (record { own = m.others; others = m.own; left = m.cls; cls = true }))
-    go true = refl
-    go false = refl
-facing_step false (Ask n) None = refl
-facing_step false (Ask n) (Some m) = refl
-facing_step false Leave None = refl
-facing_step false Leave (Some m) = go m.left
-  where
-    go : (b : Bool) → facing_shape (if b then None else Some (record m { cls = true })) ≡ (if b then None else Some (record { own = m.others; others = m.own; left = true; cls = m.left }))
-    go true = refl
-    go false = refl
-
--- of turned sockets
-abbrev turned_say : Option (Sockets × Say) → Option (Sockets × Say)
-turned_say None = None
-turned_say (Some (p, a)) = Some ((p.1, p.0), a)
-
-turned_says : (s : Bool) (c : Command) → say_of (not s) c ≡ turned_say (say_of s c)
-turned_says true (Rts receive send link) = refl
-turned_says true (Str send receive size) = refl
-turned_says true (Cls my your) = refl
-turned_says true (Eco byte) = refl
-turned_says true (Erp byte) = refl
-turned_says true (Err code bytes) = refl
-turned_says true Nop = refl
-turned_says true (All link messages bits) = refl
-turned_says true (Gvb link fm fb) = refl
-turned_says true (Ret link messages bits) = refl
-turned_says true (Inr link) = refl
-turned_says true (Ins link) = refl
-turned_says true Rst = refl
-turned_says true Rrp = refl
-turned_says false (Rts receive send link) = refl
-turned_says false (Str send receive size) = refl
-turned_says false (Cls my your) = refl
-turned_says false (Eco byte) = refl
-turned_says false (Erp byte) = refl
-turned_says false (Err code bytes) = refl
-turned_says false Nop = refl
-turned_says false (All link messages bits) = refl
-turned_says false (Gvb link fm fb) = refl
-turned_says false (Ret link messages bits) = refl
-turned_says false (Inr link) = refl
-turned_says false (Ins link) = refl
-turned_says false Rst = refl
-turned_says false Rrp = refl
-
-facing_fits : (s : Bool) (o : Option (Sockets × Say)) (x : Said) → FitsBy s o x.shapes → FitsBy (not s) (turned_say o) (facing x).shapes
-facing_fits s None x f = tt
-facing_fits s (Some (p, a)) x f = facing_may s a (x.shapes p) ∙ f
-
-facing_free : (s : Bool) (o : Option ℕ) (x : Said) → IsLinkFree s o x.shapes → IsLinkFree (not s) o (facing x).shapes
-facing_free s None x f = tt
-facing_free true (Some link) x f = λ u t e. f (u.1, u.0) t (go (x.shapes (u.1, u.0)) e)
-  where
-    go : (m : Option Shape) → number_by false (facing_shape m) ≡ Some link → number_by true m ≡ Some link
-    go None e = e
-    go (Some m) e = e
-facing_free false (Some link) x f = λ u t e. f (u.1, u.0) t (go (x.shapes (u.1, u.0)) e)
-  where
-    go : (m : Option Shape) → number_by true (facing_shape m) ≡ Some link → number_by false m ≡ Some link
-    go None e = e
-    go (Some m) e = e
-
-facing_legal : (s : Bool) (c : Command) (x : Said) → Legal s c x → Legal (not s) c (facing x)
-facing_legal true c x l = record {
-  right = l.right;
-  fits = subst (λ (o : Option (Sockets × Say)). FitsBy false o (facing x).shapes) (sym (turned_says true c)) (facing_fits true (say_of true c) x l.fits);
-  free = facing_free true (link_wanted c) x l.free;
-  asks = l.asks;
-  answers = l.answers;
-  just = l.just;
+turn_mirrors : {x y : Said} {tx ty : Afloat} → Mirrors x y tx ty → Mirrors y x ty tx
+turn_mirrors {x} {y} {tx} {ty} m = record {
+  shapes = λ u. sym (facing_twice (y.shapes u)) ∙ ap facing_shape (sym (m.shapes (u.1, u.0)));
+  users = users;
+  here = λ u t. subst (λ (o : Option ℕ). FacesOn (u.1, u.0) (y.counts u) (x.counts (u.1, u.0)) (x.owing true) o tx) (received u t) (m.there (u.1, u.0) t);
+  there = λ u t. subst (λ (o : Option ℕ). FacesOn u (x.counts (u.1, u.0)) (y.counts u) (y.owing true) o ty) (sent u t) (m.here (u.1, u.0) t);
+  mine = m.theirs;
+  theirs = m.mine;
 }
-facing_legal false c x l = record {
-  right = l.right;
-  fits = subst (λ (o : Option (Sockets × Say)). FitsBy true o (facing x).shapes) (sym (turned_says false c)) (facing_fits false (say_of false c) x l.fits);
-  free = facing_free false (link_wanted c) x l.free;
-  asks = l.asks;
-  answers = l.answers;
-  just = l.just;
-}
-
-same_turned : (u p : Sockets) → same (u.1, u.0) p ≡ same u (p.1, p.0)
-same_turned u p = go (u.1 == p.0) (u.0 == p.1)
   where
-    go : (x y : Bool) → (x && y) ≡ (y && x)
-    go true true = refl
-    go true false = refl
-    go false true = refl
-    go false false = refl
+    users : (s : Bool) (link : ℕ) → y.users s link ≡ facing_user (x.users (not s) link)
+    users true link = sym (user_twice (y.users true link)) ∙ ap facing_user (sym (m.users false link))
+    users false link = sym (user_twice (y.users false link)) ∙ ap facing_user (sym (m.users true link))
 
-facing_say : (s : Bool) (o : Option (Sockets × Say)) (x : Said) (u : Sockets) → facing_shape (after_say s o x.shapes (u.1, u.0)) ≡ after_say (not s) (turned_say o) (facing x).shapes u
-facing_say s None x u = refl
-facing_say s (Some (p, a)) x u = ap (λ (b : Bool). facing_shape (if b then step s a (x.shapes p) else x.shapes (u.1, u.0))) (same_turned u p) ∙ go (same u (p.1, p.0))
-  where
-    go : (b : Bool) → facing_shape (if b then step s a (x.shapes p) else x.shapes (u.1, u.0)) ≡ (if b then step (not s) a (facing_shape (x.shapes p)) else facing_shape (x.shapes (u.1, u.0)))
-    go true = facing_step s a (x.shapes p)
-    go false = refl
+    received : (u : Sockets) → takes_by true u ≡ true → link_between (u.1, u.0) (x.shapes (u.1, u.0)) ≡ link_between u (y.shapes u)
+    received u t =
+        link_sends (u.1, u.0) (x.shapes (u.1, u.0)) t ∙ ap (number_by false) (m.shapes (u.1, u.0)) ∙ number_faces false (y.shapes u) ∙ sym (link_receives u (y.shapes u) t)
 
-facing_after : (s : Bool) (c : Command) (x : Said) → SaidAlike (facing (after_said_by s c x)) (after_said_by (not s) c (facing x))
-facing_after true c x = record {
-  shapes = λ u. facing_say true (say_of true c) x u ∙ ap (λ (o : Option (Sockets × Say)). after_say false o (facing x).shapes u) (sym (turned_says true c));
-  mine = refl;
-  theirs = refl;
-}
-facing_after false c x = record {
-  shapes = λ u. facing_say false (say_of false c) x u ∙ ap (λ (o : Option (Sockets × Say)). after_say true o (facing x).shapes u) (sym (turned_says false c));
-  mine = refl;
-  theirs = refl;
-}
+    sent : (u : Sockets) → takes_by false u ≡ true → link_between (u.1, u.0) (x.shapes (u.1, u.0)) ≡ link_between u (y.shapes u)
+    sent u t =
+        link_receives (u.1, u.0) (x.shapes (u.1, u.0)) t ∙ ap (number_by true) (m.shapes (u.1, u.0)) ∙ number_faces true (y.shapes u) ∙ sym (link_sends u (y.shapes u) t)
 
--- ---- nothing is on its way
-
-pub unspoken_abreast : Abreast unspoken [] unspoken []
-unspoken_abreast = record { here = tt; there = tt; meet = alike_back facing_unspoken }
-
--- ---- the other is the one
-
-pub turn_abreast : {x y : Said} {hs ks : List Command} → Abreast x hs y ks → Abreast y ks x hs
-turn_abreast {x} {y} {hs} {ks} a = record {
-  here = a.there;
-  there = a.here;
-  meet = alike_then (alike_back (facing_back (after_run false hs y))) (facing_alike (alike_back a.meet));
-}
+pub turn_abreast : {x y : Said} {hs ks : List Command} {tx ty : Afloat} → Abreast x hs tx y ks ty → Abreast y ks ty x hs tx
+turn_abreast a = record { here = a.there; there = a.here; meet = turn_mirrors a.meet; goes = a.comes; comes = a.goes; sane = a.sane_there; sane_there = a.sane }
 
 -- ---- the first that is on its way comes
 
-pub heard_there : {x y : Said} {hs ks : List Command} {h : Command} → Abreast x (h ∷ hs) y ks → Legal false h y × Abreast x hs (after_said_by false h y) ks
-heard_there a = (a.there.0, record { here = a.here; there = a.there.1; meet = a.meet })
+pub heard_abreast : {x y : Said} {hs ks : List Command} {tx ty : Afloat} {k : Command} → Abreast x hs tx y (k ∷ ks) ty → Legal false k x × Abreast (after_said_by false k x) hs tx y ks ty
+heard_abreast {x} {y} {hs} {ks} {tx} {ty} {k} a = (a.here.0, later)
+  where
+    later : Abreast (after_said_by false k x) hs tx y ks ty
+    later = record {
+      here = a.here.1;
+      there = a.there;
+      meet = a.meet;
+      goes = sends_heard k x tx a.here.0 a.goes;
+      comes = a.comes;
+      sane = sane_step false k x a.here.0 a.sane;
+      sane_there = a.sane_there;
+    }
 
 -- ---- the one says something
 
--- what is on its way to it stays legal: this half needs nothing of what the other sees
-pub own_run : (c : Command) (ks : List Command) (x : Said) → Legal true c x → LegalRun false ks x → LegalRun false ks (after_said_by true c x)
-own_run c ks x l r = (either_order_all c ks x l r).others
-
-pub own_abreast : (c : Command) {x y : Said} {hs ks : List Command} → Legal true c x → Abreast x hs y ks → Abreast (after_said_by true c x) (hs ++ c ∷ []) y ks
-own_abreast c {x} {y} {hs} {ks} l a = record {
-  here = all.others;
+pub own_abreast : (c : Command) {x y : Said} {hs ks : List Command} {tx ty : Afloat} → Legal true c x → LeavesNoText c x tx → Abreast x hs tx y ks ty → Abreast (after_said_by true c x) (hs ++ c ∷ []) tx y ks ty
+own_abreast c {x} {y} {hs} {ks} {tx} {ty} l quiet a = record {
+  here = own_run c ks x l a.here;
   there = legal_append false hs (c ∷ []) y a.there (right, tt);
-  meet = subst (λ (z : Said). SaidAlike (after_run false ks (after_said_by true c x)) (facing z)) (sym (run_append false hs (c ∷ []) y)) now;
+  meet = subst (λ (z : Said). Mirrors (after_run false ks (after_said_by true c x)) z tx ty) (sym (run_append false hs (c ∷ []) y))
+      (mirrors_alike (alike_back ends.1) (step_faces a.meet sane there c ends.0 (sends_run hs y ty a.there a.comes)));
+  goes = sends_own c x tx l quiet a.goes;
+  comes = a.comes;
+  sane = sane_step true c x l a.sane;
+  sane_there = a.sane_there;
 }
   where
-    all : EitherOrderAll c ks x
-    all = either_order_all c ks x l a.here
+    ends : Legal true c (after_run false ks x) × SaidAlike (after_run false ks (after_said_by true c x)) (after_said_by true c (after_run false ks x))
+    ends = own_end c ks x l a.here
+
+    sane : Sane (after_run false ks x)
+    sane = sane_run false ks x a.here a.sane
+
+    there : Sane (after_run false hs y)
+    there = sane_run false hs y a.there a.sane_there
 
     -- by what the other sees when all of the one has come
-    ends : Said
-    ends = after_run false hs y
-
-    right : Legal false c ends
-    right = legal_alike false c (facing_back ends) (facing_legal true c (facing ends) (legal_alike true c a.meet all.own))
-
-    now : SaidAlike (after_run false ks (after_said_by true c x)) (facing (after_said_by false c ends))
-    now = alike_then (alike_back all.same) (alike_then (after_alike true c a.meet) (alike_back (facing_after false c ends)))
+    right : Legal false c (after_run false hs y)
+    right = legal_faces a.meet c sane there ends.0

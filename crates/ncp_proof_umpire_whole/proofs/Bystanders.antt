@@ -1,5 +1,5 @@
--- A record of two others leaves what is said between a pair: the books of both, what is known of each at its own interface, and
--- the texts that are out.
+-- A record of two others leaves what is said between a pair: the books of both, and what is known of each at its own
+-- interface.
 use Rattle.std.proofs.Common.{◌≡◌, ℕ, ◌==◌, Bool, true, false, ◌&&◌, List, [], ◌∷◌, Result, Ok, refl, sym, subst}
 use Rattle.std.proofs.lemmas.Bool.{eqb-true}
 use Rattle.ncp_leader.specs.declared.leader.Leader.{Leader}
@@ -16,11 +16,11 @@ use Rattle.ncp_umpire.specs.Events.{is_answer, event_behind}
 use Rattle.ncp_umpire.specs.Lives.{SeenBooks}
 use Rattle.ncp_umpire.specs.Tables.{view_in}
 use Rattle.ncp_umpire.specs.Judged.{sees, fresh_out, umpire_after_out, umpire_after_answer, after_in, turn_at, after_said, after_event, after_record}
-use Rattle.ncp_proof_umpire_talk.proofs.Elsewhere.{Alike, alike_same}
+use Rattle.ncp_proof_umpire_seen.proofs.Elsewhere.{Alike, alike_same, alike_both}
 use Rattle.ncp_proof_umpire_talk.proofs.Spoken.{Spoken}
-use Rattle.ncp_proof_umpire_talk.proofs.TidyBooks.{Tidy}
-use Rattle.ncp_proof_umpire_talk.proofs.BooksRead.{said_alikes}
-use Rattle.ncp_proof_umpire_talk.proofs.BooksRecord.{out_books, in_books, answer_books, record_reads}
+use Rattle.ncp_proof_umpire_seen.proofs.TidyBooks.{Tidy}
+use Rattle.ncp_proof_umpire_counts.proofs.BooksRead.{said_alikes}
+use Rattle.ncp_proof_umpire_counts.proofs.BooksRecord.{out_books, in_books, answer_books, record_reads}
 use Rattle.ncp_proof_umpire_talk.proofs.TalkWalk.{AllSpoken, spoken_alike}
 use Rattle.ncp_proof_umpire_many.proofs.Elsewhere.{Spares, IsOfOthers, only}
 
@@ -42,7 +42,9 @@ alike_of a b x y e = subst (λ (w : SeenBooks). Alike a b x w) (sym e) (alike_sa
 
 -- between the one and the other, as it is seen at the one
 pub books_left : (a b at : ℕ) (way : Way) (bits : List Bool) (leader : Leader) (umpire : Umpire) → leader_in bits ≡ Ok leader → IsOfOthers a b at leader.host → Alike a b umpire.books (after_record umpire way at bits).books
-books_left a b at way bits leader umpire led away = subst (λ (r : Result Leader Short). Alike a b umpire.books (after_event U at bits (event_behind way at r)).books) (sym led) (by way)
+books_left a b at way bits leader umpire led away =
+    alike_both a b umpire.books U.books (after_record umpire way at bits).books (record { lives = refl; marks = refl; dues = refl })
+    (subst (λ (r : Result Leader Short). Alike a b U.books (after_event U at bits (event_behind way at r)).books) (sym led) (by way))
   where
     U : Umpire
     U = sees umpire at

@@ -3,34 +3,28 @@
 use Rattle.std.proofs.Common.{◌≡◌, ◌<◌, ℕ, false, List, Bool, Ok, sym, subst}
 use Rattle.ncp_leader.specs.declared.leader.Leader.{Leader}
 use Rattle.ncp_leader.specs.Leader.{leader_in}
+use Rattle.ncp_terms.specs.declared.command.Command.{Command}
 use Rattle.ncp_transcript_two.specs.Between.{Hosts}
 use Rattle.ncp_transcript_two.specs.Seen.{seen}
-use Rattle.ncp_transcript_two.proofs.SeenRuns.{turned}
 use Rattle.ncp_umpire.specs.declared.finding.Rule.{Rule}
 use Rattle.ncp_umpire.specs.declared.umpire.Umpire.{Umpire}
 use Rattle.ncp_umpire.specs.declared.view.View.{View}
 use Rattle.ncp_umpire.specs.declared.way.Way.{Way}
 use Rattle.ncp_umpire.specs.Judged.{new_umpire, after_record}
 use Rattle.ncp_umpire.specs.Tables.{view_in}
-use Rattle.ncp_proof_umpire_talk.proofs.BooksRecord.{record_reads}
-use Rattle.ncp_proof_umpire_talk.proofs.Elsewhere.{Alike}
-use Rattle.ncp_proof_umpire_talk.proofs.SeenBooks.{seen_of}
+use Rattle.ncp_proof_umpire_counts.proofs.BooksRecord.{record_reads}
+use Rattle.ncp_proof_umpire_seen.proofs.Elsewhere.{Alike}
 use Rattle.ncp_proof_umpire_many.specs.Files.{findings_in}
 use Rattle.ncp_proof_umpire_many.specs.ManyFiles.{many_file, NothingFoundAmongMany}
 use Rattle.ncp_proof_umpire_many.proofs.Among.{Lifts, all_among, both_lifts}
 use Rattle.ncp_proof_umpire_many.proofs.Counts.{line}
 use Rattle.ncp_proof_umpire_many.proofs.Elsewhere.{Spares, IsOfOthers, record_spares}
 use Rattle.ncp_proof_umpire_whole.proofs.Bystanders.{books_left, room_before_record, talks_left}
+use Rattle.ncp_proof_umpire_whole.proofs.Abreast.{Afloat}
+use Rattle.ncp_proof_umpire_whole.proofs.Floats.{floats}
 use Rattle.ncp_proof_umpire_whole.proofs.Parleys.{ParleyOf, Known}
-use Rattle.ncp_proof_umpire_whole.proofs.SendsOn.{same_sends}
 use Rattle.ncp_proof_umpire_whole.proofs.Sessions.{Parley, books_parley}
-use Rattle.ncp_proof_umpire_whole.proofs.TextsKept.{Texts, seen_alike}
 use Rattle.ncp_proof_umpire_whole.proofs.WholeWalk.{never, none_of, each_known, known_begins}
-
--- the texts of the one that are out
-texts_left : (w : Hosts) (umpire now : Umpire) → (now.full ≡ false → umpire.full ≡ false) → (now.books.full ≡ false → umpire.books.full ≡ false) → Alike w.number_a w.number_b umpire.books now.books → Texts w umpire → Texts w now
-texts_left w umpire now full room alike t = λ f r owe on unlike filled.
-    same_sends (seen_of w.number_a w.number_b umpire.books) (seen_of w.number_a w.number_b now.books) on (seen_alike w.number_a w.number_b umpire.books now.books alike) (t (full f) (room r) owe on unlike filled)
 
 module _ (w : Hosts) (umpire : Umpire) (at : ℕ) (way : Way) (bits : List Bool) (leader : Leader) (x : at < 256) (y : leader.host < 256) (led : leader_in bits ≡ Ok leader) (away : IsOfOthers w.number_a w.number_b at leader.host) (k : Known w umpire) where
   abbrev now : Umpire
@@ -54,14 +48,23 @@ module _ (w : Hosts) (umpire : Umpire) (at : ℕ) (way : Way) (bits : List Bool)
   room : now.books.full ≡ false → umpire.books.full ≡ false
   room = room_before_record umpire way at bits
 
-  parley_left : now.full ≡ false → now.books.full ≡ false → ParleyOf w now (line (seen w).this (seen w).going) (line (seen w).that (seen w).coming)
+  parley_left : now.full ≡ false → now.books.full ≡ false → ParleyOf w now (line (seen w).this (seen w).going) (line (seen w).that (seen w).coming) (floats (seen w).this (seen w).going) (floats (seen w).that (seen w).coming)
   parley_left f r =
-      subst (λ (v : View). Parley w.number_a w.number_b v (view_in now.views w.number_b w.number_a) now.books (line (seen w).this (seen w).going) (line (seen w).that (seen w).coming)) (sym going.view)
-      (subst (λ (v : View). Parley w.number_a w.number_b (view_in umpire.views w.number_a w.number_b) v now.books (line (seen w).this (seen w).going) (line (seen w).that (seen w).coming)) (sym coming.view)
-      (books_parley w.number_a w.number_b (view_in umpire.views w.number_a w.number_b) (view_in umpire.views w.number_b w.number_a) umpire.books now.books
-      (line (seen w).this (seen w).going)
-      (line (seen w).that (seen w).coming) at_a at_b
-      (k.1.parley (going.full f) (room r))))
+      subst (λ (v : View). Parley w.number_a w.number_b v (view_in now.views w.number_b w.number_a) now.books hl kl ht kt) (sym going.view)
+      (subst (λ (v : View). Parley w.number_a w.number_b (view_in umpire.views w.number_a w.number_b) v now.books hl kl ht kt) (sym coming.view)
+      (books_parley w.number_a w.number_b (view_in umpire.views w.number_a w.number_b) (view_in umpire.views w.number_b w.number_a) umpire.books now.books hl kl ht kt at_a at_b (k.1.parley (going.full f) (room r))))
+    where
+      hl : List Command
+      hl = line (seen w).this (seen w).going
+
+      kl : List Command
+      kl = line (seen w).that (seen w).coming
+
+      ht : Afloat
+      ht = floats (seen w).this (seen w).going
+
+      kt : Afloat
+      kt = floats (seen w).that (seen w).coming
 
   pub known_left : Known w now
   known_left = (
@@ -70,8 +73,6 @@ module _ (w : Hosts) (umpire : Umpire) (at : ℕ) (way : Way) (bits : List Bool)
       talks_a = talks_left w.number_a w.number_b w.a umpire now k.0.at_a.holds going room (record_reads umpire way at bits).tidy at_a k.1.talks_a;
       talks_b = talks_left w.number_b w.number_a w.b umpire now k.0.at_b.holds coming room (record_reads umpire way at bits).tidy at_b k.1.talks_b;
       parley = parley_left;
-      texts_a = texts_left w umpire now going.full room at_a k.1.texts_a;
-      texts_b = texts_left (turned w) umpire now coming.full room at_b k.1.texts_b;
     },
   )
 

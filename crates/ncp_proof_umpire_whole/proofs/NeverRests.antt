@@ -20,7 +20,7 @@ use Rattle.ncp_umpire.specs.Acts.{act_of}
 use Rattle.ncp_umpire.specs.Lives.{SeenBooks}
 use Rattle.ncp_umpire.specs.Views.{awaits_reply, is_answered_too_often, new_view}
 use Rattle.ncp_umpire.specs.Phases.{broken_by, sender, is_text, is_early, early_rule, early_finding, after_thing, hears_reset, again_finding, unquiet_finding, first_finding, reset_findings, view_after_reset, unasked_finding, reply_findings, view_after_reply, act_findings, item_findings, after_item, items_findings, after_room}
-use Rattle.ncp_umpire.specs.Talked.{talk_finding, after_talk, all_findings, talked_findings}
+use Rattle.ncp_umpire.specs.Talked.{talk_finding, number_findings, after_talk, all_findings, talked_findings}
 use Rattle.ncp_umpire.specs.Judged.{changes_slot, view_after_out}
 use Rattle.ncp_umpire.proofs.Passing.{Pass}
 use Rattle.ncp_umpire.proofs.Parted.{pass_parts}
@@ -238,7 +238,9 @@ pub quiet_items : (turn : Turn) (talk : Talk) (kept : List Kept) (items : List (
 quiet_items turn talk kept [] v b p = refl
 quiet_items turn talk kept (item ∷ items) v b p =
     let next = after_item turn item v in
-    let now = after_talk turn talk item v b in
+    let now = after_talk turn talk kept item v b in
+    let of_talk = option_to_list (talk_finding turn talk kept item v b) in
     let parts = pass_parts phase_quiet (all_findings turn talk kept item v b) (talked_findings turn talk kept items next now) p in
-    let one = pass_parts phase_quiet (item_findings turn item v) (option_to_list (talk_finding turn talk kept item v b)) parts.0 in
+    let said = pass_parts phase_quiet (item_findings turn item v ++ of_talk) (number_findings turn talk item v b) parts.0 in
+    let one = pass_parts phase_quiet (item_findings turn item v) of_talk said.0 in
     ap (λ (xs : List Finding). xs ++ items_findings turn items next) (item_none turn item v one.0) ∙ quiet_items turn talk kept items next now parts.1

@@ -20,10 +20,11 @@ use Rattle.ncp_umpire.specs.declared.way.Way.TheVariants.{ToImp}
 use Rattle.ncp_umpire.specs.Lives.{SeenBooks}
 use Rattle.ncp_umpire.specs.Messages.{is_unused, judged_reading, rule_of_message}
 use Rattle.ncp_umpire.specs.Phases.{broken_by, early_finding}
-use Rattle.ncp_umpire.specs.Slots.{is_of, place_of, kept_slot, same_at}
+use Rattle.ncp_umpire.specs.Slots.{is_of, place_of, kept_slot, same_at, busy_link}
 use Rattle.ncp_umpire.specs.Tables.{view_in}
-use Rattle.ncp_umpire.specs.Talked.{talk_of}
-use Rattle.ncp_umpire.specs.Judged.{sees, view_of, slot_of_link, same_of, changes_slot, out_finding, fresh_out, view_after_out, umpire_after_out, turn_at, after_read, books_after_read, said_findings, message_findings, after_said, event_findings, record_findings, after_record}
+use Rattle.ncp_umpire.specs.Talked.{talk_of, text_findings, after_talked_text}
+use Rattle.ncp_umpire.specs.declared.finding.Finding.{Finding}
+use Rattle.ncp_umpire.specs.Judged.{next_number, sees, view_of, slot_of_link, same_of, changes_slot, out_finding, fresh_out, view_after_out, umpire_after_out, turn_at, after_read, books_after_read, said_findings, message_findings, after_said, event_findings, record_findings, after_record}
 use Rattle.ncp_umpire.proofs.Following.{out_is}
 use Rattle.ncp_umpire.proofs.Passing.{goes_to}
 use Rattle.ncp_proof_umpire.proofs.Fresh.{New, is_new}
@@ -31,8 +32,9 @@ use Rattle.ncp_proof_umpire.proofs.Shown.{Shows}
 use Rattle.ncp_proof_umpire.proofs.Talking.{text_found}
 use Rattle.ncp_proof_umpire_many.proofs.AsRead.{items, control_of, text_view}
 use Rattle.ncp_proof_umpire_many.proofs.OwnOut
-use Rattle.ncp_proof_umpire_talk.proofs.BooksRecord.{out_books}
-use Rattle.ncp_proof_umpire_whole.proofs.Sessions.{Parley, empty_rest, views_parley}
+use Rattle.ncp_proof_umpire_counts.proofs.BooksRecord.{out_books, record_reads}
+use Rattle.ncp_proof_umpire_whole.proofs.Abreast.{Afloat, with_float}
+use Rattle.ncp_proof_umpire_whole.proofs.Sessions.{Parley, Floated, empty_front, empty_rest, views_parley, books_parley, text_goes}
 use Rattle.ncp_proof_umpire_whole.proofs.NeverRests.{Awake, out_awake, text_leaves}
 use Rattle.ncp_proof_umpire_whole.proofs.InMessages.{control_goes}
 
@@ -54,7 +56,7 @@ no_option (Some x) e = absurd (cc e)
 module _ (me n on : ℕ) (m : List Bool) (slot : LinkSlot) (p : Peer) (u : Umpire) (differ : (n == me) ≡ false) (apart : (me == n) ≡ false) (small : me < 256) (few : n < 256) (long : length u.views ≡ VIEWS)
     (led : leader_in m ≡ Ok (leader_to n on)) (ready : output_by slot n on p ≡ Some m) (known : (view_in u.views me n).known ≡ true)
     (shown : u.full ≡ false → Shows (filter (is_of me n on) u.kept) slot) (full : (after_record u ToImp me m).full ≡ false) (none : record_findings u ToImp me m ≡ [])
-    (room : (after_record u ToImp me m).books.full ≡ false) (vk : View) (hl kl : List Command) (before : Parley me n (view_in u.views me n) vk u.books hl kl) where
+    (room : (after_record u ToImp me m).books.full ≡ false) (vk : View) (hl kl : List Command) (ht kt : Afloat) (before : Parley me n (view_in u.views me n) vk u.books hl kl ht kt) where
   abbrev A : Umpire
   A = umpire_after_out (sees u me) me n on m
 
@@ -82,8 +84,11 @@ module _ (me n on : ℕ) (m : List Bool) (slot : LinkSlot) (p : Peer) (u : Umpir
   is_fresh : fresh ≡ is_empty slot
   is_fresh = OwnOut.is_fresh_out me n on m slot p u differ small few long led ready told known shown full
 
-  books_A : A.books ≡ u.books
+  books_A : A.books ≡ next_number u.books
   books_A = out_books (sees u me) me n on m
+
+  room_A : A.books.full ≡ false
+  room_A = ap (λ (b : SeenBooks). b.full) books_A ∙ (record_reads u ToImp me m).room room
 
   unchanged : changes_slot (slot_of_link (sees u me) me n on) (same_of (sees u me) me n on m) ≡ false
   unchanged =
@@ -97,10 +102,11 @@ module _ (me n on : ℕ) (m : List Bool) (slot : LinkSlot) (p : Peer) (u : Umpir
   awake_A = subst Awake (sym seen_A) (out_awake v (slot_of_link (sees u me) me n on) (same_of (sees u me) me n on m) unchanged before.awake_h)
 
   -- once it is out, before it is read
-  parley_A : Parley me n (view_in A.views me n) vk A.books hl kl
+  parley_A : Parley me n (view_in A.views me n) vk A.books hl kl ht kt
   parley_A =
-      subst (λ (b : SeenBooks). Parley me n (view_in A.views me n) vk b hl kl) (sym books_A)
-      (views_parley me n (view_in u.views me n) (view_in A.views me n) vk u.books hl kl awake_A (ap (λ (w : View). w.host.wait) seen_A) (ap (λ (w : View). w.owes) seen_A) before)
+      subst (λ (b : SeenBooks). Parley me n (view_in A.views me n) vk b hl kl ht kt) (sym books_A)
+      (books_parley me n (view_in A.views me n) vk u.books (next_number u.books) hl kl ht kt (record { lives = refl; marks = refl; dues = refl }) (record { lives = refl; marks = refl; dues = refl })
+      (views_parley me n (view_in u.views me n) (view_in A.views me n) vk u.books hl kl ht kt awake_A (ap (λ (w : View). w.host.wait) seen_A) (ap (λ (w : View). w.owes) seen_A) before))
 
   is : now ≡ after_said A me n turn fresh (message_in m)
   is = out_is u me n on m led differ
@@ -108,16 +114,16 @@ module _ (me n on : ℕ) (m : List Bool) (slot : LinkSlot) (p : Peer) (u : Umpir
   told_A : view_of A me n ≡ view_in A.views me n
   told_A = view_told A me n awake_A.told full_A
 
-  parley_told : Parley me n (view_of A me n) vk A.books hl kl
-  parley_told = subst (λ (w : View). Parley me n w vk A.books hl kl) (sym told_A) parley_A
+  parley_told : Parley me n (view_of A me n) vk A.books hl kl ht kt
+  parley_told = subst (λ (w : View). Parley me n w vk A.books hl kl ht kt) (sym told_A) parley_A
 
   -- it goes out again
-  pub again : is_empty slot ≡ false → Parley me n (view_in now.views me n) vk now.books hl kl
+  pub again : is_empty slot ≡ false → Parley me n (view_in now.views me n) vk now.books hl kl ht kt
   again e =
-      subst (λ (x : Umpire). Parley me n (view_in x.views me n) vk x.books hl kl) (sym is)
-      (subst (λ (b : Bool). Parley me n (view_in (after_said A me n turn b (message_in m)).views me n) vk (after_said A me n turn b (message_in m)).books hl kl) (sym (is_fresh ∙ e)) (by (message_in m)))
+      subst (λ (x : Umpire). Parley me n (view_in x.views me n) vk x.books hl kl ht kt) (sym is)
+      (subst (λ (b : Bool). Parley me n (view_in (after_said A me n turn b (message_in m)).views me n) vk (after_said A me n turn b (message_in m)).books hl kl ht kt) (sym (is_fresh ∙ e)) (by (message_in m)))
     where
-      by : (r : Result Message MessageFault) → Parley me n (view_in (after_said A me n turn false r).views me n) vk (after_said A me n turn false r).books hl kl
+      by : (r : Result Message MessageFault) → Parley me n (view_in (after_said A me n turn false r).views me n) vk (after_said A me n turn false r).books hl kl ht kt
       by (Ok x) = parley_A
       by (Err x) = parley_A
 
@@ -133,27 +139,49 @@ module _ (me n on : ℕ) (m : List Bool) (slot : LinkSlot) (p : Peer) (u : Umpir
     view_now : view_in now.views me n ≡ after_read (judged_reading x) turn x.text (view_of A me n)
     view_now = OwnOut.read_on me n on m slot p u differ small few long led ready told known shown full x new reads
 
-    books_now : now.books ≡ books_after_read (judged_reading x) turn (talk_of me n turn) x.leader.link x.text (view_of A me n) A.books
+    books_now : now.books ≡ books_after_read turn (talk_of me n turn) A.kept x (view_of A me n) A.books (judged_reading x)
     books_now =
         ap (λ (y : Umpire). y.books) is ∙ ap (λ (b : Bool). (after_said A me n turn b (message_in m)).books) (is_fresh ∙ new)
         ∙ ap (λ (r : Result Message MessageFault). (after_said A me n turn true r).books) reads
 
   -- a text
-  pub text : (size : ℕ) (bits : List Bool) → is_empty slot ≡ true → is_unused on ≡ false → (on == 0) ≡ false → message_in m ≡ Ok (message_with (leader_to n on) size bits) → Parley me n (view_in now.views me n) vk now.books hl kl
-  text size bits new right z reads =
-      let x : Message = message_with (leader_to n on) size bits in
-      let early : early_finding turn Thing.Text (view_of A me n) ≡ None = no_option (early_finding turn Thing.Text (view_of A me n)) (sym (text_found A me n me true x right z) ∙ unsaid x new reads) in
-      subst (λ (w : View). Parley me n w vk now.books hl kl)
+  pub text : (size : ℕ) (bits : List Bool) → is_empty slot ≡ true → is_unused on ≡ false → (on == 0) ≡ false → ht on ≡ None → message_in m ≡ Ok (message_with (leader_to n on) size bits)
+      → Parley me n (view_in now.views me n) vk now.books hl kl (with_float on (Some (size, length bits)) ht) kt
+  text size bits new right z none_out reads =
+      subst (λ (w : View). Parley me n w vk now.books hl kl now_out kt)
       (sym (view_now x new reads ∙ text_view me turn.busy turn.zero true x (view_of A me n) right z ∙ text_leaves turn (view_of A me n) parley_told.awake_h.told early))
-      (subst (λ (b : SeenBooks). Parley me n (view_of A me n) vk b hl kl) (sym (books_now x new reads ∙ leaves x right z)) parley_told)
+      (subst (λ (b : SeenBooks). Parley me n (view_of A me n) vk b hl kl now_out kt) (sym books)
+      (text_goes me n me turn.busy turn.zero on x (view_of A me n) vk A.books hl kl ht kt apart room_A none_out early (empty_rest found_early found_text found) parley_told))
     where
-      leaves : (x : Message) → is_unused x.leader.link ≡ false → (x.leader.link == 0) ≡ false → books_after_read (judged_reading x) turn (talk_of me n turn) x.leader.link x.text (view_of A me n) A.books ≡ A.books
-      leaves x right z = rw (right, z) refl
+      x : Message
+      x = message_with (leader_to n on) size bits
+
+      now_out : Afloat
+      now_out = with_float on (Some (size, length bits)) ht
+
+      found_early : List Finding
+      found_early = option_to_list (early_finding turn Thing.Text (view_of A me n))
+
+      found_text : List Finding
+      found_text = text_findings turn (talk_of me n turn) on x (view_of A me n) A.books
+
+      found : found_early ++ found_text ≡ []
+      found = sym (text_found A me n me true x right z) ∙ unsaid x new reads
+
+      early : early_finding turn Thing.Text (view_of A me n) ≡ None
+      early = no_option (early_finding turn Thing.Text (view_of A me n)) (empty_front found_early found_text found)
+
+      leaves : (y : Message) → is_unused y.leader.link ≡ false → (y.leader.link == 0) ≡ false
+          → books_after_read turn (talk_of me n turn) A.kept y (view_of A me n) A.books (judged_reading y) ≡ after_talked_text turn (talk_of me n turn) y.leader.link y (view_of A me n) A.books
+      leaves y right z = rw (right, z) refl
+
+      books : now.books ≡ after_talked_text turn (talk_of me n turn) on x (view_of A me n) A.books
+      books = books_now x new reads ∙ leaves x right z
 
   -- commands
-  pub commands : (cs : List Command) → is_empty slot ≡ true → All IsCommand cs → message_in m ≡ Ok (control_of n cs) → Parley me n (view_in now.views me n) vk now.books (hl ++ cs) kl
-  commands cs new each reads =
-      subst (λ (w : View). Parley me n w vk now.books (hl ++ cs) kl) (sym (view_now (control_of n cs) new reads))
-      (subst (λ (b : SeenBooks). Parley me n (after_read (judged_reading (control_of n cs)) turn (bits_of_bytes (spellings cs)) (view_of A me n)) vk b (hl ++ cs) kl) (sym (books_now (control_of n cs) new reads))
-      (control_goes me n turn.busy turn.zero A.kept (bits_of_bytes (spellings cs)) cs (view_of A me n) vk A.books hl kl apart (items cs each) (unsaid (control_of n cs) new reads)
+  pub commands : (cs : List Command) → is_empty slot ≡ true → All IsCommand cs → Floated me n (busy_link me n A.kept) A.kept ht → message_in m ≡ Ok (control_of n cs) → Parley me n (view_in now.views me n) vk now.books (hl ++ cs) kl ht kt
+  commands cs new each shows reads =
+      subst (λ (w : View). Parley me n w vk now.books (hl ++ cs) kl ht kt) (sym (view_now (control_of n cs) new reads))
+      (subst (λ (b : SeenBooks). Parley me n (after_read (judged_reading (control_of n cs)) turn (bits_of_bytes (spellings cs)) (view_of A me n)) vk b (hl ++ cs) kl ht kt) (sym (books_now (control_of n cs) new reads))
+      (control_goes me n turn.busy turn.zero A.kept (bits_of_bytes (spellings cs)) cs (view_of A me n) vk A.books hl kl ht kt apart shows (items cs each) (unsaid (control_of n cs) new reads)
       (ap (λ (b : SeenBooks). b.full) (sym (books_now (control_of n cs) new reads)) ∙ room) parley_told))

@@ -10,36 +10,27 @@ use Rattle.ncp_umpire.specs.Tables.{view_in}
 use Rattle.ncp_proof_umpire_many.proofs.Both.{Both, turn_both}
 use Rattle.ncp_proof_umpire_many.proofs.Counts.{line}
 use Rattle.ncp_proof_umpire_talk.proofs.TalkWalk.{AllSpoken}
+use Rattle.ncp_proof_umpire_whole.proofs.Abreast.{Afloat}
+use Rattle.ncp_proof_umpire_whole.proofs.Floats.{floats}
 use Rattle.ncp_proof_umpire_whole.proofs.Sessions.{Parley, turn_parley}
-use Rattle.ncp_proof_umpire_whole.proofs.TextsKept.{Texts, Calm}
 
-abbrev pub ParleyOf : Hosts → Umpire → List Command → List Command → Type 0
+abbrev pub ParleyOf : Hosts → Umpire → List Command → List Command → Afloat → Afloat → Type 0
 ParleyOf w umpire going coming =
     Parley w.number_a w.number_b (view_in umpire.views w.number_a w.number_b) (view_in umpire.views w.number_b w.number_a) umpire.books going coming
 
 pub record Parleys (w : Hosts) (umpire : Umpire) : Type 0 where
   pub talks_a : AllSpoken w.number_a w.a umpire
   pub talks_b : AllSpoken w.number_b w.b umpire
-  pub parley : umpire.full ≡ false → umpire.books.full ≡ false → ParleyOf w umpire (line (seen w).this (seen w).going) (line (seen w).that (seen w).coming)
-  pub texts_a : Texts w umpire
-  pub texts_b : Texts (turned w) umpire
-
--- so nothing rests at the interface of side A
-pub calm_by : (w : Hosts) (umpire : Umpire) (going coming : List Command) → (umpire.full ≡ false → umpire.books.full ≡ false → ParleyOf w umpire going coming) → Calm w umpire
-calm_by w umpire going coming k f r = let p = k f r in (p.awake_h.rests, p.session.at_h.calm)
-
--- nor at that of side B
-pub calm_back : (w : Hosts) (umpire : Umpire) (going coming : List Command) → (umpire.full ≡ false → umpire.books.full ≡ false → ParleyOf w umpire going coming) → Calm (turned w) umpire
-calm_back w umpire going coming k f r = let p = k f r in (p.awake_k.rests, p.session.at_k.calm)
+  pub parley : umpire.full ≡ false → umpire.books.full ≡ false
+      → ParleyOf w umpire (line (seen w).this (seen w).going) (line (seen w).that (seen w).coming) (floats (seen w).this (seen w).going) (floats (seen w).that (seen w).coming)
 
 turn_parleys : (w : Hosts) (umpire : Umpire) → Parleys w umpire → Parleys (turned w) umpire
 turn_parleys w umpire k = record {
   talks_a = k.talks_b;
   talks_b = k.talks_a;
   parley = λ f r.
-      turn_parley w.number_a w.number_b (view_in umpire.views w.number_a w.number_b) (view_in umpire.views w.number_b w.number_a) umpire.books (line (seen w).this (seen w).going) (line (seen w).that (seen w).coming) (k.parley f r);
-  texts_a = k.texts_b;
-  texts_b = k.texts_a;
+      turn_parley w.number_a w.number_b (view_in umpire.views w.number_a w.number_b) (view_in umpire.views w.number_b w.number_a) umpire.books (line (seen w).this (seen w).going) (line (seen w).that (seen w).coming)
+      (floats (seen w).this (seen w).going) (floats (seen w).that (seen w).coming) (k.parley f r);
 }
 
 -- with what is known of the phases

@@ -1,64 +1,89 @@
 -- The books between a host and another, read as what was said between the two, where nothing rests: each connection is there
--- once, with its shape; no link and no echo rests; and of replies the ERPs alone are owed, each for the ECO that had none.
-use Rattle.std.proofs.Common.{◌≡◌, ℕ, ◌==◌, Bool, true, false, not, ◌&&◌, ◌||◌, if◌then◌else◌, List, [], ◌∷◌, Option, None, Some, is_some, eq-eqb, refl, sym, ap, ◌∙◌, subst}
+-- once, with its shape and what is counted of it; no link and no echo rests, and no ERR about a text is admitted; and of
+-- replies the ERPs and RETs are due that each owes, in order.
+use Rattle.std.proofs.Common.{◌≡◌, ℕ, ◌==◌, Bool, true, false, not, ◌&&◌, ◌||◌, if◌then◌else◌, List, [], ◌∷◌, Option, None, Some, refl, sym, ap, ◌∙◌, subst}
 use Rattle.std.specs.List.{filter, list_any, position}
 use Rattle.std.proofs.Math.Bool.{beq}
 use Rattle.std.proofs.lemmas.Bool.{and_parts}
 use Rattle.ncp_umpire.specs.declared.due.Due.{Due}
-use Rattle.ncp_umpire.specs.declared.due.Wanted.{Wanted}
 use Rattle.ncp_umpire.specs.declared.life.Life.{Life}
+use Rattle.ncp_umpire.specs.declared.life.Mark.{Mark}
 use Rattle.ncp_umpire.specs.declared.life.Topic.{Topic}
-use Rattle.ncp_umpire.specs.Lives.{SeenBooks, no_books, is_of_sockets, is_life_between, is_mark_between, is_due_between, same_topic, is_topic, is_marked, books_cleared}
+use Rattle.ncp_umpire.specs.Lives.{SeenBooks, no_books, is_of_sockets, is_life_between, is_mark_between, is_due_between, life_in_place, same_topic, is_topic, is_marked, put_life, books_cleared}
 use Rattle.ncp_umpire.specs.Replies.{is_due_of}
-use Rattle.ncp_umpire.specs.Requests.{is_of_sexes}
-use Rattle.ncp_umpire.specs.Speaking.{is_owed, reply_at, reply_left_out, after_all_said}
-use Rattle.ncp_umpire.proofs.Shapes.{Shape, Say}
+use Rattle.ncp_umpire.specs.Speaking.{is_owed, is_admission, is_admission_of, reply_at, reply_left_out, after_all_said}
+use Rattle.ncp_umpire.proofs.Shapes.{Shape}
 use Rattle.ncp_umpire.proofs.LinkOrder.{Sockets, same, same_is, put}
 use Rattle.ncp_umpire.proofs.Firsts.{first, none_first, Unique, unique_filter}
 use Rattle.ncp_umpire.proofs.Seeing.{seen}
-use Rattle.ncp_proof_umpire_talk.proofs.SeenBooks.{step, life_seen, seen_of, is_resting, rests_of, OneSeen}
+use Rattle.ncp_proof_umpire_seen.proofs.SeenBooks.{life_seen, seen_of, is_resting, rests_of, OneSeen}
 use Rattle.ncp_proof_umpire_talk.proofs.Spoken.{Clear}
 use Rattle.ncp_proof_umpire_talk.proofs.Begun.{clear_life, clear_mark, clear_cleared}
-use Rattle.ncp_proof_umpire_talk.proofs.Filtered.{Within, first_within, any_within, unique_within, filter_others, filter_none}
-use Rattle.ncp_proof_umpire_talk.proofs.Elsewhere.{Alike}
-use Rattle.ncp_proof_umpire_whole.proofs.Said.{Said, unspoken, SaidAlike, echo_by}
+use Rattle.ncp_proof_umpire_seen.proofs.Filtered.{Within, first_within, any_within, unique_within, filter_others, filter_none}
+use Rattle.ncp_proof_umpire_seen.proofs.Elsewhere.{Alike}
+use Rattle.ncp_proof_umpire_seen.proofs.TidyBooks.{numbered}
+use Rattle.ncp_proof_umpire_counts.proofs.LinkPlaces.{UserAt, renumbered_here, renumbered_others, renumbered_seen, renumbered_rests, renumbered_unique}
+use Rattle.ncp_proof_umpire_counts.proofs.PlainSteps.{kept_marks}
+use Rattle.ncp_proof_umpire_counts.proofs.Words.{Count, count_of}
+use Rattle.ncp_proof_umpire_whole.proofs.Tallied.{Owing, Echoes, Returning, left_by, has_both, has_echo}
+use Rattle.ncp_proof_umpire_whole.proofs.Said.{Said, unspoken, SaidAlike, without_owed}
+use Rattle.ncp_proof_umpire_whole.proofs.UsersSaid.{IsConnected, fit_none, fit_alike}
+use Rattle.ncp_proof_umpire_whole.proofs.DuesOwed.{AreDue, IsOwedRightly, OwesRightly, none_echoes}
 
--- the ERP that is owed: by the host to the other, or by the other to the host
-abbrev pub echo_due : ℕ → ℕ → Bool → Option ℕ → List Due
-echo_due me n host None = []
-echo_due me n host (Some byte) = record { at = me; peer = n; host = host; wanted = Wanted.Echo byte; sure = true } ∷ []
-
--- one of the two sockets is a receiver's, and the other a sender's
-abbrev pub is_sexed : Sockets → Bool
-is_sexed u = is_of_sexes u.0 u.1 || is_of_sexes u.1 u.0
+-- what each owes is owed rightly
+abbrev pub OweRightly : Said → Type 0
+OweRightly x = (s : Bool) → OwesRightly s x.shapes x.users x.counts (x.owing s)
 
 pub record ReadAs (me n : ℕ) (b : SeenBooks) (x : Said) : Type 0 where
   pub shapes : (u : Sockets) → seen_of me n b u ≡ x.shapes u
+  pub counts : (u : Sockets) → count_of (life_seen me n b u) ≡ x.counts u
   pub calm : (u : Sockets) → rests_of me n b u ≡ false
   pub unique : (u : Sockets) → Unique (is_of_sockets me n u.0 u.1) b.lives
-  pub sexed : (u : Sockets) → is_some (x.shapes u) ≡ true → is_sexed u ≡ true
   pub links : (on : Bool) (link : ℕ) → is_marked me n (Topic.LinkRests on link) b ≡ false
   pub echoes : (host : Bool) → is_marked me n (Topic.EchoesRest host) b ≡ false
-  pub asks : (host : Bool) → is_marked me n (Topic.Asks host) b ≡ is_some (echo_by host x)
-  pub dues : (host : Bool) → filter (is_due_of me n host) b.dues ≡ echo_due me n host (echo_by (not host) x)
+  pub admits : (host : Bool) (bytes : List ℕ) → is_marked me n (Topic.Admits host bytes) b ≡ false
+  pub asks : (host : Bool) → is_marked me n (Topic.Asks host) b ≡ has_echo (x.owing (not host))
+  pub dues : (s : Bool) → AreDue s (filter (is_due_of me n s) b.dues) (x.owing s)
+  pub returning : OweRightly x
+  pub fit : IsConnected x
 
 -- ---- as the same that was said
+
+owes_same : (s : Bool) (m m2 : Sockets → Option Shape) (users users2 : Bool → ℕ → Option Sockets) (counts counts2 : Sockets → Count) → ((u : Sockets) → m u ≡ m2 u) → ((r : Bool) (link : ℕ) → users r link ≡ users2 r link) → ((u : Sockets) → counts u ≡ counts2 u)
+    → (owing : List Owing) → OwesRightly s m users counts owing → OwesRightly s m2 users2 counts2 owing
+owes_same s m m2 users users2 counts counts2 k j i [] o = tt
+owes_same s m m2 users users2 counts counts2 k j i (o ∷ owing) (h, rest) = (go o h, owes_same s m m2 users users2 counts counts2 k j i owing rest)
+  where
+    go : (o : Owing) → IsOwedRightly s m users counts o owing → IsOwedRightly s m2 users2 counts2 o owing
+    go (Echoes byte) h = h
+    go (Returning u link messages bits) h = record {
+      recalled = ap (λ (c : Count). c.recall) (sym (i u)) ∙ h.recalled;
+      user = sym (j (not s) link) ∙ h.user;
+      sends = h.sends;
+      both = ap has_both (sym (k u)) ∙ h.both;
+      stays = ap (left_by s) (sym (k u)) ∙ h.stays;
+      once = h.once;
+    }
+
+owes_alike : (x y : Said) → SaidAlike x y → OweRightly x → OweRightly y
+owes_alike x y k o s =
+    subst (OwesRightly s y.shapes y.users y.counts) (k.owing s)
+    (owes_same s x.shapes y.shapes x.users y.users x.counts y.counts k.shapes k.users k.counts (x.owing s) (o s))
 
 pub read_as_alike : (me n : ℕ) (b : SeenBooks) (x y : Said) → SaidAlike x y → ReadAs me n b x → ReadAs me n b y
 read_as_alike me n b x y k r = record {
   shapes = λ u. r.shapes u ∙ k.shapes u;
+  counts = λ u. r.counts u ∙ k.counts u;
   calm = r.calm;
   unique = r.unique;
-  sexed = λ u s. r.sexed u (ap is_some (k.shapes u) ∙ s);
   links = r.links;
   echoes = r.echoes;
-  asks = λ host. r.asks host ∙ ap is_some (echo host);
-  dues = λ host. r.dues host ∙ ap (echo_due me n host) (echo (not host));
+  admits = r.admits;
+  asks = λ host. r.asks host ∙ ap has_echo (k.owing (not host));
+  dues = λ s. subst (AreDue s (filter (is_due_of me n s) b.dues)) (k.owing s) (r.dues s);
+  returning = owes_alike x y k r.returning;
+  fit = fit_alike x.shapes x.users x.counts y.shapes y.users y.counts k.shapes k.users k.counts r.fit;
 }
-  where
-    echo : (host : Bool) → echo_by host x ≡ echo_by host y
-    echo true = k.mine
-    echo false = k.theirs
 
 -- ---- what is looked at is between the two
 
@@ -97,18 +122,20 @@ module _ (me n : ℕ) where
   clear_read : (b : SeenBooks) → Clear me n b → ReadAs me n b unspoken
   clear_read b clear = record {
     shapes = λ u. ap seen (clear_life me n b clear u);
+    counts = λ u. ap count_of (clear_life me n b clear u);
     calm = λ u. ap is_resting (clear_life me n b clear u);
     unique = λ u. unique_within (is_of_sockets me n u.0 u.1) (is_life_between me n) (within_lives u) b.lives (subst (Unique (is_of_sockets me n u.0 u.1)) (sym clear.0) tt);
-    sexed = λ u s. absurd (cc s);
     links = λ on link. clear_mark me n b clear (Topic.LinkRests on link);
     echoes = λ host. clear_mark me n b clear (Topic.EchoesRest host);
-    asks = λ host. clear_mark me n b clear (Topic.Asks host) ∙ sym (ap is_some (none host));
-    dues = λ host. sym (filter_within (is_due_of me n host) (is_due_between me n) (within_dues host) b.dues) ∙ ap (filter (is_due_of me n host)) clear.1.1 ∙ sym (ap (echo_due me n host) (none (not host)));
+    admits = λ host bytes. clear_mark me n b clear (Topic.Admits host bytes);
+    asks = λ host. clear_mark me n b clear (Topic.Asks host);
+    dues = λ s. subst (λ (ds : List Due). AreDue s ds []) (sym (none s)) tt;
+    returning = λ s. tt;
+    fit = fit_none;
   }
     where
-      none : (host : Bool) → echo_by host unspoken ≡ None
-      none true = refl
-      none false = refl
+      none : (s : Bool) → filter (is_due_of me n s) b.dues ≡ []
+      none s = sym (filter_within (is_due_of me n s) (is_due_between me n) (within_dues s) b.dues) ∙ ap (filter (is_due_of me n s)) clear.1.1
 
   pub read_cleared : (b : SeenBooks) → ReadAs me n (books_cleared me n b) unspoken
   read_cleared b = clear_read (books_cleared me n b) (clear_cleared me n b)
@@ -121,14 +148,17 @@ module _ (me n : ℕ) where
   pub read_others : (b now : SeenBooks) (x : Said) → Alike me n b now → ReadAs me n b x → ReadAs me n now x
   read_others b now x k r = record {
     shapes = λ u. ap seen (lives u) ∙ r.shapes u;
+    counts = λ u. ap count_of (lives u) ∙ r.counts u;
     calm = λ u. ap is_resting (lives u) ∙ r.calm u;
     unique = λ u. unique_within (is_of_sockets me n u.0 u.1) (is_life_between me n) (within_lives u) now.lives
         (subst (Unique (is_of_sockets me n u.0 u.1)) (sym k.lives) (unique_filter (is_of_sockets me n u.0 u.1) (is_life_between me n) b.lives (r.unique u)));
-    sexed = r.sexed;
     links = λ on link. marks (Topic.LinkRests on link) ∙ r.links on link;
     echoes = λ host. marks (Topic.EchoesRest host) ∙ r.echoes host;
+    admits = λ host bytes. marks (Topic.Admits host bytes) ∙ r.admits host bytes;
     asks = λ host. marks (Topic.Asks host) ∙ r.asks host;
-    dues = λ host. sym (filter_within (is_due_of me n host) (is_due_between me n) (within_dues host) now.dues) ∙ ap (filter (is_due_of me n host)) k.dues ∙ filter_within (is_due_of me n host) (is_due_between me n) (within_dues host) b.dues ∙ r.dues host;
+    dues = λ s. subst (λ (ds : List Due). AreDue s ds (x.owing s)) (sym (dues s)) (r.dues s);
+    returning = r.returning;
+    fit = r.fit;
   }
     where
       lives : (u : Sockets) → life_seen me n now u ≡ life_seen me n b u
@@ -143,98 +173,170 @@ module _ (me n : ℕ) where
           ∙ ap (list_any (is_topic me n what)) k.marks
           ∙ any_within (is_topic me n what) (is_mark_between me n) (within_marks what) b.marks
 
+      dues : (s : Bool) → filter (is_due_of me n s) now.dues ≡ filter (is_due_of me n s) b.dues
+      dues s =
+          sym (filter_within (is_due_of me n s) (is_due_between me n) (within_dues s) now.dues) ∙ ap (filter (is_due_of me n s)) k.dues
+          ∙ filter_within (is_due_of me n s) (is_due_between me n) (within_dues s) b.dues
+
   -- ---- one connection is another
 
-  pub read_one : (b after : SeenBooks) (x : Said) (p : Sockets) (by : Bool) (c : Say) → OneSeen me n b after p (step by c (seen_of me n b p)) → (is_some (step by c (x.shapes p)) ≡ true → is_sexed p ≡ true) → ReadAs me n b x
-      → ReadAs me n after (record x { shapes = put x.shapes p (step by c (x.shapes p)) })
-  read_one b after x p by c one sex r = record {
-    shapes = λ u. one.seen u ∙ shape u (same u p);
-    calm = λ u. calm u (same u p) refl;
-    unique = one.unique r.unique;
-    sexed = λ u s. sexed u (same u p) refl s;
+  pub read_one : (b mid after : SeenBooks) (x y : Said) (p : Sockets) (m now : Option Shape) → OneSeen me n b mid p m → after.lives ≡ mid.lives → after.marks ≡ mid.marks → m ≡ now → ((u : Sockets) → put x.shapes p now u ≡ y.shapes u)
+      → count_of (life_seen me n mid p) ≡ y.counts p → ((u : Sockets) → same u p ≡ false → x.counts u ≡ y.counts u) → ((s : Bool) → has_echo (x.owing s) ≡ has_echo (y.owing s))
+      → ((s : Bool) → AreDue s (filter (is_due_of me n s) after.dues) (y.owing s)) → OweRightly y → IsConnected y → ReadAs me n b x → ReadAs me n after y
+  read_one b mid after x y p m now one l k is shapes here there echo dues owes fit r = record {
+    shapes = λ u. ap seen (lives u) ∙ one.seen u ∙ shape u (same u p) ∙ shapes u;
+    counts = λ u. ap count_of (lives u) ∙ count u (same u p) refl;
+    calm = λ u. ap is_resting (lives u) ∙ calm u (same u p) refl;
+    unique = λ u. subst (Unique (is_of_sockets me n u.0 u.1)) (sym l) (one.unique r.unique u);
     links = λ on link. marks (Topic.LinkRests on link) ∙ r.links on link;
     echoes = λ host. marks (Topic.EchoesRest host) ∙ r.echoes host;
-    asks = λ host. marks (Topic.Asks host) ∙ r.asks host ∙ ap is_some (echo host);
-    dues = λ host. ap (filter (is_due_of me n host)) one.dues ∙ r.dues host ∙ ap (echo_due me n host) (echo (not host));
+    admits = λ host bytes. marks (Topic.Admits host bytes) ∙ r.admits host bytes;
+    asks = λ host. marks (Topic.Asks host) ∙ r.asks host ∙ echo (not host);
+    dues = dues;
+    returning = owes;
+    fit = fit;
   }
     where
-      shape : (u : Sockets) (y : Bool) → (if y then step by c (seen_of me n b p) else seen_of me n b u) ≡ (if y then step by c (x.shapes p) else x.shapes u)
-      shape u true = ap (step by c) (r.shapes p)
+      lives : (u : Sockets) → life_seen me n after u ≡ life_seen me n mid u
+      lives u = ap (first (is_of_sockets me n u.0 u.1)) l
+
+      shape : (u : Sockets) (z : Bool) → (if z then m else seen_of me n b u) ≡ (if z then now else x.shapes u)
+      shape u true = is
       shape u false = r.shapes u
 
-      calm : (u : Sockets) (y : Bool) → same u p ≡ y → rests_of me n after u ≡ false
-      calm u true e = ap (rests_of me n after) (same_is u p e) ∙ one.calm (r.calm p)
+      count : (u : Sockets) (z : Bool) → same u p ≡ z → count_of (life_seen me n mid u) ≡ y.counts u
+      count u true e = ap (λ (v : Sockets). count_of (life_seen me n mid v)) (same_is u p e) ∙ here ∙ ap y.counts (sym (same_is u p e))
+      count u false e = ap count_of (one.others u e) ∙ r.counts u ∙ there u e
+
+      calm : (u : Sockets) (z : Bool) → same u p ≡ z → rests_of me n mid u ≡ false
+      calm u true e = ap (rests_of me n mid) (same_is u p e) ∙ one.calm (r.calm p)
       calm u false e = ap is_resting (one.others u e) ∙ r.calm u
 
-      sexed : (u : Sockets) (y : Bool) → same u p ≡ y → is_some (if y then step by c (x.shapes p) else x.shapes u) ≡ true → is_sexed u ≡ true
-      sexed u true e s = ap is_sexed (same_is u p e) ∙ sex s
-      sexed u false e s = r.sexed u s
-
       marks : (what : Topic) → is_marked me n what after ≡ is_marked me n what b
-      marks what = ap (list_any (is_topic me n what)) one.marks
-
-      echo : (host : Bool) → echo_by host x ≡ echo_by host (record x { shapes = put x.shapes p (step by c (x.shapes p)) })
-      echo true = refl
-      echo false = refl
+      marks what = ap (list_any (is_topic me n what)) (k ∙ one.marks)
 
   -- ---- other books with the same connections
 
-  pub read_lives : (b after : SeenBooks) (x y : Said) → after.lives ≡ b.lives → x.shapes ≡ y.shapes → ((on : Bool) (link : ℕ) → is_marked me n (Topic.LinkRests on link) after ≡ false) → ((host : Bool) → is_marked me n (Topic.EchoesRest host) after ≡ false)
-      → ((host : Bool) → is_marked me n (Topic.Asks host) after ≡ is_some (echo_by host y)) → ((host : Bool) → filter (is_due_of me n host) after.dues ≡ echo_due me n host (echo_by (not host) y)) → ReadAs me n b x → ReadAs me n after y
-  read_lives b after x y l e links echoes asks dues r = record {
-    shapes = λ u. ap (λ (xs : List Life). seen (first (is_of_sockets me n u.0 u.1) xs)) l ∙ r.shapes u ∙ ap (λ (f : Sockets → Option Shape). f u) e;
+  pub read_lives : (b after : SeenBooks) (x y : Said) → after.lives ≡ b.lives → ((u : Sockets) → x.shapes u ≡ y.shapes u) → ((u : Sockets) → x.counts u ≡ y.counts u) → ((on : Bool) (link : ℕ) → is_marked me n (Topic.LinkRests on link) after ≡ false)
+      → ((host : Bool) → is_marked me n (Topic.EchoesRest host) after ≡ false) → ((host : Bool) (bytes : List ℕ) → is_marked me n (Topic.Admits host bytes) after ≡ false)
+      → ((host : Bool) → is_marked me n (Topic.Asks host) after ≡ has_echo (y.owing (not host))) → ((s : Bool) → AreDue s (filter (is_due_of me n s) after.dues) (y.owing s)) → OweRightly y → IsConnected y → ReadAs me n b x → ReadAs me n after y
+  read_lives b after x y l shapes counts links echoes admits asks dues owes fit r = record {
+    shapes = λ u. ap (λ (xs : List Life). seen (first (is_of_sockets me n u.0 u.1) xs)) l ∙ r.shapes u ∙ shapes u;
+    counts = λ u. ap (λ (xs : List Life). count_of (first (is_of_sockets me n u.0 u.1) xs)) l ∙ r.counts u ∙ counts u;
     calm = λ u. ap (λ (xs : List Life). is_resting (first (is_of_sockets me n u.0 u.1) xs)) l ∙ r.calm u;
     unique = λ u. subst (Unique (is_of_sockets me n u.0 u.1)) (sym l) (r.unique u);
-    sexed = λ u s. r.sexed u (ap (λ (f : Sockets → Option Shape). is_some (f u)) e ∙ s);
     links = links;
     echoes = echoes;
+    admits = admits;
     asks = asks;
     dues = dues;
+    returning = owes;
+    fit = fit;
   }
 
--- ---- no reply is left out: then the host owes none, and none is struck
+  -- ---- the connection that has a link has other numbers
+
+  pub record Renumbers (b after : SeenBooks) (host : Bool) (link : ℕ) (u : Sockets) (user : UserAt me n host link b u) (k : Count) (came : Bool) : Type 0 where
+    pub lives : after.lives ≡ (put_life b (Some user.place) (numbered k.messages k.bits k.recall came (life_in_place b.lives user.place))).lives
+    pub marks : after.marks ≡ b.marks
+
+  pub read_numbered : (b after : SeenBooks) (x y : Said) (host : Bool) (link : ℕ) (u : Sockets) (user : UserAt me n host link b u) (c : Count) (came : Bool) → Renumbers b after host link u user c came
+      → ((v : Sockets) → x.shapes v ≡ y.shapes v) → y.counts u ≡ c → ((v : Sockets) → same v u ≡ false → x.counts v ≡ y.counts v)
+      → ((s : Bool) → has_echo (x.owing s) ≡ has_echo (y.owing s)) → ((s : Bool) → AreDue s (filter (is_due_of me n s) after.dues) (y.owing s)) → OweRightly y → IsConnected y → ReadAs me n b x → ReadAs me n after y
+  read_numbered b after x y host link u user c came k shapes here there echo dues owes fit r = record {
+    shapes = λ v. ap (λ (xs : List Life). seen (first (is_of_sockets me n v.0 v.1) xs)) k.lives ∙ renumbered_seen me n host link b u user c.messages c.bits c.recall came r.unique v ∙ r.shapes v ∙ shapes v;
+    counts = λ v. ap (λ (xs : List Life). count_of (first (is_of_sockets me n v.0 v.1) xs)) k.lives ∙ count v (same v u) refl;
+    calm = λ v. ap (λ (xs : List Life). is_resting (first (is_of_sockets me n v.0 v.1) xs)) k.lives ∙ renumbered_rests me n host link b u user c.messages c.bits c.recall came r.unique v ∙ r.calm v;
+    unique = λ v. subst (Unique (is_of_sockets me n v.0 v.1)) (sym k.lives) (renumbered_unique me n host link b u user c.messages c.bits c.recall came r.unique v);
+    links = λ on l. marks (Topic.LinkRests on l) ∙ r.links on l;
+    echoes = λ h. marks (Topic.EchoesRest h) ∙ r.echoes h;
+    admits = λ h bytes. marks (Topic.Admits h bytes) ∙ r.admits h bytes;
+    asks = λ h. marks (Topic.Asks h) ∙ r.asks h ∙ echo (not h);
+    dues = dues;
+    returning = owes;
+    fit = fit;
+  }
+    where
+      marks : (what : Topic) → is_marked me n what after ≡ is_marked me n what b
+      marks what = ap (list_any (is_topic me n what)) k.marks
+
+      now : SeenBooks
+      now = put_life b (Some user.place) (numbered c.messages c.bits c.recall came (life_in_place b.lives user.place))
+
+      count : (v : Sockets) (z : Bool) → same v u ≡ z → count_of (life_seen me n now v) ≡ y.counts v
+      count v true e =
+          ap (λ (w : Sockets). count_of (life_seen me n now w)) (same_is v u e) ∙ ap count_of (renumbered_here me n host link b u user c.messages c.bits c.recall came r.unique) ∙ sym here
+          ∙ ap y.counts (sym (same_is v u e))
+      count v false e = ap count_of (renumbered_others me n host link b u user c.messages c.bits c.recall came v e) ∙ r.counts v ∙ there v e
+
+-- ---- no reply is left out: then the host owes no ERP, and nothing is due of it any more
 
 unfound : (dues : List Due) (o : Option ℕ) → reply_at dues o ≡ None → o ≡ None
 unfound dues None e = refl
 unfound dues (Some i) e = absurd (cc e)
 
--- the sure ones of a part are among all
-none_sure : (own : Due → Bool) (dues : List Due) → first (λ d. own d && d.sure) dues ≡ None → first (λ d. own d && d.sure) (filter own dues) ≡ None
-none_sure own [] e = refl
-none_sure own (due ∷ dues) e = go (own due) refl due.sure refl (none_sure own dues) e
-  where
-    go : (a : Bool) → own due ≡ a → (s : Bool) → due.sure ≡ s → (first (λ d. own d && d.sure) dues ≡ None → first (λ d. own d && d.sure) (filter own dues) ≡ None)
-        → (if a && s then Some due else first (λ d. own d && d.sure) dues) ≡ None
-        → first (λ d. own d && d.sure) (if a then due ∷ filter own dues else filter own dues) ≡ None
-    go true k true i rest e = absurd (cc e)
-    go true k false i rest e = ap (λ (y : Bool). if own due && y then Some due else first (λ d. own d && d.sure) (filter own dues)) i ∙ and_none (own due) (rest e)
-      where
-        and_none : (y : Bool) → first (λ d. own d && d.sure) (filter own dues) ≡ None → (if y && false then Some due else first (λ d. own d && d.sure) (filter own dues)) ≡ None
-        and_none true f = f
-        and_none false f = f
-    go false k s i rest e = rest e
-
 module _ (me n : ℕ) (b : SeenBooks) (x : Said) where
-  owes_none : reply_left_out me n b ≡ None → ReadAs me n b x → x.theirs ≡ None
-  owes_none e r = go x.theirs refl
+  owes_none : reply_left_out me n b ≡ None → ReadAs me n b x → has_echo (x.owing true) ≡ false
+  owes_none e r = none_echoes (is_due_of me n true) b.dues (x.owing true) true (r.dues true) (none_first (is_owed me n) b.dues (unfound b.dues (position (is_owed me n) b.dues) e))
+
+  -- only what is admitted of the host is no more
+  kept_said : (what : Topic) → ((y : Topic) → same_topic y what ≡ true → is_admission_of y ≡ false) → is_marked me n what (after_all_said me n b) ≡ is_marked me n what b
+  kept_said what k = kept_marks (is_topic me n what) (λ mark. not (is_admission me n mark)) b.marks (λ mark e. by mark (k mark.topic (and_parts (is_mark_between me n mark) (same_topic mark.topic what) e).1))
     where
-      none : first (is_owed me n) b.dues ≡ None
-      none = none_first (is_owed me n) b.dues (unfound b.dues (position (is_owed me n) b.dues) e)
+      by : (mark : Mark) → is_admission_of mark.topic ≡ false → not (is_admission me n mark) ≡ true
+      by mark e = ap (λ (y : Bool). not (mark.at == me && mark.peer == n && y)) e ∙ none (mark.at == me && mark.peer == n)
+        where
+          none : (y : Bool) → not (y && false) ≡ true
+          none true = refl
+          none false = refl
 
-      itself : (byte : ℕ) → is_due_of me n true (record { at = me; peer = n; host = true; wanted = Wanted.Echo byte; sure = true }) ≡ true
-      itself byte = ap (λ (y : Bool). y && (n == n) && true) (eq-eqb me me refl) ∙ ap (λ (y : Bool). true && y && true) (eq-eqb n n refl)
-
-      go : (o : Option ℕ) → x.theirs ≡ o → x.theirs ≡ None
-      go None k = k
-      go (Some byte) k =
-          let is : filter (is_due_of me n true) b.dues ≡ echo_due me n true (Some byte) = r.dues true ∙ ap (echo_due me n true) k in
-          let due : Due = record { at = me; peer = n; host = true; wanted = Wanted.Echo byte; sure = true } in
-          let found : first (is_owed me n) (due ∷ []) ≡ Some due = ap (λ (y : Bool). if y && true then Some due else None) (itself byte) in
-          let nay : Some due ≡ None = sym found ∙ sym (ap (first (is_owed me n)) is) ∙ none_sure (is_due_of me n true) b.dues none in absurd (cc nay)
-
-  pub read_all_said : reply_left_out me n b ≡ None → ReadAs me n b x → ReadAs me n (after_all_said me n b) x
-  read_all_said e r = read_lives me n b (after_all_said me n b) x x refl refl r.links r.echoes r.asks dues r
+  -- and no more is admitted
+  fewer_said : (what : Topic) → is_marked me n what b ≡ false → is_marked me n what (after_all_said me n b) ≡ false
+  fewer_said what e = fewer b.marks e
     where
-      dues : (host : Bool) → filter (is_due_of me n host) (after_all_said me n b).dues ≡ echo_due me n host (echo_by (not host) x)
-      dues true = filter_none (is_due_of me n true) b.dues ∙ sym (ap (echo_due me n true) (owes_none e r))
-      dues false = filter_others (is_due_of me n false) (is_due_of me n true) b.dues (sides_apart me n true) ∙ r.dues false
+      later : (y z : Bool) → (y || z) ≡ false → z ≡ false
+      later true z e = absurd (cc e)
+      later false z e = e
+
+      first_is : (y z : Bool) → (y || z) ≡ false → y ≡ false
+      first_is true z e = absurd (cc e)
+      first_is false z e = refl
+
+      fewer : (marks : List Mark) → list_any (is_topic me n what) marks ≡ false → list_any (is_topic me n what) (filter (λ mark. not (is_admission me n mark)) marks) ≡ false
+      fewer [] e = refl
+      fewer (mark ∷ marks) e = go (is_admission me n mark) (fewer marks (later (is_topic me n what mark) (list_any (is_topic me n what) marks) e))
+        where
+          go : (y : Bool) → list_any (is_topic me n what) (filter (λ mark. not (is_admission me n mark)) marks) ≡ false
+              → list_any (is_topic me n what) (if not y then mark ∷ filter (λ mark. not (is_admission me n mark)) marks else filter (λ mark. not (is_admission me n mark)) marks) ≡ false
+          go true rest = rest
+          go false rest = ap (λ (y : Bool). y || list_any (is_topic me n what) (filter (λ mark. not (is_admission me n mark)) marks)) (first_is (is_topic me n what mark) (list_any (is_topic me n what) marks) e) ∙ rest
+
+  pub read_room : reply_left_out me n b ≡ None → ReadAs me n b x → (has_echo (x.owing true) ≡ false) × ReadAs me n (after_all_said me n b) (without_owed x)
+  read_room e r = (owes_none e r, read_lives me n b (after_all_said me n b) x (without_owed x) refl (λ u. refl) (λ u. refl) links echoes admits asks dues owes r.fit r)
+    where
+      links : (on : Bool) (link : ℕ) → is_marked me n (Topic.LinkRests on link) (after_all_said me n b) ≡ false
+      links on link = fewer_said (Topic.LinkRests on link) (r.links on link)
+
+      echoes : (host : Bool) → is_marked me n (Topic.EchoesRest host) (after_all_said me n b) ≡ false
+      echoes host = fewer_said (Topic.EchoesRest host) (r.echoes host)
+
+      admits : (host : Bool) (bytes : List ℕ) → is_marked me n (Topic.Admits host bytes) (after_all_said me n b) ≡ false
+      admits host bytes = fewer_said (Topic.Admits host bytes) (r.admits host bytes)
+
+      asking : (host : Bool) (y : Topic) → same_topic y (Topic.Asks host) ≡ true → is_admission_of y ≡ false
+      asking host (Topic.LinkRests other on) k = refl
+      asking host (Topic.EchoesRest other) k = refl
+      asking host (Topic.Asks other) k = refl
+      asking host (Topic.Admits other bytes) k = absurd (cc k)
+
+      asks : (host : Bool) → is_marked me n (Topic.Asks host) (after_all_said me n b) ≡ has_echo ((without_owed x).owing (not host))
+      asks true = kept_said (Topic.Asks true) (asking true) ∙ r.asks true
+      asks false = kept_said (Topic.Asks false) (asking false) ∙ r.asks false ∙ owes_none e r
+
+      dues : (s : Bool) → AreDue s (filter (is_due_of me n s) (after_all_said me n b).dues) ((without_owed x).owing s)
+      dues true = subst (λ (ds : List Due). AreDue true ds []) (sym (filter_none (is_due_of me n true) b.dues)) tt
+      dues false = subst (λ (ds : List Due). AreDue false ds (x.owing false)) (sym (filter_others (is_due_of me n false) (is_due_of me n true) b.dues (sides_apart me n true))) (r.dues false)
+
+      owes : OweRightly (without_owed x)
+      owes true = tt
+      owes false = r.returning false

@@ -1,28 +1,47 @@
 -- A request and a CLS, of either side, where nothing rests: no rule is found broken just where the side may say it, and what
 -- was said is read with it after it.
-use Rattle.std.proofs.Common.{◌≡◌, ℕ, ◌==◌, Bool, true, false, not, ◌&&◌, ◌||◌, if◌then◌else◌, List, Option, None, Some, is_some, eq-eqb, refl, sym, ap, ◌∙◌}
+use Rattle.std.proofs.Common.{◌≡◌, ℕ, ◌==◌, Bool, true, false, not, ◌&&◌, ◌||◌, if◌then◌else◌, List, Option, None, Some, is_some, eq-eqb, refl, sym, ap, ◌∙◌, subst}
+use Rattle.std.specs.List.{filter, list_any}
 use Rattle.std.proofs.Math.Bool.{beq}
 use Rattle.std.proofs.lemmas.Bool.{eqb-true, and_parts}
 use Rattle.ncp_terms.specs.declared.command.Command.{Command}
+use Rattle.ncp_terms.specs.declared.command.Command.TheVariants.{Cls}
+use Rattle.ncp_umpire.specs.declared.due.Due.{Due}
 use Rattle.ncp_umpire.specs.declared.finding.Rule.{Rule}
 use Rattle.ncp_umpire.specs.declared.kept.Kept.{Kept}
 use Rattle.ncp_umpire.specs.declared.life.Life.{Life}
 use Rattle.ncp_umpire.specs.declared.life.Request.{Request}
 use Rattle.ncp_umpire.specs.declared.life.Request.TheVariants.{Link, Size}
+use Rattle.ncp_umpire.specs.declared.life.Topic.{Topic}
 use Rattle.ncp_umpire.specs.declared.talk.Talk.{Talk}
+use Rattle.ncp_umpire.specs.declared.talk.Verdict.{Verdict}
 use Rattle.ncp_umpire.specs.declared.talk.Verdict.TheVariants.{Right, Refused, Unclear}
-use Rattle.ncp_umpire.specs.Lives.{SeenBooks, is_of_sockets, is_senders, is_number_given, has_link, has_sent_cls, has_sent_request, is_life_between, life_of, user_of, place_with_sockets}
-use Rattle.ncp_umpire.specs.Requests.{broken, range_rule, link_rests, used_verdict, link_verdict, life_verdict, ranged_verdict, request_verdict, asks, books_after_request, left_verdict, cls_verdict, text_out_rule, cls_rule, closes_side, after_cls}
-use Rattle.ncp_umpire.proofs.Shapes.{Shape, Ask, Leave}
-use Rattle.ncp_umpire.proofs.LinkOrder.{Sockets, put}
+use Rattle.ncp_umpire.specs.Slots.{place_of}
+use Rattle.ncp_umpire.specs.Lives.{SeenBooks, is_of_sockets, is_senders, is_number_given, has_link, has_sent_cls, with_cls_sent, has_sent_request, is_life_between, life_of, user_of, place_with_sockets, is_marked, is_return, is_return_on, returns_dropped}
+use Rattle.ncp_umpire.specs.Replies.{is_due_of}
+use Rattle.ncp_umpire.specs.Requests.{is_of_sexes, broken, range_rule, link_rests, used_verdict, link_verdict, life_verdict, ranged_verdict, request_verdict, asks, books_after_request, left_verdict, cls_verdict, is_busy_on, is_link_busy, link_out_rule, text_out_rule, cls_rule, closes_side, after_cls}
+use Rattle.ncp_umpire.specs.Allocation.{ends_returns}
+use Rattle.ncp_umpire.specs.Texts.{message_out_at, text_left_out}
+use Rattle.ncp_umpire.specs.Speaking.{after_right_cls, command_rule, books_after_command}
+use Rattle.ncp_umpire.proofs.Shapes.{Ask, Leave}
+use Rattle.ncp_umpire.proofs.LinkOrder.{Sockets, same, put}
 use Rattle.ncp_umpire.proofs.Firsts.{first}
-use Rattle.ncp_umpire.proofs.BooksAt.{has_sockets, life_first}
+use Rattle.ncp_umpire.proofs.BooksAt.{has_sockets, life_first, after_left, leaves_at}
 use Rattle.ncp_umpire.proofs.Seeing.{of_life, seen, is_of, number_in}
-use Rattle.ncp_proof_umpire_talk.proofs.SeenBooks.{step, life_seen, is_resting, asked_seen, closed_seen}
-use Rattle.ncp_proof_umpire_talk.proofs.Users.{first_passes, none_used, found_at_first}
-use Rattle.ncp_proof_umpire_talk.proofs.TidyBooks.{passed_over}
-use Rattle.ncp_proof_umpire_whole.proofs.Said.{Said, may_say, takes_by, number_by}
-use Rattle.ncp_proof_umpire_whole.proofs.ReadAs.{ReadAs, is_sexed, read_one}
+use Rattle.ncp_proof_umpire_seen.proofs.SeenBooks.{OneSeen, step, life_seen, seen_of, is_resting, asked_seen, closed_seen}
+use Rattle.ncp_proof_umpire_seen.proofs.Users.{first_passes, none_used, found_at_first}
+use Rattle.ncp_proof_umpire_seen.proofs.TidyBooks.{passed_over}
+use Rattle.ncp_proof_umpire_seen.proofs.Filtered.{filter_others}
+use Rattle.ncp_proof_umpire_counts.proofs.PlainSteps.{asked_counts}
+use Rattle.ncp_proof_umpire_counts.proofs.Words.{no_count, count_of, link_given}
+use Rattle.ncp_proof_umpire_whole.proofs.Tallied.{left_by, receives_by, has_echo, counts_after_cls, owing_without}
+use Rattle.ncp_proof_umpire_whole.proofs.Said.{Said, sockets_by, may_say, number_by, Legal, after_said_by}
+use Rattle.ncp_proof_umpire_whole.proofs.UsersSaid.{IsConnected, is_sexed, link_between, same_self, fit_step}
+use Rattle.ncp_proof_umpire_whole.proofs.DuesOwed.{AreDue, owed_without}
+use Rattle.ncp_proof_umpire_whole.proofs.LeavesOwed.{none_of_it, link_is_its, echo_without, each_side}
+use Rattle.ncp_proof_umpire_whole.proofs.OwesSteps.{owes_step}
+use Rattle.ncp_proof_umpire_whole.proofs.ReadAs.{OweRightly, ReadAs, sides_apart, read_one}
+use Rattle.ncp_proof_umpire_whole.proofs.IdleSlots.{none_out}
 
 -- ---- what a side asked, and whether it may ask
 
@@ -62,27 +81,13 @@ not_true : (y : Bool) → not y ≡ true → y ≡ false
 not_true true e = absurd (cc e)
 not_true false e = refl
 
-receiver_is : (s : Bool) (u : Sockets) → takes_by s u ≡ true → is_senders u.0 ≡ not s
-receiver_is true u e = not_true (is_senders u.0) (and_parts (not (is_senders u.0)) (is_senders u.1) e).0
-receiver_is false u e = (and_parts (not (is_senders u.1)) (is_senders u.0) e).1
+receiver_is : (s : Bool) (u : Sockets) → receives_by s u ≡ true → is_senders u.0 ≡ not s
+receiver_is true u e = not_true (is_senders u.0) e
+receiver_is false u e = e
 
-takes_is : (s : Bool) (u : Sockets) → is_senders u.0 ≡ not s → is_sexed u ≡ true → takes_by s u ≡ true
-takes_is true u k e = go (is_senders u.0) (is_senders u.1) k e
-  where
-    go : (a d : Bool) → a ≡ false → ((not a && d) || (not d && a)) ≡ true → (not a && d) ≡ true
-    go true d k e = absurd (cc k)
-    go false true k e = refl
-    go false false k e = absurd (cc e)
-takes_is false u k e = go (is_senders u.0) (is_senders u.1) k e
-  where
-    go : (a d : Bool) → a ≡ true → ((not a && d) || (not d && a)) ≡ true → (not d && a) ≡ true
-    go false d k e = absurd (cc k)
-    go true true k e = absurd (cc e)
-    go true false k e = refl
-
-number_is : (s : Bool) (life : Life) → is_senders life.local ≡ not s → number_by s (Some (of_life life)) ≡ life.link
-number_is true life k = ap (λ (y : Bool). if y then life.size else life.link) k
-number_is false life k = ap (λ (y : Bool). if y then life.link else life.size) k
+receives_is : (s : Bool) (u : Sockets) → is_senders u.0 ≡ not s → receives_by s u ≡ true
+receives_is true u e = ap not e
+receives_is false u e = e
 
 other_side : (s y : Bool) → not (beq y s) ≡ true → y ≡ not s
 other_side true true e = absurd (cc e)
@@ -104,6 +109,14 @@ and_both : (a d : Bool) → a ≡ true → d ≡ true → (a && d) ≡ true
 and_both true true k e = refl
 and_both true false k e = absurd (cc e)
 and_both false d k e = absurd (cc k)
+
+-- the link of a connection, as a life has it
+life_link : (u : Sockets) (life : Life) → life.local ≡ u.0 → link_between u (Some (of_life life)) ≡ life.link
+life_link u life e = ap (λ (y : ℕ). link_given (is_senders y) (Some (of_life life))) (sym e) ∙ by (is_senders life.local)
+  where
+    by : (y : Bool) → (if y then (if y then life.link else life.size) else (if y then life.size else life.link)) ≡ life.link
+    by true = refl
+    by false = refl
 
 -- ---- a link of which a side is the receiver: it has a user, or none
 
@@ -129,30 +142,39 @@ module _ (me n : ℕ) (s : Bool) (link : ℕ) where
       (ap (λ (o : Option ℕ). is_number_given o link) l ∙ eq-eqb link link refl)
 
   module _ (b : SeenBooks) (x : Said) (r : ReadAs me n b x) where
-    -- the connection that has the number is the user
-    pub number_there : (u : Sockets) → takes_by s u ≡ true → number_by s (x.shapes u) ≡ Some link → (life : Life) × ((life_seen me n b u ≡ Some life) × (its_user life ≡ true))
-    number_there u t e = go (life_seen me n b u) refl
+    -- the connection that has the link is there
+    pub user_there : (u : Sockets) → x.users s link ≡ Some u → (life : Life) × ((life_seen me n b u ≡ Some life) × (its_user life ≡ true))
+    user_there u e = go (life_seen me n b u) refl
       where
-        none : (y : Bool) → number_by y None ≡ Some link → ⊥
-        none true k = cc k
-        none false k = cc k
+        is : (receives_by s u ≡ true) × (link_between u (x.shapes u) ≡ Some link)
+        is = r.fit.used s link u e
 
         go : (o : Option Life) → life_seen me n b u ≡ o → (life : Life) × ((life_seen me n b u ≡ Some life) × (its_user life ≡ true))
-        go None k = absurd (none s (sym (ap (λ (o : Option Life). number_by s (seen o)) k) ∙ ap (number_by s) (r.shapes u) ∙ e))
+        go None k = let nay : None ≡ Some link = sym (ap (λ (o : Option Life). link_between u (seen o)) k) ∙ ap (link_between u) (r.shapes u) ∙ is.1 in absurd (cc nay)
         go (Some life) k =
             let at = has_sockets me n u.0 u.1 life (first_passes (is_of_sockets me n u.0 u.1) b.lives life k) in
-            let sex : is_senders life.local ≡ not s = ap is_senders at.local ∙ receiver_is s u t in
+            let sex : is_senders life.local ≡ not s = ap is_senders at.local ∙ receiver_is s u is.0 in
             let between : is_life_between me n life ≡ true = and_both (life.at == me) (life.peer == n) (eq-eqb life.at me at.at) (eq-eqb life.peer n at.peer) in
-            let its : life.link ≡ Some link = sym (number_is s life sex) ∙ sym (ap (λ (o : Option Life). number_by s (seen o)) k) ∙ ap (number_by s) (r.shapes u) ∙ e in
+            let its : life.link ≡ Some link = sym (life_link u life at.local) ∙ sym (ap (λ (o : Option Life). link_between u (seen o)) k) ∙ ap (link_between u) (r.shapes u) ∙ is.1 in
             (life, (k, user_is life between sex its))
 
-    pub free_is : user_of me n s link b.lives ≡ None → (u : Sockets) → takes_by s u ≡ true → number_by s (x.shapes u) ≡ Some link → ⊥
-    free_is v u t e =
-        let there = number_there u t e in
-        let none : first its_user b.lives ≡ None = sym (found_at_first its_user b.lives) ∙ v in
-        let nay : true ≡ false = sym there.1.1 ∙ passed_over its_user (is_of_sockets me n u.0 u.1) b.lives there.0 none there.1.0 in cc nay
+    -- and a connection that has it is its user
+    pub life_uses : (u : Sockets) (life : Life) → life_seen me n b u ≡ Some life → receives_by s u ≡ true → life.link ≡ Some link → x.users s link ≡ Some u
+    life_uses u life k t l =
+        let at = has_sockets me n u.0 u.1 life (first_passes (is_of_sockets me n u.0 u.1) b.lives life k) in
+        r.fit.user s link u t (sym (ap (link_between u) (r.shapes u)) ∙ ap (λ (o : Option Life). link_between u (seen o)) k ∙ life_link u life at.local ∙ l)
 
-    pub unused_is : ((u : Sockets) → takes_by s u ≡ true → number_by s (x.shapes u) ≡ Some link → ⊥) → user_of me n s link b.lives ≡ None
+    pub free_is : user_of me n s link b.lives ≡ None → x.users s link ≡ None
+    free_is v = go (x.users s link) refl
+      where
+        go : (o : Option Sockets) → x.users s link ≡ o → x.users s link ≡ None
+        go None e = e
+        go (Some u) e =
+            let there = user_there u e in
+            let none : first its_user b.lives ≡ None = sym (found_at_first its_user b.lives) ∙ v in
+            let nay : true ≡ false = sym there.1.1 ∙ passed_over its_user (is_of_sockets me n u.0 u.1) b.lives there.0 none there.1.0 in absurd (cc nay)
+
+    pub unused_is : x.users s link ≡ None → user_of me n s link b.lives ≡ None
     unused_is free = found_at_first its_user b.lives ∙ none_used me n its_user b.lives (λ life e. (uses_link life e).between) r.unique none
       where
         none : (u : Sockets) (life : Life) → life_seen me n b u ≡ Some life → its_user life ≡ false
@@ -163,10 +185,7 @@ module _ (me n : ℕ) (s : Bool) (link : ℕ) where
             go true k =
                 let it = uses_link life k in
                 let local : life.local ≡ u.0 = (has_sockets me n u.0 u.1 life (first_passes (is_of_sockets me n u.0 u.1) b.lives life e)).local in
-                let shape : x.shapes u ≡ Some (of_life life) = sym (r.shapes u) ∙ ap seen e in
-                absurd
-                (free u (takes_is s u (sym (ap is_senders local) ∙ it.receiver) (r.sexed u (ap is_some shape)))
-                (ap (number_by s) shape ∙ number_is s life it.receiver ∙ it.its))
+                let nay : None ≡ Some u = sym free ∙ life_uses u life e (receives_is s u (sym (ap is_senders local) ∙ it.receiver)) it.its in absurd (cc nay)
 
 -- ---- a request
 
@@ -180,7 +199,7 @@ module _ (me n : ℕ) (s : Bool) (b : SeenBooks) (c : Command) (request : Reques
   life_may (Some life) z l v = go life.rests z (has_sent_cls life s) refl (has_sent_request life request) refl v
     where
       go : (y : Bool) → y ≡ false → (p : Bool) → has_sent_cls life s ≡ p → (a : Bool) → has_sent_request life request ≡ a
-          → broken (if y then Unclear None else if p then Unclear (Some (Rule.Unended c)) else if a then Refused (Rule.AskedAgain c) else link_verdict talk c request b) ≡ None
+          → broken (if y then Unclear None else if p then Unclear (Some (Rule.Unended c life.since)) else if a then Refused (Rule.AskedAgain c life.since) else link_verdict talk c request b) ≡ None
           → (may_say s (Ask (number_in request)) (seen (Some life)) ≡ true) × (broken (link_verdict talk c request b) ≡ None)
       go true z p i a j v = absurd (cc z)
       go false z true i a j v = absurd (cc v)
@@ -197,7 +216,7 @@ module _ (me n : ℕ) (s : Bool) (b : SeenBooks) (c : Command) (request : Reques
       parts = and_parts (not (has_sent_request life request)) (not (has_sent_cls life s)) (sym (may_ask_is s life request (l life refl)) ∙ m)
 
       go : (y : Bool) → y ≡ false → (p : Bool) → not p ≡ true → (a : Bool) → not a ≡ true
-          → (if y then Unclear None else if p then Unclear (Some (Rule.Unended c)) else if a then Refused (Rule.AskedAgain c) else link_verdict talk c request b) ≡ link_verdict talk c request b
+          → (if y then Unclear None else if p then Unclear (Some (Rule.Unended c life.since)) else if a then Refused (Rule.AskedAgain c life.since) else link_verdict talk c request b) ≡ link_verdict talk c request b
       go true z p i a j = absurd (cc z)
       go false z true i a j = absurd (cc i)
       go false z false i true j = absurd (cc j)
@@ -247,10 +266,18 @@ module _ (me n : ℕ) (s : Bool) (b : SeenBooks) (c : Command) (request : Reques
         ∙ life_right (life_seen me n b p) (r.calm p) (local_is k) (ap (may_say s (Ask (number_in request))) (r.shapes p) ∙ m)
         ∙ v
 
-    pub request_read : right ≡ true → is_sexed p ≡ true → (books_after_request talk c p.0 p.1 request Right b).full ≡ false
-        → ReadAs me n (books_after_request talk c p.0 p.1 request Right b) (record x { shapes = put x.shapes p (step s (Ask (number_in request)) (x.shapes p)) })
-    request_read k e room =
-        read_one me n b (asks talk p.0 p.1 request b (place_with_sockets me n p.0 p.1 b.lives)) x p s (Ask (number_in request)) (asked_seen me n s p b request (sex k) room) (λ g. e) r
+    pub request_read : right ≡ true → (books_after_request talk c p.0 p.1 request Right b).full ≡ false → (y : Said) → ((u : Sockets) → put x.shapes p (step s (Ask (number_in request)) (x.shapes p)) u ≡ y.shapes u) → ((u : Sockets) → x.counts u ≡ y.counts u)
+        → ((t : Bool) → x.owing t ≡ y.owing t) → OweRightly y → IsConnected y → ReadAs me n (books_after_request talk c p.0 p.1 request Right b) y
+    request_read k room y shapes counts owing owes fit =
+        read_one me n b after after x y p (step s (Ask (number_in request)) (seen_of me n b p)) (step s (Ask (number_in request)) (x.shapes p)) one refl refl (ap (step s (Ask (number_in request))) (r.shapes p)) shapes
+        (asked_counts me n s p request b room ∙ r.counts p ∙ counts p) (λ u d. counts u) (λ t. ap has_echo (owing t))
+        (λ t. subst (AreDue t (filter (is_due_of me n t) after.dues)) (owing t) (subst (λ (ds : List Due). AreDue t (filter (is_due_of me n t) ds) (x.owing t)) (sym one.dues) (r.dues t))) owes fit r
+      where
+        after : SeenBooks
+        after = asks talk p.0 p.1 request b (place_with_sockets me n p.0 p.1 b.lives)
+
+        one : OneSeen me n b after p (step s (Ask (number_in request)) (seen_of me n b p))
+        one = asked_seen me n s p b request (sex k) room
 
   -- the link that it asks for
 
@@ -272,7 +299,7 @@ module _ (me n : ℕ) (s : Bool) (b : SeenBooks) (x : Said) (r : ReadAs me n b x
   left_may kept None z v = absurd (cc v)
   left_may kept (Some life) z v = go life.rests z (has_sent_cls life s) refl v
     where
-      go : (y : Bool) → y ≡ false → (a : Bool) → has_sent_cls life s ≡ a → cls_rule closing c p.0 p.1 kept b (if y then Unclear None else if a then Unclear (Some (Rule.ClsAgain c)) else Right) ≡ None → may_say s Leave (seen (Some life)) ≡ true
+      go : (y : Bool) → y ≡ false → (a : Bool) → has_sent_cls life s ≡ a → cls_rule closing c p.0 p.1 kept b (if y then Unclear None else if a then Unclear (Some (Rule.ClsAgain c life.since)) else Right) ≡ None → may_say s Leave (seen (Some life)) ≡ true
       go true z a e v = absurd (cc z)
       go false z true e v = absurd (cc v)
       go false z false e v = may_leave_is s life ∙ ap not e
@@ -292,7 +319,7 @@ module _ (me n : ℕ) (s : Bool) (b : SeenBooks) (x : Said) (r : ReadAs me n b x
   left_right None z m = absurd (none_leaves s m)
   left_right (Some life) z m = go life.rests z (has_sent_cls life s) (sym (may_leave_is s life) ∙ m)
     where
-      go : (y : Bool) → y ≡ false → (a : Bool) → not a ≡ true → (if y then Unclear None else if a then Unclear (Some (Rule.ClsAgain c)) else Right) ≡ Right
+      go : (y : Bool) → y ≡ false → (a : Bool) → not a ≡ true → (if y then Unclear None else if a then Unclear (Some (Rule.ClsAgain c life.since)) else Right) ≡ Right
       go true z a e = absurd (cc z)
       go false z true e = absurd (cc e)
       go false z false e = refl
@@ -303,14 +330,222 @@ module _ (me n : ℕ) (s : Bool) (b : SeenBooks) (x : Said) (r : ReadAs me n b x
       ∙ ap (left_verdict closing c) (life_first me n p.0 p.1 b.lives)
       ∙ left_right (life_seen me n b p) (r.calm p) (ap (may_say s Leave) (r.shapes p) ∙ m)
 
-  -- of a connection that is there
-  leaves_some : (y : Bool) (m : Option Shape) → may_say y Leave m ≡ true → is_some m ≡ true
-  leaves_some y None e = absurd (none_leaves y e)
-  leaves_some y (Some m) e = refl
+-- ---- the books after a CLS
 
-  pub cls_read : may_say s Leave (x.shapes p) ≡ true → ReadAs me n (after_cls closing c p.0 p.1 Right b) (record x { shapes = put x.shapes p (step s Leave (x.shapes p)) })
-  cls_read m =
-      read_one me n b (closes_side closing b (place_with_sockets me n p.0 p.1 b.lives)) x p s Leave (closed_seen me n s p b (r.unique p)) (λ g. r.sexed p (leaves_some s (x.shapes p) m)) r
+module _ (me n : ℕ) (s : Bool) (b : SeenBooks) (x : Said) (r : ReadAs me n b x) (my your : ℕ) (legal : Legal s (Cls my your) x) where
+  abbrev p : Sockets
+  p = sockets_by s my your
+
+  abbrev speaks : Talk
+  speaks = record { at = me; peer = n; sent = s }
+
+  abbrev c : Command
+  c = Cls my your
+
+  turned : (t : Bool) → (is_of_sexes my your || is_of_sexes your my) ≡ true → is_sexed (sockets_by t my your) ≡ true
+  turned true e = e
+  turned false e = by (is_of_sexes my your) (is_of_sexes your my) e
+    where
+      by : (a d : Bool) → (a || d) ≡ true → (d || a) ≡ true
+      by true true e = refl
+      by true false e = refl
+      by false true e = refl
+      by false false e = absurd (cc e)
+
+  -- it is right
+  pub cls_is_right : cls_verdict speaks c p.0 p.1 b ≡ Right
+  cls_is_right = cls_right me n s b x r c p (turned s legal.right) legal.fits
+
+  -- the connection is there
+  its_life : (life : Life) × (life_seen me n b p ≡ Some life)
+  its_life = go (life_seen me n b p) refl
+    where
+      go : (o : Option Life) → life_seen me n b p ≡ o → (life : Life) × (life_seen me n b p ≡ Some life)
+      go None e = absurd (none_leaves s (ap (λ (o : Option Life). may_say s Leave (seen o)) (sym e) ∙ ap (may_say s Leave) (r.shapes p) ∙ legal.fits))
+      go (Some life) e = (life, e)
+
+  abbrev ending : Life
+  ending = its_life.0
+
+  local_is_its : ending.local ≡ p.0
+  local_is_its = (has_sockets me n p.0 p.1 ending (first_passes (is_of_sockets me n p.0 p.1) b.lives ending its_life.1)).local
+
+  life_is : life_of me n p.0 p.1 b.lives ≡ Some ending
+  life_is = life_first me n p.0 p.1 b.lives ∙ its_life.1
+
+  -- it breaks no rule: then no text of the host is out on the link of the connection
+  pub idle_if_right : (kept : List Kept) → s ≡ true → command_rule speaks kept c b ≡ None → (link : ℕ) → x.users false link ≡ Some p → is_link_busy me n (Some link) kept ≡ false
+  idle_if_right kept is_own e link u = by s is_own refl
+    where
+      there : (life : Life) × ((life_seen me n b p ≡ Some life) × (its_user me n false link life ≡ true))
+      there = user_there me n false link b x r p u
+
+      it : UsesLink me n false link there.0
+      it = uses_link me n false link there.0 there.1.1
+
+      out : text_out_rule speaks c kept b (Some there.0) ≡ None
+      out =
+          sym (ap (text_out_rule speaks c kept b) (life_first me n p.0 p.1 b.lives ∙ there.1.0))
+          ∙ sym (ap (λ (v : Verdict). cls_rule speaks c p.0 p.1 kept b v) cls_is_right) ∙ e
+
+      by : (t : Bool) → t ≡ true → s ≡ t → is_link_busy me n (Some link) kept ≡ false
+      by false k i = absurd (cc k)
+      by true k i =
+          go (list_any (is_busy_on me n link) kept) refl
+          (sym (ap (λ (y : Bool). if y && is_senders there.0.local then link_out_rule (record { at = me; peer = n; sent = y }) c kept b there.0.link else None) i
+          ∙ ap (λ (y : Bool). if true && y then link_out_rule (record { at = me; peer = n; sent = true }) c kept b there.0.link else None) it.receiver
+          ∙ ap (link_out_rule (record { at = me; peer = n; sent = true }) c kept b) it.its) ∙ out)
+        where
+          go : (y : Bool) → list_any (is_busy_on me n link) kept ≡ y → (if list_any (is_busy_on me n link) kept && not (is_marked me n (Topic.LinkRests false link) b) then Some (Rule.TextOut c link) else None) ≡ None
+              → list_any (is_busy_on me n link) kept ≡ false
+          go false j v = j
+          go true j v =
+              let found : Some (Rule.TextOut c link) ≡ None =
+              sym (ap (λ (z : Bool). if z && not (is_marked me n (Topic.LinkRests false link) b) then Some (Rule.TextOut c link) else None) j
+              ∙ ap (λ (z : Bool). if true && not z then Some (Rule.TextOut c link) else None) (r.links false link)) ∙ v in absurd (cc found)
+
+  module _ (kept : List Kept) (idle : s ≡ true → (link : ℕ) → x.users false link ≡ Some p → is_link_busy me n (Some link) kept ≡ false) where
+    abbrev closed : SeenBooks
+    closed = closes_side speaks b (place_with_sockets me n p.0 p.1 b.lives)
+
+    abbrev y : Said
+    y = after_said_by s (Cls my your) x
+
+    none_left_out : text_left_out speaks kept (Some ending) closed ≡ closed
+    none_left_out = go s refl (is_senders ending.local) refl ending.link refl
+      where
+        on : Bool → Option ℕ → SeenBooks
+        on t None = closed
+        on t (Some link) = message_out_at (record { at = me; peer = n; sent = t }) kept (place_of me n link kept) closed
+
+        go : (t : Bool) → s ≡ t → (a : Bool) → is_senders ending.local ≡ a → (l : Option ℕ) → ending.link ≡ l → (if s && a then on s l else closed) ≡ closed
+        go false i a j l k = ap (λ (z : Bool). if z && a then on s l else closed) i
+        go true i false j l k = ap (λ (z : Bool). if z && false then on s l else closed) i
+        go true i true j None k = ap (λ (z : Bool). if z && true then closed else closed) i
+        go true i true j (Some link) k =
+            ap (λ (z : Bool). if z && true then on s (Some link) else closed) i
+            ∙ none_out me n s kept link closed
+            (idle i link (life_uses me n false link b x r p ending its_life.1 (sym (ap is_senders local_is_its) ∙ j) k))
+
+    after_is : books_after_command speaks kept (Cls my your) b ≡ ends_returns speaks (Some ending) closed
+    after_is =
+        ap (λ (v : Verdict). after_right_cls speaks kept (life_of me n p.0 p.1 b.lives) v (after_cls speaks c p.0 p.1 v b)) cls_is_right
+        ∙ ap (λ (o : Option Life). ends_returns speaks o (text_left_out speaks kept o closed)) life_is
+        ∙ ap (ends_returns speaks (Some ending)) none_left_out
+
+    one : OneSeen me n b closed p (step s Leave (seen_of me n b p))
+    one = closed_seen me n s p b (r.unique p)
+
+    -- what is counted of it
+    count_here : count_of (life_seen me n closed p) ≡ y.counts p
+    count_here =
+        ap count_of (leaves_at speaks p.0 p.1 b (place_with_sockets me n p.0 p.1 b.lives) refl (r.unique p))
+        ∙ ap (λ (o : Option Life). count_of (after_left s o)) (found_at_first (is_of_sockets me n p.0 p.1) b.lives ∙ its_life.1)
+        ∙ by (left_by (not s) (x.shapes p)) refl
+      where
+        over_is : (t : Bool) (life : Life) → left_by (not t) (Some (of_life life)) ≡ ((with_cls_sent life t).host_left && (with_cls_sent life t).peer_left)
+        over_is true life = refl
+        over_is false life = by_and life.host_left
+          where
+            by_and : (z : Bool) → z ≡ (z && true)
+            by_and true = refl
+            by_and false = refl
+
+        counted : (t : Bool) (life : Life) → count_of (Some (with_cls_sent life t)) ≡ count_of (Some life)
+        counted true life = refl
+        counted false life = refl
+
+        shape_is : x.shapes p ≡ Some (of_life ending)
+        shape_is = sym (r.shapes p) ∙ ap seen its_life.1
+
+        was : count_of (Some ending) ≡ x.counts p
+        was = sym (ap count_of its_life.1) ∙ r.counts p
+
+        by : (z : Bool) → left_by (not s) (x.shapes p) ≡ z → count_of (after_left s (Some ending)) ≡ counts_after_cls z p x.counts p
+        by z e = ap (λ (w : Bool). count_of (if w then None else Some (with_cls_sent ending s))) (sym (over_is s ending) ∙ sym (ap (left_by (not s)) shape_is) ∙ e) ∙ over_or z
+          where
+            over_or : (z : Bool) → count_of (if z then None else Some (with_cls_sent ending s)) ≡ counts_after_cls z p x.counts p
+            over_or true = sym (ap (λ (w : Bool). if w then no_count else x.counts p) (same_self p))
+            over_or false = counted s ending ∙ was
+
+    count_there : (u : Sockets) → same u p ≡ false → x.counts u ≡ y.counts u
+    count_there u d = by (left_by (not s) (x.shapes p))
+      where
+        by : (z : Bool) → x.counts u ≡ counts_after_cls z p x.counts u
+        by true = sym (ap (λ (w : Bool). if w then no_count else x.counts u) d)
+        by false = refl
+
+    echo : (t : Bool) → has_echo (x.owing t) ≡ has_echo (y.owing t)
+    echo = each_side (λ t os. has_echo (x.owing t) ≡ has_echo os) s (owing_without p (x.owing s)) x.owing (echo_without p (x.owing s)) refl
+
+    read_ended : (after : SeenBooks) → after.lives ≡ closed.lives → after.marks ≡ closed.marks → AreDue s (filter (is_due_of me n s) after.dues) (owing_without p (x.owing s))
+        → filter (is_due_of me n (not s)) after.dues ≡ filter (is_due_of me n (not s)) b.dues → ReadAs me n after y
+    read_ended after l k due others =
+        read_one me n b closed after x y p (step s Leave (seen_of me n b p)) (step s Leave (x.shapes p)) one l k (ap (step s Leave) (r.shapes p)) (λ u. refl) count_here count_there echo
+        (each_side (λ t os. AreDue t (filter (is_due_of me n t) after.dues) os) s (owing_without p (x.owing s)) x.owing due
+        (subst (λ (ds : List Due). AreDue (not s) ds (x.owing (not s))) (sym others) (r.dues (not s))))
+        (owes_step s x r.returning (Cls my your) legal) (fit_step s (Cls my your) x legal r.fit) r
+
+    -- nothing is due of it
+    nothing_due : ((l : ℕ) → x.users (not s) l ≡ Some p → ⊥) → ReadAs me n closed y
+    nothing_due none =
+        read_ended closed refl refl
+        (subst (λ (ds : List Due). AreDue s (filter (is_due_of me n s) ds) (owing_without p (x.owing s))) (sym one.dues) (subst (AreDue s (filter (is_due_of me n s) b.dues)) (sym (none_of_it s x p none (x.owing s) (r.returning s))) (r.dues s)))
+        (ap (filter (is_due_of me n (not s))) one.dues)
+
+    unturned : (t : Bool) → not (not t) ≡ t
+    unturned true = refl
+    unturned false = refl
+
+    is_beq : (z t : Bool) → beq z t ≡ true → z ≡ t
+    is_beq true true e = refl
+    is_beq true false e = absurd (cc e)
+    is_beq false true e = absurd (cc e)
+    is_beq false false e = refl
+
+    no_beq : (z t : Bool) → beq z t ≡ false → z ≡ not t
+    no_beq true true e = absurd (cc e)
+    no_beq true false e = refl
+    no_beq false true e = refl
+    no_beq false false e = absurd (cc e)
+
+    not_both : (t : Bool) → t ≡ not t → ⊥
+    not_both true e = cc e
+    not_both false e = cc e
+
+    link_of_it : (l : ℕ) → x.users (not s) l ≡ Some p → ending.link ≡ Some l
+    link_of_it l u =
+        sym (life_link p ending local_is_its) ∙ sym (ap (λ (o : Option Life). link_between p (seen o)) its_life.1) ∙ ap (link_between p) (r.shapes p) ∙ (r.fit.used (not s) l p u).1
+
+    dropped : (link : ℕ) → beq (is_senders ending.local) s ≡ true → ending.link ≡ Some link → ReadAs me n (returns_dropped me n s link closed) y
+    dropped link e k =
+        read_ended (returns_dropped me n s link closed) refl refl
+        (subst (λ (ds : List Due). AreDue s (filter (is_due_of me n s) (filter (λ due. not (is_return me n s link due)) ds)) (owing_without p (x.owing s))) (sym one.dues)
+        (owed_without (is_due_of me n s) s p link b.dues (x.owing s) (link_is_its s x p link its (λ l u. only l u) (x.owing s) (r.returning s)) (r.dues s)))
+        (filter_others (is_due_of me n (not s)) (is_return me n s link) closed.dues (λ due i. sides_apart me n s due (and_parts (is_due_of me n s due) (is_return_on link due.wanted) i).0) ∙ ap (filter (is_due_of me n (not s))) one.dues)
+      where
+        its : x.users (not s) link ≡ Some p
+        its = life_uses me n (not s) link b x r p ending its_life.1 (receives_is (not s) p (sym (ap is_senders local_is_its) ∙ is_beq (is_senders ending.local) s e ∙ sym (unturned s))) k
+
+        only : (l : ℕ) → x.users (not s) l ≡ Some p → l ≡ link
+        only l u = let is : Some l ≡ Some link = sym (link_of_it l u) ∙ k in cc is
+
+    ended : ReadAs me n (ends_returns speaks (Some ending) closed) y
+    ended = go (beq (is_senders ending.local) s) refl ending.link refl
+      where
+        drop_on : Option ℕ → SeenBooks
+        drop_on None = closed
+        drop_on (Some link) = returns_dropped me n s link closed
+
+        go : (z : Bool) → beq (is_senders ending.local) s ≡ z → (l : Option ℕ) → ending.link ≡ l → ReadAs me n (if z then drop_on l else closed) y
+        go false e l k =
+            nothing_due (λ on u. not_both s
+            (sym (unturned s) ∙ sym (receiver_is (not s) p (r.fit.used (not s) on p u).0) ∙ sym (ap is_senders local_is_its) ∙ no_beq (is_senders ending.local) s e))
+        go true e None k = nothing_due (λ on u. let nay : None ≡ Some on = sym k ∙ link_of_it on u in cc nay)
+        go true e (Some link) k = dropped link e k
+
+    pub cls_read : ReadAs me n (books_after_command speaks kept (Cls my your) b) (after_said_by s (Cls my your) x)
+    cls_read = subst (λ (z : SeenBooks). ReadAs me n z (after_said_by s (Cls my your) x)) (sym after_is) ended
 
 -- a CLS of the other has no text out
 pub their_text_out : (me n : ℕ) (c : Command) (kept : List Kept) (b : SeenBooks) (o : Option Life) → text_out_rule (record { at = me; peer = n; sent = false }) c kept b o ≡ None

@@ -1,76 +1,279 @@
--- A text of the other comes on a link that a connection has, which the other has not closed: what was said is read as before.
-use Rattle.std.proofs.Common.{◌≡◌, ℕ, Bool, true, false, if◌then◌else◌, Option, None, Some, ◌⊎◌, inl, inr, refl, sym, ap, ◌∙◌}
-use Rattle.std.specs.Prelude.{slice_set}
+-- A text of either side, where nothing rests: no rule is found broken just where the side may send it, and what was said is read
+-- with it after it.
+use Rattle.std.proofs.Common.{◌≡◌, ℕ, ◌≤◌, ◌==◌, Bool, true, false, not, ◌&&◌, ◌||◌, if◌then◌else◌, List, [], ◌∷◌, ◌++◌, length, Option, None, Some, is_some, eq-eqb, refl, sym, ap, ◌∙◌, subst, arith}
+use Rattle.std.specs.Prelude.{nat_lt}
 use Rattle.std.specs.List.{filter, list_any, position}
+use Rattle.std.specs.Option.{option_to_list}
+use Rattle.std.proofs.lemmas.Bool.{eqb-true}
+use Rattle.std.proofs.lemmas.Bool.Decides.{nat_tests}
+use Rattle.ncp_leader.specs.Message.{Message}
+use Rattle.ncp_umpire.specs.declared.due.Due.{Due}
+use Rattle.ncp_umpire.specs.declared.finding.Rule.{Rule}
+use Rattle.ncp_umpire.specs.declared.finding.Unopened.{Unopened}
+use Rattle.ncp_umpire.specs.declared.lead.Lead.{Lead}
 use Rattle.ncp_umpire.specs.declared.life.Life.{Life}
 use Rattle.ncp_umpire.specs.declared.life.Topic.{Topic}
-use Rattle.ncp_umpire.specs.Lives.{SeenBooks, is_of_sockets, has_link, life_in_place, life_found, is_topic, is_marked, marks_now}
+use Rattle.ncp_umpire.specs.declared.talk.Talk.{Talk}
+use Rattle.ncp_umpire.specs.Lives.{SeenBooks, is_senders, has_link, has_sent_cls, life_in_place, is_topic, is_marked, put_life}
 use Rattle.ncp_umpire.specs.Replies.{is_due_of}
-use Rattle.ncp_umpire.specs.Speaking.{after_text_at, books_after_text}
-use Rattle.ncp_umpire.proofs.Shapes.{is_closed}
-use Rattle.ncp_umpire.proofs.LinkOrder.{Sockets, number_of}
-use Rattle.ncp_umpire.proofs.Seeing.{seen}
-use Rattle.ncp_proof_umpire_talk.proofs.SeenBooks.{life_seen, is_resting}
-use Rattle.ncp_proof_umpire_talk.proofs.Users.{found_at_first}
-use Rattle.ncp_proof_umpire_talk.proofs.TidyBooks.{Tidy}
-use Rattle.ncp_proof_umpire_talk.proofs.RefusedRequests.{first_alone}
-use Rattle.ncp_proof_umpire_talk.proofs.TextTold.{TextSeen, text_seen}
-use Rattle.ncp_proof_umpire_whole.proofs.Said.{Said, takes_by}
+use Rattle.ncp_umpire.specs.Allocation.{is_any}
+use Rattle.ncp_umpire.specs.Texts.{is_closed_for, text_lead, size_rule, over_text_rule, open_text_rules, led_text_rules, text_rules, life_came_at, after_text_came, used, admits_error_if, over_rests, led_after_text, books_after_text}
+use Rattle.ncp_umpire.proofs.LinkOrder.{Sockets}
+use Rattle.ncp_umpire.proofs.Seeing.{of_life}
+use Rattle.ncp_proof_umpire_counts.proofs.LinkPlaces.{UserAt, HasUser, AllUnique, LeadsTo, ToRest, ToNobody, ToClosed, ToUnasked, ToOpen, user_found, text_leads, renumbered_unique}
+use Rattle.ncp_proof_umpire_counts.proofs.TheirText.{SameAt, came_at, came_marks}
+use Rattle.ncp_proof_umpire_counts.proofs.Words.{Count}
+use Rattle.ncp_proof_umpire_whole.proofs.Tallied.{counted_off}
+use Rattle.ncp_proof_umpire_whole.proofs.Said.{Said, number_by, TextLegal, after_text_by}
+use Rattle.ncp_proof_umpire_whole.proofs.UsersSaid.{fit_text}
+use Rattle.ncp_proof_umpire_whole.proofs.OwesSteps.{owes_text}
+use Rattle.ncp_proof_umpire_whole.proofs.DuesOwed.{AreDue}
 use Rattle.ncp_proof_umpire_whole.proofs.ReadAs.{ReadAs}
-use Rattle.ncp_proof_umpire_whole.proofs.ReadsAsked.{number_there}
+use Rattle.ncp_proof_umpire_whole.proofs.ReadsLinks.{LeadsOpen, user_uses, shape_is, open_is, open_leads, leads_led, led_leads, counted_life, read_counted}
 
-module _ (me n link : ℕ) (b : SeenBooks) (x : Said) (r : ReadAs me n b x) (tidy : Tidy b) (u : Sockets) (takes : takes_by true u ≡ true) (asked : number_of (x.shapes u) ≡ Some link) (open_yet : is_closed (x.shapes u) ≡ false) where
-  abbrev its : Life → Bool
-  its = has_link me n true link
+-- ---- with the same shapes and counts
 
-  abbrev after : SeenBooks
-  after = books_after_text me n link b
+read_same : (me n : ℕ) (b after : SeenBooks) (y : Said) → ((u : Sockets) → SameAt me n b after u) → AllUnique me n after → after.marks ≡ b.marks → after.dues ≡ b.dues → ReadAs me n b y → ReadAs me n after y
+read_same me n b after y same unique marks dues r = record {
+  shapes = λ u. (same u).seen ∙ r.shapes u;
+  counts = λ u. (same u).count ∙ r.counts u;
+  calm = λ u. (same u).rests ∙ r.calm u;
+  unique = unique;
+  links = λ on link. marked (Topic.LinkRests on link) ∙ r.links on link;
+  echoes = λ host. marked (Topic.EchoesRest host) ∙ r.echoes host;
+  admits = λ host bytes. marked (Topic.Admits host bytes) ∙ r.admits host bytes;
+  asks = λ host. marked (Topic.Asks host) ∙ r.asks host;
+  dues = λ s. subst (λ (ds : List Due). AreDue s (filter (is_due_of me n s) ds) (y.owing s)) (sym dues) (r.dues s);
+  returning = r.returning;
+  fit = r.fit;
+}
+  where
+    marked : (what : Topic) → is_marked me n what after ≡ is_marked me n what b
+    marked what = ap (list_any (is_topic me n what)) marks
 
-  there : (life : Life) × ((life_seen me n b u ≡ Some life) × (its life ≡ true))
-  there = number_there me n true link b x r u takes asked
+-- a text is seen to have come: the connections are there once
+came_unique : (me n on : ℕ) (b : SeenBooks) → AllUnique me n b → AllUnique me n (after_text_came (record { at = me; peer = n; sent = false }) on b)
+came_unique me n on b unique = by (position (has_link me n true on) b.lives) refl
+  where
+    by : (o : Option ℕ) → position (has_link me n true on) b.lives ≡ o → AllUnique me n (life_came_at b o)
+    by None e = unique
+    by (Some place) e = go (life_in_place b.lives place).peer_left
+      where
+        came : AllUnique me n (put_life b (Some place) (record (life_in_place b.lives place) { came = true }))
+        came = at (user_found me n true on b unique place e)
+          where
+            at : HasUser me n true on b place → AllUnique me n (put_life b (Some place) (record (life_in_place b.lives place) { came = true }))
+            at it =
+                let old = life_in_place b.lives it.user.place in
+                subst (λ (i : ℕ). AllUnique me n (put_life b (Some i) (record (life_in_place b.lives i) { came = true }))) it.there
+                (renumbered_unique me n true on b it.u it.user old.messages old.bits old.recall true unique)
 
-  found : life_found b.lives (position its b.lives) ≡ Some there.0
-  found = found_at_first its b.lives ∙ first_alone (is_of_sockets me n u.0 u.1) its b.lives there.0 there.1.0 there.1.1 (tidy.alone me n true link)
+        go : (y : Bool) → AllUnique me n (if y then b else put_life b (Some place) (record (life_in_place b.lives place) { came = true }))
+        go true = unique
+        go false = came
 
-  unshut : there.0.peer_left ≡ false
-  unshut = sym (ap (λ (o : Option Life). is_closed (seen o)) there.1.0) ∙ ap is_closed (r.shapes u) ∙ open_yet
+read_came : (me n on : ℕ) (b : SeenBooks) (y : Said) → ReadAs me n b y → ReadAs me n (after_text_came (record { at = me; peer = n; sent = false }) on b) y
+read_came me n on b y r =
+    read_same me n b (after_text_came (record { at = me; peer = n; sent = false }) on b) y (came_at me n on b r.unique) (came_unique me n on b r.unique) (came_marks me n on b).0 (came_marks me n on b).1 r
 
-  -- it is known that it came
-  same_kept : (after.marks ≡ b.marks) × (after.dues ≡ b.dues)
-  same_kept = go (position its b.lives) found
+-- ---- where it leads
+
+module _ (me n : ℕ) (s : Bool) (link : ℕ) (message : Message) (b : SeenBooks) (x : Said) (r : ReadAs me n b x) where
+  abbrev talk : Talk
+  talk = record { at = me; peer = n; sent = s }
+
+  abbrev led : Lead
+  led = text_lead talk link b
+
+  abbrev To : Sockets → Type 0
+  To = LeadsOpen me n s b x r (not s) link
+
+  abbrev size : ℕ
+  size = message.size
+
+  abbrev bits : ℕ
+  bits = length message.text
+
+  pub record TextLeads (u : Sockets) (l : To u) : Type 0 where
+    pub leads : led ≡ Lead.Open l.user.place
+    pub rules : open_text_rules link message (life_in_place b.lives l.user.place) ≡ []
+
+  unclosed : (life : Life) → is_closed_for talk life ≡ false → has_sent_cls life s ≡ false
+  unclosed life e = go (has_sent_cls life s) e
     where
-      by : (i : ℕ) (y : Bool) → y ≡ false
-          → ((if y then marks_now me n (Topic.LinkRests true link) b else record b { lives = slice_set b.lives i (record (life_in_place b.lives i) { came = true }) }).marks ≡ b.marks)
-          × ((if y then marks_now me n (Topic.LinkRests true link) b else record b { lives = slice_set b.lives i (record (life_in_place b.lives i) { came = true }) }).dues ≡ b.dues)
-      by i true e = absurd (cc e)
-      by i false e = (refl, refl)
+      go : (y : Bool) → (y || (s && life.peer_left)) ≡ false → y ≡ false
+      go true e = absurd (cc e)
+      go false e = refl
 
-      go : (o : Option ℕ) → life_found b.lives o ≡ Some there.0 → ((after_text_at me n link b o).marks ≡ b.marks) × ((after_text_at me n link b o).dues ≡ b.dues)
-      go None e = absurd (cc e)
-      go (Some i) e = let is : life_in_place b.lives i ≡ there.0 = cc e in by i (life_in_place b.lives i).peer_left (ap (λ (life : Life). life.peer_left) is ∙ unshut)
+  text_opens : led_text_rules link message b led ≡ [] → (u : Sockets) × ((l : To u) × TextLeads u l)
+  text_opens v = go (text_leads me n s link b r.unique)
+    where
+      nay : (l : Lead) (wrong : Rule) → led ≡ l → led_text_rules link message b l ≡ wrong ∷ [] → ⊥
+      nay l wrong e k = let no : wrong ∷ [] ≡ [] = sym (ap (led_text_rules link message b) e ∙ k) ∙ v in cc no
 
-  pub read_text : ReadAs me n after x
-  read_text = record {
-    shapes = λ v. shape v (texts.lives v);
-    calm = λ v. calm v (texts.lives v);
-    unique = texts.unique r.unique;
-    sexed = r.sexed;
-    links = λ on l. marks (Topic.LinkRests on l) ∙ r.links on l;
-    echoes = λ host. marks (Topic.EchoesRest host) ∙ r.echoes host;
-    asks = λ host. marks (Topic.Asks host) ∙ r.asks host;
-    dues = λ host. ap (filter (is_due_of me n host)) same_kept.1 ∙ r.dues host;
+      go : LeadsTo me n (is_closed_for talk) (not s) link b led → (u : Sockets) × ((l : To u) × TextLeads u l)
+      go (ToRest e m) = let no : true ≡ false = sym m ∙ r.links (not s) link in absurd (cc no)
+      go (ToNobody e m p) = absurd (nay Lead.Nobody (Rule.TextNotOpen link Unopened.NoPair) e refl)
+      go (ToClosed e m u user k) = absurd (nay Lead.Closed (Rule.TextNotOpen link Unopened.Closed) e refl)
+      go (ToUnasked u user e m k) = absurd (nay (Lead.Unasked user.place) (Rule.TextNotOpen link Unopened.NotAsked) e refl)
+      go (ToOpen u user e m given k) =
+          let life = life_in_place b.lives user.place in
+          let to : To u = open_leads me n s b x r (not s) link u (user_uses me n s b x r (not s) link u user) (open_is me n s b x r (not s) link u user given (unclosed life k.0) k.1) in
+          let at : user.place ≡ to.user.place = cc (sym user.found ∙ to.user.found) in (
+            u,
+            (
+              to,
+              record {
+                leads = e ∙ ap (λ (i : ℕ). Lead.Open i) at;
+                rules = ap (λ (i : ℕ). open_text_rules link message (life_in_place b.lives i)) (sym at) ∙ sym (ap (led_text_rules link message b) e) ∙ v;
+              },
+            ),
+          )
+
+  -- ---- its rules
+
+  its_size : (u : Sockets) (l : To u) → number_by s (x.shapes u) ≡ (life_in_place b.lives l.user.place).size
+  its_size u l = ap (number_by s) (shape_is me n s b x r (not s) link u l.user) ∙ by s (is_senders (life_in_place b.lives l.user.place).local) (sender s (is_senders (life_in_place b.lives l.user.place).local) (ap (λ (y : ℕ). not (is_senders y)) l.user.sockets.local ∙ l.user.receives)) refl
+    where
+      sender : (t y : Bool) → not y ≡ not t → y ≡ t
+      sender true true e = refl
+      sender true false e = absurd (cc e)
+      sender false true e = absurd (cc e)
+      sender false false e = refl
+
+      by : (t y : Bool) → y ≡ t → is_senders (life_in_place b.lives l.user.place).local ≡ y → number_by t (Some (of_life (life_in_place b.lives l.user.place))) ≡ (life_in_place b.lives l.user.place).size
+      by true true e i = ap (λ (z : Bool). if z then (life_in_place b.lives l.user.place).size else (life_in_place b.lives l.user.place).link) i
+      by true false e i = absurd (cc e)
+      by false true e i = absurd (cc e)
+      by false false e i = ap (λ (z : Bool). if z then (life_in_place b.lives l.user.place).link else (life_in_place b.lives l.user.place).size) i
+
+  no_rules : (o p : Option Rule) → option_to_list o ++ option_to_list p ≡ [] → (o ≡ None) × (p ≡ None)
+  no_rules None None v = (refl, refl)
+  no_rules None (Some wrong) v = absurd (cc v)
+  no_rules (Some wrong) p v = absurd (cc v)
+
+  -- within what is allocated
+  some_left : (life : Life) → over_text_rule link bits life ≡ None → (1 ≤ life.messages) × (bits ≤ life.bits)
+  some_left life v = go (life.messages == 0) (nat_lt life.bits bits) refl refl v
+    where
+      not_none : (y : ℕ) → (y == 0) ≡ false → 1 ≤ y
+      not_none y e = grind (arith, nat_tests)
+
+      not_more : (y z : ℕ) → nat_lt y z ≡ false → z ≤ y
+      not_more y z e = grind (arith, nat_tests)
+
+      go : (y z : Bool) → (life.messages == 0) ≡ y → nat_lt life.bits bits ≡ z → (if y || z then Some (Rule.TextOver link life.messages bits life.bits) else None) ≡ None → (1 ≤ life.messages) × (bits ≤ life.bits)
+      go true z e i v = absurd (cc v)
+      go false true e i v = absurd (cc v)
+      go false false e i v = (not_none life.messages e, not_more life.bits bits i)
+
+  enough_left : (life : Life) → 1 ≤ life.messages → bits ≤ life.bits → over_text_rule link bits life ≡ None
+  enough_left life e i =
+      ap (λ (y : Bool). if y || nat_lt life.bits bits then Some (Rule.TextOver link life.messages bits life.bits) else None) (some life.messages e)
+      ∙ ap (λ (y : Bool). if y then Some (Rule.TextOver link life.messages bits life.bits) else None) (under bits life.bits i)
+    where
+      some : (y : ℕ) → 1 ≤ y → (y == 0) ≡ false
+      some y e = grind (arith, nat_tests)
+
+      under : (y z : ℕ) → y ≤ z → nat_lt z y ≡ false
+      under y z e = grind (arith, nat_tests)
+
+  sized : (o : Option ℕ) → is_some o ≡ true → size_rule link size o ≡ None → o ≡ Some size
+  sized None i v = absurd (cc i)
+  sized (Some asked) i v = go (size == asked) refl v
+    where
+      go : (y : Bool) → (size == asked) ≡ y → (if y then None else Some (Rule.TextSize link size asked)) ≡ None → Some asked ≡ Some size
+      go true e v = ap (λ (z : ℕ). Some z) (sym (eqb-true size asked e))
+      go false e v = absurd (cc v)
+
+  abbrev Takes : Sockets → Type 0
+  Takes u = (number_by s (x.shapes u) ≡ Some size) × (1 ≤ (x.counts u).messages) × (bits ≤ (x.counts u).bits)
+
+  legal_of : (u : Sockets) (l : To u) → TextLeads u l → is_some (life_in_place b.lives l.user.place).size ≡ true → TextLegal s link size bits x
+  legal_of u l t i =
+      let life = life_in_place b.lives l.user.place in
+      let two = no_rules (size_rule link size life.size) (over_text_rule link bits life) t.rules in
+      let left = some_left life two.1 in
+      leads_led me n s b x r (not s) link u Takes l
+      (its_size u l ∙ sized life.size i two.0, subst (λ (c : Count). 1 ≤ c.messages) l.counted left.0, subst (λ (c : Count). bits ≤ c.bits) l.counted left.1)
+
+  -- ---- the books after it
+
+  abbrev after_it : (u : Sockets) → To u → SeenBooks
+  after_it u l = put_life b (Some l.user.place) (counted_life me n s b x r (not s) link (counted_off 1 bits) (life_in_place b.lives l.user.place).came (life_in_place b.lives l.user.place))
+
+  taken : (u : Sockets) (l : To u) → TextLeads u l → books_after_text talk link message b ≡ after_text_came talk link (after_it u l)
+  taken u l t =
+      ap (led_after_text talk link message b) t.leads
+      ∙ ap (λ (rules : List Rule). admits_error_if (is_any rules) talk message (over_rests (is_any rules) talk link (after_text_came talk link (put_life b (Some l.user.place) (used bits (life_in_place b.lives l.user.place)))))) t.rules
+
+  read_taken : TextLegal s link size bits x → (u : Sockets) (l : To u) → ReadAs me n (after_it u l) (after_text_by s link bits x)
+  read_taken legal u l =
+      read_counted me n s b x r (not s) link u l (counted_off 1 bits) (life_in_place b.lives l.user.place).came (after_it u l) (after_text_by s link bits x) refl refl (λ v. refl) (λ v. refl) (λ t. refl) r.dues
+      (owes_text s x r.returning link bits) (fit_text s link size bits x legal r.fit)
+
+  -- ---- what may be sent
+
+  open_text : (u : Sockets) (l : To u) → is_closed_for talk (life_in_place b.lives l.user.place) ≡ false → is_some (life_in_place b.lives l.user.place).size ≡ true → led ≡ Lead.Open l.user.place
+  open_text u l c z = go (text_leads me n s link b r.unique)
+    where
+      at_one : (v : Sockets) (other : UserAt me n (not s) link b v) → other.place ≡ l.user.place
+      at_one v other = cc (sym other.found ∙ l.user.found)
+
+      go : LeadsTo me n (is_closed_for talk) (not s) link b led → led ≡ Lead.Open l.user.place
+      go (ToRest e m) = let no : true ≡ false = sym m ∙ r.links (not s) link in absurd (cc no)
+      go (ToNobody e m p) = let no : None ≡ Some l.user.place = sym p ∙ l.user.found in absurd (cc no)
+      go (ToClosed e m v other k) =
+          let no : true ≡ false = sym k ∙ ap (λ (i : ℕ). is_closed_for talk (life_in_place b.lives i)) (at_one v other) ∙ c in absurd (cc no)
+      go (ToUnasked v other e m k) =
+          let no : false ≡ true = sym (ap is_some k.1) ∙ ap (λ (i : ℕ). is_some (life_in_place b.lives i).size) (at_one v other) ∙ z in absurd (cc no)
+      go (ToOpen v other e m given k) = e ∙ ap (λ (i : ℕ). Lead.Open i) (at_one v other)
+
+  leads_of : (u : Sockets) (l : To u) → is_closed_for talk (life_in_place b.lives l.user.place) ≡ false → Takes u → TextLeads u l
+  leads_of u l c k = record {
+    leads = open_text u l c (ap is_some given);
+    rules = ap (λ (o : Option ℕ). option_to_list (size_rule link size o) ++ option_to_list (over_text_rule link bits (life_in_place b.lives l.user.place))) given
+        ∙ ap (λ (y : Bool). option_to_list (if y then None else Some (Rule.TextSize link size size)) ++ option_to_list (over_text_rule link bits (life_in_place b.lives l.user.place))) (eq-eqb size size refl)
+        ∙ ap option_to_list (enough_left (life_in_place b.lives l.user.place) (subst (λ (d : Count). 1 ≤ d.messages) (sym l.counted) k.1) (subst (λ (d : Count). bits ≤ d.bits) (sym l.counted) k.2));
   }
     where
-      texts : TextSeen me n b after
-      texts = text_seen me n link b
+      given : (life_in_place b.lives l.user.place).size ≡ Some size
+      given = sym (its_size u l) ∙ k.0
 
-      marks : (what : Topic) → is_marked me n what after ≡ is_marked me n what b
-      marks what = ap (list_any (is_topic me n what)) same_kept.0
+-- ---- a text of the host
 
-      shape : (v : Sockets) → (life_seen me n after v ≡ life_seen me n b v) ⊎ ((life : Life) × ((life_seen me n b v ≡ Some life) × (life_seen me n after v ≡ Some (record life { came = true })))) → seen (life_seen me n after v) ≡ x.shapes v
-      shape v (inl e) = ap seen e ∙ r.shapes v
-      shape v (inr k) = ap seen k.1.1 ∙ sym (ap seen k.1.0) ∙ r.shapes v
+pub read_own_text : (me n link : ℕ) (message : Message) (b : SeenBooks) (x : Said) → ReadAs me n b x → b.full ≡ false → text_rules (record { at = me; peer = n; sent = true }) link message b ≡ []
+    → TextLegal true link message.size (length message.text) x × ReadAs me n (books_after_text (record { at = me; peer = n; sent = true }) link message b) (after_text_by true link (length message.text) x)
+read_own_text me n link message b x r f v = (
+  legal,
+  subst (λ (z : SeenBooks). ReadAs me n z (after_text_by true link (length message.text) x)) (sym (taken me n true link message b x r to.0 to.1.0 to.1.1)) (read_taken me n true link message b x r legal to.0 to.1.0),
+)
+  where
+    to : (u : Sockets) × ((l : To me n true link message b x r u) × TextLeads me n true link message b x r u l)
+    to = text_opens me n true link message b x r (sym (ap (λ (y : Bool). if y then [] else led_text_rules link message b (text_lead (record { at = me; peer = n; sent = true }) link b)) f) ∙ v)
 
-      calm : (v : Sockets) → (life_seen me n after v ≡ life_seen me n b v) ⊎ ((life : Life) × ((life_seen me n b v ≡ Some life) × (life_seen me n after v ≡ Some (record life { came = true })))) → is_resting (life_seen me n after v) ≡ false
-      calm v (inl e) = ap is_resting e ∙ r.calm v
-      calm v (inr k) = ap is_resting k.1.1 ∙ sym (ap is_resting k.1.0) ∙ r.calm v
+    legal : TextLegal true link message.size (length message.text) x
+    legal = legal_of me n true link message b x r to.0 to.1.0 to.1.1 to.1.0.sized
+
+-- ---- a text of the other
+
+pub read_their_text : (me n link : ℕ) (message : Message) (b : SeenBooks) (x : Said) → ReadAs me n b x → TextLegal false link message.size (length message.text) x
+    → (text_rules (record { at = me; peer = n; sent = false }) link message b ≡ []) × ReadAs me n (books_after_text (record { at = me; peer = n; sent = false }) link message b) (after_text_by false link (length message.text) x)
+read_their_text me n link message b x r legal = (
+  by b.full,
+  subst (λ (z : SeenBooks). ReadAs me n z (after_text_by false link (length message.text) x)) (sym (taken me n false link message b x r to.0 to.1.0 leads))
+      (read_came me n link (after_it me n false link message b x r to.0 to.1.0) (after_text_by false link (length message.text) x) (read_taken me n false link message b x r legal to.0 to.1.0)),
+)
+  where
+    to : (u : Sockets) × (To me n false link message b x r u × Takes me n false link message b x r u)
+    to = led_leads me n false b x r true link (Takes me n false link message b x r) legal
+
+    or_false : (y : Bool) → y ≡ false → (y || false) ≡ false
+    or_false y e = ap (λ (z : Bool). z || false) e
+
+    leads : TextLeads me n false link message b x r to.0 to.1.0
+    leads = leads_of me n false link message b x r to.0 to.1.0 (or_false (has_sent_cls (life_in_place b.lives to.1.0.user.place) false) to.1.0.unleft) to.1.1
+
+    by : (y : Bool) → (if y then [] else led_text_rules link message b (text_lead (record { at = me; peer = n; sent = false }) link b)) ≡ []
+    by true = refl
+    by false = ap (led_text_rules link message b) leads.leads ∙ leads.rules

@@ -1,34 +1,36 @@
--- What two hosts said to each other on the control link, as one of them sees it: the connections, and the bytes of the echo_commutes
--- that have had no reply. What each of the two may say, and what is after it. Each definition takes the side that speaks:
--- true is the one who sees it, and false the other.
-use Rattle.std.proofs.Common.{◌≡◌, ℕ, ◌==◌, Bool, true, false, not, ◌&&◌, ◌||◌, nat_le, if◌then◌else◌, List, [], ◌∷◌, Option, None, Some, refl, ap, ◌∙◌}
+-- What two hosts said to each other on the control link, as one of them sees it: the connections, who has each link, what is
+-- counted of each connection, and the replies that each owes the other. What each of the two may say, and what is after it. Each
+-- definition takes the side that speaks: true is the one who sees it, and false the other.
+use Rattle.std.proofs.Common.{◌≡◌, ℕ, ◌+◌, ◌≤◌, ◌==◌, Bool, true, false, not, ◌&&◌, ◌||◌, nat_le, if◌then◌else◌, List, [], ◌∷◌, ◌++◌, Option, None, Some, refl, ap, ◌∙◌}
 use Rattle.std.specs.Option.{option_to_list}
 use Rattle.ncp_terms.specs.declared.command.Command.{Command}
 use Rattle.ncp_terms.specs.declared.command.Command.TheVariants.{Rts, Str, Cls, Eco, Erp, Err, Nop, All, Gvb, Ret, Inr, Ins, Rst, Rrp}
 use Rattle.ncp_umpire.specs.declared.finding.Rule.{Rule}
 use Rattle.ncp_umpire.specs.declared.life.Request.TheVariants.{Link, Size}
-use Rattle.ncp_umpire.specs.Replies.{is_about_link}
 use Rattle.ncp_umpire.specs.Requests.{is_of_sexes, range_rule}
 use Rattle.ncp_umpire.proofs.Shapes.{Shape, Say, Ask, Leave, legal, their_legal, others_of}
 use Rattle.ncp_umpire.proofs.LinkOrder.{Sockets, put, number_of}
-use Rattle.ncp_proof_umpire_talk.proofs.OwnMoves.{says_of}
-use Rattle.ncp_proof_umpire_talk.proofs.Proper.{has_right_parts}
-use Rattle.ncp_proof_umpire_talk.proofs.SeenBooks.{step}
+use Rattle.ncp_proof_umpire_seen.proofs.OwnMoves.{says_of}
+use Rattle.ncp_proof_umpire_seen.proofs.Proper.{has_right_parts}
+use Rattle.ncp_proof_umpire_seen.proofs.SeenBooks.{step}
+use Rattle.ncp_proof_umpire_counts.proofs.Words.{Count, no_count}
+use Rattle.ncp_proof_umpire_whole.proofs.Tallied.{Owing, Echoes, left_by, IsLed, is_echo_of, is_returning_on, NextOwed, owed_behind, has_echo, HasNumbers, any_owing, count_put, counted_on, counted_off, recalled_by, returned_by, return_asked, by_side, users_put, users_after_cls, counts_after_cls, owing_without}
 
--- mine: the byte of the ECO of the one who sees it that has had no ERP; theirs: that of the other
 pub record Said : Type 0 where
   pub shapes : Sockets → Option Shape
-  pub mine : Option ℕ
-  pub theirs : Option ℕ
+  pub users : Bool → ℕ → Option Sockets  -- the connection that has a link on which the side receives
+  pub counts : Sockets → Count
+  pub owing : Bool → List Owing  -- the replies that the side owes
 
 abbrev pub unspoken : Said
-unspoken = record { shapes = λ u. None; mine = None; theirs = None }
+unspoken = record { shapes = λ u. None; users = λ s link. None; counts = λ u. no_count; owing = λ s. [] }
 
 -- the same was said
 pub record SaidAlike (x y : Said) : Type 0 where
   pub shapes : (u : Sockets) → x.shapes u ≡ y.shapes u
-  pub mine : x.mine ≡ y.mine
-  pub theirs : x.theirs ≡ y.theirs
+  pub users : (s : Bool) (link : ℕ) → x.users s link ≡ y.users s link
+  pub counts : (u : Sockets) → x.counts u ≡ y.counts u
+  pub owing : (s : Bool) → x.owing s ≡ y.owing s
 
 -- ---- what a command says
 
@@ -60,26 +62,6 @@ own_says (Ins link) = refl
 own_says Rst = refl
 own_says Rrp = refl
 
--- the link that a receiver asks for
-abbrev pub link_wanted : Command → Option ℕ
-link_wanted (Rts receive send link) = Some link
-link_wanted c = None
-
--- the byte of an ECO, and that of an ERP
-
-abbrev pub byte_asked : Command → Option ℕ
-byte_asked (Eco byte) = Some byte
-byte_asked c = None
-
-abbrev pub byte_answered : Command → Option ℕ
-byte_answered (Erp byte) = Some byte
-byte_answered c = None
-
--- an ERR that says that the other broke a rule; of one about a link no rule is known
-abbrev pub is_judged_error : Command → Bool
-is_judged_error (Err code bytes) = not (is_about_link code bytes)
-is_judged_error c = false
-
 -- ---- what a side may say
 
 abbrev pub may_say : Bool → Say → Option Shape → Bool
@@ -100,33 +82,31 @@ abbrev pub number_by : Bool → Option Shape → Option ℕ
 number_by true m = number_of m
 number_by false m = others_of m
 
--- it receives by none with this link
-abbrev pub IsLinkFree : Bool → Option ℕ → (Sockets → Option Shape) → Type 0
-IsLinkFree s None m = Unit {0}
-IsLinkFree s (Some link) m = (u : Sockets) → takes_by s u ≡ true → number_by s (m u) ≡ Some link → ⊥
-
--- the byte of a side's ECO that has had no ERP
-abbrev pub echo_by : Bool → Said → Option ℕ
-echo_by true x = x.mine
-echo_by false x = x.theirs
-
--- it asks for no echo while it waits for one, and answers the one that is asked for
-
-abbrev pub AsksOnce : Option ℕ → Option ℕ → Type 0
-AsksOnce None waits = Unit {0}
-AsksOnce (Some byte) waits = waits ≡ None
-
-abbrev pub AnswersIt : Option ℕ → Option ℕ → Type 0
-AnswersIt None waits = Unit {0}
-AnswersIt (Some byte) waits = waits ≡ Some byte
+-- by what is counted and what is owed; no error of the other is ever found, so an ERR never is right
+abbrev pub TallyLegal : Bool → Command → Said → Type 0
+TallyLegal s (Rts receive send link) x = x.users s link ≡ None
+TallyLegal s (Str send receive size) x = Unit {0}
+TallyLegal s (Cls my your) x = Unit {0}
+TallyLegal s (Eco byte) x = has_echo (x.owing (not s)) ≡ false
+TallyLegal s (Erp byte) x = NextOwed (is_echo_of byte) any_owing (x.owing s)
+TallyLegal s (Err code bytes) x = ⊥
+TallyLegal s Nop x = Unit {0}
+TallyLegal s (All link messages bits) x = IsLed s s (x.users s link) x.shapes (λ u. ((x.counts u).messages + messages ≤ 65535) × ((x.counts u).bits + bits ≤ 65536))
+TallyLegal s (Gvb link fm fb) x = IsLed s s (x.users s link) x.shapes (λ u. (x.counts u).recall ≡ false)
+TallyLegal s (Ret link messages bits) x = IsLed s (not s) (x.users (not s) link) x.shapes (λ u. ((x.counts u).recall ≡ true) × NextOwed (is_returning_on link) (HasNumbers s messages bits (x.counts u)) (x.owing s))
+TallyLegal s (Inr link) x = IsLed s s (x.users s link) x.shapes (λ u. Unit {0})
+TallyLegal s (Ins link) x = IsLed s (not s) (x.users (not s) link) x.shapes (λ u. Unit {0})
+TallyLegal s Rst x = Unit {0}
+TallyLegal s Rrp x = Unit {0}
 
 pub record Legal (s : Bool) (c : Command) (x : Said) : Type 0 where
   pub right : has_right_parts c ≡ true
   pub fits : FitsBy s (say_of s c) x.shapes
-  pub free : IsLinkFree s (link_wanted c) x.shapes
-  pub asks : AsksOnce (byte_asked c) (echo_by s x)
-  pub answers : AnswersIt (byte_answered c) (echo_by (not s) x)
-  pub just : is_judged_error c ≡ false
+  pub tally : TallyLegal s c x
+
+-- a text: its size is that of the sender's request
+abbrev pub TextLegal : Bool → ℕ → ℕ → ℕ → Said → Type 0
+TextLegal s link size bits x = IsLed s (not s) (x.users (not s) link) x.shapes (λ u. (number_by s (x.shapes u) ≡ Some size) × (1 ≤ (x.counts u).messages) × (bits ≤ (x.counts u).bits))
 
 -- ---- what is after it
 
@@ -134,25 +114,36 @@ abbrev pub after_say : Bool → Option (Sockets × Say) → (Sockets → Option 
 after_say s None m = m
 after_say s (Some (p, a)) m = put m p (step s a (m p))
 
-abbrev pub asked_then : Option ℕ → Option ℕ → Option ℕ
-asked_then None waits = waits
-asked_then (Some byte) waits = Some byte
+abbrev pub users_after : Bool → Command → Said → Bool → ℕ → Option Sockets
+users_after s (Rts receive send link) x = users_put x.users s link (sockets_by s receive send)
+users_after s (Cls my your) x = users_after_cls (left_by (not s) (x.shapes (sockets_by s my your))) (sockets_by s my your) x.users
+users_after s c x = x.users
 
-abbrev pub answered_then : Option ℕ → Option ℕ → Option ℕ
-answered_then None waits = waits
-answered_then (Some byte) waits = None
+abbrev pub counts_said : Bool → Command → Said → Sockets → Count
+counts_said s (Cls my your) x = counts_after_cls (left_by (not s) (x.shapes (sockets_by s my your))) (sockets_by s my your) x.counts
+counts_said s (All link messages bits) x = count_put x.counts (x.users s link) (counted_on messages bits)
+counts_said s (Gvb link fm fb) x = count_put x.counts (x.users s link) (recalled_by s fm fb)
+counts_said s (Ret link messages bits) x = count_put x.counts (x.users (not s) link) (returned_by s messages bits)
+counts_said s c x = x.counts
+
+abbrev pub owing_after : Bool → Command → Said → Bool → List Owing
+owing_after s (Cls my your) x = by_side s (owing_without (sockets_by s my your) (x.owing s)) x.owing
+owing_after s (Eco byte) x = by_side (not s) (x.owing (not s) ++ Echoes byte ∷ []) x.owing
+owing_after s (Erp byte) x = by_side s (owed_behind (is_echo_of byte) (x.owing s)) x.owing
+owing_after s (Gvb link fm fb) x = by_side (not s) (x.owing (not s) ++ return_asked s link fm fb x.shapes x.counts (x.users s link)) x.owing
+owing_after s (Ret link messages bits) x = by_side s (owed_behind (is_returning_on link) (x.owing s)) x.owing
+owing_after s c x = x.owing
 
 abbrev pub after_said_by : Bool → Command → Said → Said
-after_said_by true c x = record {
-  shapes = after_say true (say_of true c) x.shapes;
-  mine = asked_then (byte_asked c) x.mine;
-  theirs = answered_then (byte_answered c) x.theirs;
-}
-after_said_by false c x = record {
-  shapes = after_say false (say_of false c) x.shapes;
-  mine = answered_then (byte_answered c) x.mine;
-  theirs = asked_then (byte_asked c) x.theirs;
-}
+after_said_by s c x = record { shapes = after_say s (say_of s c) x.shapes; users = users_after s c x; counts = counts_said s c x; owing = owing_after s c x }
+
+-- a text takes off one message and its bits
+abbrev pub after_text_by : Bool → ℕ → ℕ → Said → Said
+after_text_by s link bits x = record x { counts = count_put x.counts (x.users (not s) link) (counted_off 1 bits) }
+
+-- what the one who sees it owes is forgotten
+abbrev pub without_owed : Said → Said
+without_owed x = record x { owing = by_side true [] x.owing }
 
 -- ---- one after the other
 
@@ -170,27 +161,18 @@ abbrev pub facing_shape : Option Shape → Option Shape
 facing_shape None = None
 facing_shape (Some m) = Some (record { own = m.others; others = m.own; left = m.cls; cls = m.left })
 
-abbrev pub facing : Said → Said
-facing x = record { shapes = λ u. facing_shape (x.shapes (u.1, u.0)); mine = x.theirs; theirs = x.mine }
-
--- ---- two hosts: what the one saw, and what of the other is on its way to it; what the other saw, and what of the one is on
--- its way there. When all has come, both have seen the same.
-pub record Abreast (x : Said) (hs : List Command) (y : Said) (ks : List Command) : Type 0 where
-  pub here : LegalRun false ks x
-  pub there : LegalRun false hs y
-  pub meet : SaidAlike (after_run false ks x) (facing (after_run false hs y))
+abbrev pub facing_user : Option Sockets → Option Sockets
+facing_user None = None
+facing_user (Some u) = Some (u.1, u.0)
 
 -- ---- what each command may be, said at once
 
 pub legal_rts : (s : Bool) (receive send link : ℕ) (x : Said) → is_of_sexes receive send ≡ true → range_rule (Rts receive send link) (Link link) ≡ None → may_say s (Ask link) (x.shapes (sockets_by s receive send)) ≡ true
-    → ((u : Sockets) → takes_by s u ≡ true → number_by s (x.shapes u) ≡ Some link → ⊥) → Legal s (Rts receive send link) x
+    → x.users s link ≡ None → Legal s (Rts receive send link) x
 legal_rts s receive send link x sexes range fits free = record {
   right = ap (λ (b : Bool). b && (nat_le 2 link && nat_le link 71)) sexes ∙ go (nat_le 2 link && nat_le link 71) range;
   fits = fits;
-  free = free;
-  asks = tt;
-  answers = tt;
-  just = refl;
+  tally = free;
 }
   where
     go : (b : Bool) → (if b then None else Some (Rule.LinkRange (Rts receive send link))) ≡ None → b ≡ true
@@ -202,10 +184,7 @@ pub legal_str : (s : Bool) (send receive size : ℕ) (x : Said) → is_of_sexes 
 legal_str s send receive size x sexes range fits = record {
   right = ap (λ (b : Bool). b && not (size == 0)) sexes ∙ go (size == 0) range;
   fits = fits;
-  free = tt;
-  asks = tt;
-  answers = tt;
-  just = refl;
+  tally = tt;
 }
   where
     go : (b : Bool) → (if b then Some (Rule.SizeZero (Str send receive size)) else None) ≡ None → not b ≡ true
@@ -213,65 +192,52 @@ legal_str s send receive size x sexes range fits = record {
     go false e = refl
 
 pub legal_cls : (s : Bool) (my your : ℕ) (x : Said) → (is_of_sexes my your || is_of_sexes your my) ≡ true → may_say s Leave (x.shapes (sockets_by s my your)) ≡ true → Legal s (Cls my your) x
-legal_cls s my your x right fits = record { right = right; fits = fits; free = tt; asks = tt; answers = tt; just = refl }
+legal_cls s my your x right fits = record { right = right; fits = fits; tally = tt }
 
-pub legal_eco : (s : Bool) (byte : ℕ) (x : Said) → echo_by s x ≡ None → Legal s (Eco byte) x
-legal_eco s byte x none = record { right = refl; fits = tt; free = tt; asks = none; answers = tt; just = refl }
+-- what is of no request and no CLS
+abbrev pub tells_else : Command → Bool
+tells_else (Rts receive send link) = false
+tells_else (Str send receive size) = false
+tells_else (Cls my your) = false
+tells_else c = true
 
-pub legal_erp : (s : Bool) (byte : ℕ) (x : Said) → echo_by (not s) x ≡ Some byte → Legal s (Erp byte) x
-legal_erp s byte x waits = record { right = refl; fits = tt; free = tt; asks = tt; answers = waits; just = refl }
+pub legal_told : (s : Bool) (c : Command) (x : Said) → tells_else c ≡ true → TallyLegal s c x → Legal s c x
+legal_told s (Rts receive send link) x e t = absurd (cc e)
+legal_told s (Str send receive size) x e t = absurd (cc e)
+legal_told s (Cls my your) x e t = absurd (cc e)
+legal_told s (Eco byte) x e t = record { right = refl; fits = tt; tally = t }
+legal_told s (Erp byte) x e t = record { right = refl; fits = tt; tally = t }
+legal_told s (Err code bytes) x e t = absurd t
+legal_told s Nop x e t = record { right = refl; fits = tt; tally = t }
+legal_told s (All link messages bits) x e t = record { right = refl; fits = tt; tally = t }
+legal_told s (Gvb link fm fb) x e t = record { right = refl; fits = tt; tally = t }
+legal_told s (Ret link messages bits) x e t = record { right = refl; fits = tt; tally = t }
+legal_told s (Inr link) x e t = record { right = refl; fits = tt; tally = t }
+legal_told s (Ins link) x e t = record { right = refl; fits = tt; tally = t }
+legal_told s Rst x e t = record { right = refl; fits = tt; tally = t }
+legal_told s Rrp x e t = record { right = refl; fits = tt; tally = t }
 
-pub legal_err : (s : Bool) (code : ℕ) (bytes : List ℕ) (x : Said) → is_about_link code bytes ≡ true → Legal s (Err code bytes) x
-legal_err s code bytes x about = record { right = refl; fits = tt; free = tt; asks = tt; answers = tt; just = ap not about }
-
--- what says nothing of a connection or an echo
+-- what changes nothing of it
 abbrev pub is_idle : Command → Bool
-is_idle (Rts receive send link) = false
-is_idle (Str send receive size) = false
-is_idle (Cls my your) = false
-is_idle (Eco byte) = false
-is_idle (Erp byte) = false
-is_idle (Err code bytes) = is_about_link code bytes
-is_idle c = true
+is_idle Nop = true
+is_idle (Inr link) = true
+is_idle (Ins link) = true
+is_idle Rst = true
+is_idle Rrp = true
+is_idle c = false
 
-pub legal_idle : (s : Bool) (c : Command) (x : Said) → is_idle c ≡ true → Legal s c x
-legal_idle s (Rts receive send link) x e = absurd (cc e)
-legal_idle s (Str send receive size) x e = absurd (cc e)
-legal_idle s (Cls my your) x e = absurd (cc e)
-legal_idle s (Eco byte) x e = absurd (cc e)
-legal_idle s (Erp byte) x e = absurd (cc e)
-legal_idle s (Err code bytes) x e = legal_err s code bytes x e
-legal_idle s Nop x e = record { right = refl; fits = tt; free = tt; asks = tt; answers = tt; just = refl }
-legal_idle s (All link messages bits) x e = record { right = refl; fits = tt; free = tt; asks = tt; answers = tt; just = refl }
-legal_idle s (Gvb link fm fb) x e = record { right = refl; fits = tt; free = tt; asks = tt; answers = tt; just = refl }
-legal_idle s (Ret link messages bits) x e = record { right = refl; fits = tt; free = tt; asks = tt; answers = tt; just = refl }
-legal_idle s (Inr link) x e = record { right = refl; fits = tt; free = tt; asks = tt; answers = tt; just = refl }
-legal_idle s (Ins link) x e = record { right = refl; fits = tt; free = tt; asks = tt; answers = tt; just = refl }
-legal_idle s Rst x e = record { right = refl; fits = tt; free = tt; asks = tt; answers = tt; just = refl }
-legal_idle s Rrp x e = record { right = refl; fits = tt; free = tt; asks = tt; answers = tt; just = refl }
-
--- it leaves all as it is
 pub idle_leaves : (s : Bool) (c : Command) (x : Said) → is_idle c ≡ true → after_said_by s c x ≡ x
 idle_leaves s (Rts receive send link) x e = absurd (cc e)
 idle_leaves s (Str send receive size) x e = absurd (cc e)
 idle_leaves s (Cls my your) x e = absurd (cc e)
 idle_leaves s (Eco byte) x e = absurd (cc e)
 idle_leaves s (Erp byte) x e = absurd (cc e)
-idle_leaves true (Err code bytes) x e = refl
-idle_leaves false (Err code bytes) x e = refl
-idle_leaves true Nop x e = refl
-idle_leaves false Nop x e = refl
-idle_leaves true (All link messages bits) x e = refl
-idle_leaves false (All link messages bits) x e = refl
-idle_leaves true (Gvb link fm fb) x e = refl
-idle_leaves false (Gvb link fm fb) x e = refl
-idle_leaves true (Ret link messages bits) x e = refl
-idle_leaves false (Ret link messages bits) x e = refl
-idle_leaves true (Inr link) x e = refl
-idle_leaves false (Inr link) x e = refl
-idle_leaves true (Ins link) x e = refl
-idle_leaves false (Ins link) x e = refl
-idle_leaves true Rst x e = refl
-idle_leaves false Rst x e = refl
-idle_leaves true Rrp x e = refl
-idle_leaves false Rrp x e = refl
+idle_leaves s (Err code bytes) x e = absurd (cc e)
+idle_leaves s Nop x e = refl
+idle_leaves s (All link messages bits) x e = absurd (cc e)
+idle_leaves s (Gvb link fm fb) x e = absurd (cc e)
+idle_leaves s (Ret link messages bits) x e = absurd (cc e)
+idle_leaves s (Inr link) x e = refl
+idle_leaves s (Ins link) x e = refl
+idle_leaves s Rst x e = refl
+idle_leaves s Rrp x e = refl

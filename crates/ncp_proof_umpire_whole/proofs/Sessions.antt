@@ -1,7 +1,8 @@
 -- Two hosts in a session: what is seen of it at the interface of each, beside what is underway between them; through each
 -- command that goes out of one, or comes to the other.
-use Rattle.std.proofs.Common.{◌≡◌, ℕ, ◌==◌, Bool, true, false, not, ◌&&◌, ◌||◌, if◌then◌else◌, List, [], ◌∷◌, ◌++◌, Option, None, Some, Result, Ok, Err, option_map, option_to_list, append_assoc, append-nil, refl, sym, ap, ◌∙◌, subst, arith}
+use Rattle.std.proofs.Common.{◌≡◌, ℕ, ◌==◌, Bool, true, false, not, ◌&&◌, ◌||◌, if◌then◌else◌, List, [], ◌∷◌, ◌++◌, Option, None, Some, Result, Ok, Err, map, option_map, option_to_list, length, append_assoc, append-nil, refl, sym, ap, ◌∙◌, subst, arith}
 use Rattle.std.proofs.Math.Bool.{and-false}
+use Rattle.ncp_leader.specs.Message.{Message}
 use Rattle.ncp_terms.specs.declared.command.Command.{Command}
 use Rattle.ncp_terms.specs.declared.fault.CommandFault.{CommandFault}
 use Rattle.ncp_control.specs.Texts.{items_of}
@@ -19,34 +20,40 @@ use Rattle.ncp_umpire.specs.declared.view.Wait.TheVariants.{Answered, Even, Wait
 use Rattle.ncp_umpire.specs.Acts.{act_of}
 use Rattle.ncp_umpire.specs.Views.{awaits_reply, is_answered_too_often, more_waiting, new_view}
 use Rattle.ncp_umpire.specs.Lives.{SeenBooks, books_cleared, no_books}
-use Rattle.ncp_umpire.specs.Phases.{broken_by, is_early, after_thing, act_findings, after_act, item_findings, after_item, items_findings, after_items, view_after_reset, after_reset_of_host, after_reset_of_peer, view_after_reply, after_reply_of_host, after_reply_of_peer}
-use Rattle.ncp_umpire.specs.Speaking.{command_rule, spoken_rule, after_spoken, reply_left_out, after_all_said}
-use Rattle.ncp_umpire.specs.Talked.{reaches, act_reaches, clears, talk_finding, after_talk, all_findings, talked_findings, after_talked, missing, tells_left_out, missing_reply, missing_cls, left_out_findings, after_left_out}
-use Rattle.ncp_proof_umpire_talk.proofs.Elsewhere.{Alike, item_alike, cleared_alike, said_alike}
-use Rattle.ncp_proof_umpire_talk.proofs.BooksRead.{talk_reads, items_read}
+use Rattle.ncp_umpire.specs.Requests.{is_link_busy}
+use Rattle.ncp_umpire.specs.Phases.{broken_by, is_early, early_finding, after_thing, again_finding, unquiet_finding, first_finding, reset_findings, unasked_finding, reply_findings, act_findings, after_act, item_findings, after_item, items_findings, after_items, view_after_reset, after_reset_of_host, after_reset_of_peer, view_after_reply, after_reply_of_host, after_reply_of_peer}
+use Rattle.ncp_umpire.specs.Speaking.{command_rule, spoken_rule, spoken_numbers, after_spoken, reply_left_out, after_all_said}
+use Rattle.ncp_umpire.specs.Talked.{reaches, act_reaches, clears, talk_finding, number_findings, after_talk, talked_findings, after_talked, missing, tells_left_out, missing_reply, missing_cls, left_out_findings, after_left_out, text_findings, after_talked_text}
+use Rattle.ncp_umpire.specs.Allocation.{number_rules}
+use Rattle.ncp_umpire.specs.Texts.{text_rules, text_lead, led_text_rules, books_after_text}
+use Rattle.ncp_proof_umpire_seen.proofs.Elsewhere.{Alike, item_alike, cleared_alike, said_alike, text_alike}
+use Rattle.ncp_proof_umpire_counts.proofs.BooksRead.{talk_reads, items_read}
 use Rattle.ncp_proof_umpire_whole.proofs.NeverRests.{Awake, new_awake, IsThing, by_kind, OwnReset, own_reset, OwnReply, own_reply, TheirReset, their_reset, TheirReply, their_reply, none_early, thing_leaves, own_in_time}
-use Rattle.ncp_proof_umpire_whole.proofs.Said.{unspoken, Legal, after_said_by}
+use Rattle.ncp_proof_umpire_whole.proofs.Said.{Said, unspoken, Legal, after_said_by, TextLegal, after_text_by}
 use Rattle.ncp_proof_umpire_whole.proofs.Diamond.{alike_self}
+use Rattle.ncp_proof_umpire_whole.proofs.Abreast.{Afloat, with_float, LeavesNoText}
 use Rattle.ncp_proof_umpire_whole.proofs.AbreastSteps.{unspoken_abreast}
-use Rattle.ncp_proof_umpire_whole.proofs.ReadAs.{ReadAs, read_as_alike, read_cleared, read_none, read_others, read_all_said}
-use Rattle.ncp_proof_umpire_whole.proofs.ReadsSaid.{read_own, read_their, said_room}
+use Rattle.ncp_proof_umpire_whole.proofs.ReadAs.{ReadAs, read_as_alike, read_cleared, read_none, read_others, read_room}
+use Rattle.ncp_proof_umpire_whole.proofs.ReadsSaid.{read_own, read_their, own_cls_idle, said_room}
+use Rattle.ncp_proof_umpire_whole.proofs.ReadsTexts.{read_own_text, read_their_text}
 use Rattle.ncp_proof_umpire_whole.proofs.Hears.{crossing}
-use Rattle.ncp_proof_umpire_whole.proofs.SessionSteps.{Session, turn_session, session_books, session_resets, session_replies, session_says, session_reset_heard, session_reply_heard, session_drops, may_hear, session_hears}
+use Rattle.ncp_proof_umpire_whole.proofs.SessionSteps.{NoneAfloat, Session, turn_session, session_floats, session_books, session_resets, session_replies, session_says, session_sends, session_room, session_reset_heard, session_reply_heard, session_drops, may_hear, session_hears, session_drops_text, may_receive, session_receives}
 
--- h, k: the hosts; vh, vk: what is seen of the session at each; hl, kl: what of each is on its way to the other
-pub record Parley (h k : ℕ) (vh vk : View) (b : SeenBooks) (hl kl : List Command) : Type 0 where
+-- h, k: the hosts; vh, vk: what is seen of the session at each; hl, kl: the commands of each that are on their way to the other;
+-- ht, kt: the texts
+pub record Parley (h k : ℕ) (vh vk : View) (b : SeenBooks) (hl kl : List Command) (ht kt : Afloat) : Type 0 where
   pub awake_h : Awake vh
   pub awake_k : Awake vk
-  pub session : Session h k (awaits_reply vh.host.wait) vh.owes (awaits_reply vk.host.wait) vk.owes b hl kl
+  pub session : Session h k (awaits_reply vh.host.wait) vh.owes (awaits_reply vk.host.wait) vk.owes b hl kl ht kt
 
-pub turn_parley : (h k : ℕ) (vh vk : View) (b : SeenBooks) (hl kl : List Command) → Parley h k vh vk b hl kl → Parley k h vk vh b kl hl
-turn_parley h k vh vk b hl kl p = record {
+pub turn_parley : (h k : ℕ) (vh vk : View) (b : SeenBooks) (hl kl : List Command) (ht kt : Afloat) → Parley h k vh vk b hl kl ht kt → Parley k h vk vh b kl hl kt ht
+turn_parley h k vh vk b hl kl ht kt p = record {
   awake_h = p.awake_k;
   awake_k = p.awake_h;
-  session = turn_session h k (awaits_reply vh.host.wait) vh.owes (awaits_reply vk.host.wait) vk.owes b hl kl p.session;
+  session = turn_session h k (awaits_reply vh.host.wait) vh.owes (awaits_reply vk.host.wait) vk.owes b hl kl ht kt p.session;
 }
 
-pub begins_parley : (h k : ℕ) → Parley h k (new_view false) (new_view false) no_books [] []
+pub begins_parley : (h k : ℕ) → Parley h k (new_view false) (new_view false) no_books [] [] (λ l. None) (λ l. None)
 begins_parley h k = record {
   awake_h = new_awake;
   awake_k = new_awake;
@@ -58,6 +65,8 @@ begins_parley h k = record {
     at_k = read_none k h;
     empty_h = λ e. alike_self unspoken;
     empty_k = λ e. alike_self unspoken;
+    quiet_h = λ e l. refl;
+    quiet_k = λ e l. refl;
     here = tt;
     there = tt;
     abreast = λ e f. unspoken_abreast;
@@ -65,25 +74,33 @@ begins_parley h k = record {
 }
 
 -- another view of the first, that tells the same
-pub views_parley : (h k : ℕ) (vh wh vk : View) (b : SeenBooks) (hl kl : List Command) → Awake wh → wh.host.wait ≡ vh.host.wait → wh.owes ≡ vh.owes → Parley h k vh vk b hl kl → Parley h k wh vk b hl kl
-views_parley h k vh wh vk b hl kl a wait owes p = record {
+pub views_parley : (h k : ℕ) (vh wh vk : View) (b : SeenBooks) (hl kl : List Command) (ht kt : Afloat) → Awake wh → wh.host.wait ≡ vh.host.wait → wh.owes ≡ vh.owes → Parley h k vh vk b hl kl ht kt → Parley h k wh vk b hl kl ht kt
+views_parley h k vh wh vk b hl kl ht kt a wait owes p = record {
   awake_h = a;
   awake_k = p.awake_k;
   session =
-      subst (λ (w : Wait). Session h k (awaits_reply w) wh.owes (awaits_reply vk.host.wait) vk.owes b hl kl) (sym wait)
-      (subst (λ (o : Bool). Session h k (awaits_reply vh.host.wait) o (awaits_reply vk.host.wait) vk.owes b hl kl) (sym owes) p.session);
+      subst (λ (w : Wait). Session h k (awaits_reply w) wh.owes (awaits_reply vk.host.wait) vk.owes b hl kl ht kt) (sym wait)
+      (subst (λ (o : Bool). Session h k (awaits_reply vh.host.wait) o (awaits_reply vk.host.wait) vk.owes b hl kl ht kt) (sym owes) p.session);
+}
+
+-- the same texts are on their way
+pub floats_parley : (h k : ℕ) (vh vk : View) (b : SeenBooks) (hl kl : List Command) (ht kt hu ku : Afloat) → ((l : ℕ) → ht l ≡ hu l) → ((l : ℕ) → kt l ≡ ku l) → Parley h k vh vk b hl kl ht kt → Parley h k vh vk b hl kl hu ku
+floats_parley h k vh vk b hl kl ht kt hu ku e f p = record {
+  awake_h = p.awake_h;
+  awake_k = p.awake_k;
+  session = session_floats h k (awaits_reply vh.host.wait) vh.owes (awaits_reply vk.host.wait) vk.owes b hl kl ht kt hu ku e f p.session;
 }
 
 -- other books, of which the same is read
-pub reads_parley : (h k : ℕ) (vh vk : View) (b now : SeenBooks) (hl kl : List Command) (p : Parley h k vh vk b hl kl) → ReadAs h k now p.session.x → ReadAs k h now p.session.y → Parley h k vh vk now hl kl
-reads_parley h k vh vk b now hl kl p at_h at_k = record {
+pub reads_parley : (h k : ℕ) (vh vk : View) (b now : SeenBooks) (hl kl : List Command) (ht kt : Afloat) (p : Parley h k vh vk b hl kl ht kt) → ReadAs h k now p.session.x → ReadAs k h now p.session.y → Parley h k vh vk now hl kl ht kt
+reads_parley h k vh vk b now hl kl ht kt p at_h at_k = record {
   awake_h = p.awake_h;
   awake_k = p.awake_k;
-  session = session_books h k (awaits_reply vh.host.wait) vh.owes (awaits_reply vk.host.wait) vk.owes b now hl kl p.session at_h at_k;
+  session = session_books h k (awaits_reply vh.host.wait) vh.owes (awaits_reply vk.host.wait) vk.owes b now hl kl ht kt p.session at_h at_k;
 }
 
-pub books_parley : (h k : ℕ) (vh vk : View) (b now : SeenBooks) (hl kl : List Command) → Alike h k b now → Alike k h b now → Parley h k vh vk b hl kl → Parley h k vh vk now hl kl
-books_parley h k vh vk b now hl kl at_h at_k p = reads_parley h k vh vk b now hl kl p (read_others h k b now p.session.x at_h p.session.at_h) (read_others k h b now p.session.y at_k p.session.at_k)
+pub books_parley : (h k : ℕ) (vh vk : View) (b now : SeenBooks) (hl kl : List Command) (ht kt : Afloat) → Alike h k b now → Alike k h b now → Parley h k vh vk b hl kl ht kt → Parley h k vh vk now hl kl ht kt
+books_parley h k vh vk b now hl kl ht kt at_h at_k p = reads_parley h k vh vk b now hl kl ht kt p (read_others h k b now p.session.x at_h p.session.at_h) (read_others k h b now p.session.y at_k p.session.at_k)
 
 -- ---- findings of what is said
 
@@ -100,9 +117,25 @@ none_found turn false o e = refl
 none_judged : (turn : Turn) (x : Bool) (o : Option Rule) → x ≡ false → option_to_list (if x then option_map (broken_by turn) o else None) ≡ []
 none_judged turn x o e = ap (λ (y : Bool). option_to_list (if y then option_map (broken_by turn) o else None)) e
 
+-- so for the numbers of a RET
+unnumbered : (turn : Turn) (x : Bool) (rs : List Rule) → x ≡ true → (if x then map (broken_by turn) rs else []) ≡ [] → rs ≡ []
+unnumbered turn true [] e none = refl
+unnumbered turn true (r ∷ rs) e none = absurd (cc none)
+unnumbered turn false rs e none = absurd (cc e)
+
+no_numbers : (turn : Turn) (x : Bool) (rs : List Rule) → rs ≡ [] → (if x then map (broken_by turn) rs else []) ≡ []
+no_numbers turn true rs e = ap (map (broken_by turn)) e
+no_numbers turn false rs e = refl
+
+none_numbered : (turn : Turn) (x : Bool) (rs : List Rule) → x ≡ false → (if x then map (broken_by turn) rs else []) ≡ []
+none_numbered turn x rs e = ap (λ (y : Bool). if y then map (broken_by turn) rs else []) e
+
 -- where something found no room nothing is judged
 full_unbroken : (talk : Talk) (kept : List Kept) (c : Command) (b : SeenBooks) → b.full ≡ true → spoken_rule talk kept (Ok c) b ≡ None
 full_unbroken talk kept c b f = ap (λ (x : Bool). if x then None else command_rule talk kept c b) f
+
+full_unnumbered : (talk : Talk) (c : Command) (b : SeenBooks) → b.full ≡ true → spoken_numbers talk (Ok c) b ≡ []
+full_unnumbered talk c b f = ap (λ (x : Bool). if x then [] else number_rules talk c b) f
 
 pub empty_front : {A : Type 0} (xs ys : List A) → xs ++ ys ≡ [] → xs ≡ []
 empty_front [] ys e = refl
@@ -137,6 +170,21 @@ reached turn what v a early waits = go v.told (is_early turn what v) v.rests (no
 dropped : (turn : Turn) (what : Thing) (v : View) → (not turn.sent && awaits_reply v.host.wait) ≡ true → reaches turn what v ≡ false
 dropped turn what v w = ap (λ (x : Bool). v.told && not (is_early turn what v) && not v.rests && not x) w ∙ and-false (v.told && not (is_early turn what v) && not v.rests)
 
+-- what is kept of the messages of a host shows which of its texts are on their way
+pub record Floated (h k : ℕ) (busy : Option ℕ) (kept : List Kept) (ht : Afloat) : Type 0 where
+  pub none : busy ≡ None → NoneAfloat ht
+  pub idle : (l : ℕ) → is_link_busy h k (Some l) kept ≡ false → ht l ≡ None
+
+-- where a data link is busy, its RST and its RRP are found
+unbusy : (turn : Turn) (rule : ℕ → Finding) (v : View) → turn.sent ≡ true → v.rests ≡ false → option_to_list (if not turn.sent || v.rests then None else option_map rule turn.busy) ≡ [] → turn.busy ≡ None
+unbusy turn rule v s r none = go turn.sent v.rests turn.busy s r none
+  where
+    go : (s r : Bool) (o : Option ℕ) → s ≡ true → r ≡ false → option_to_list (if not s || r then None else option_map rule o) ≡ [] → o ≡ None
+    go true false None e f none = refl
+    go true false (Some l) e f none = absurd (cc none)
+    go true true o e f none = absurd (cc f)
+    go false r o e f none = absurd (cc e)
+
 module _ (h k by : ℕ) (busy : Option ℕ) (zero : Bool) (kept : List Kept) where
   -- ---- the first says something
 
@@ -148,20 +196,40 @@ module _ (h k by : ℕ) (busy : Option ℕ) (zero : Bool) (kept : List Kept) whe
 
   -- the books after a command
   abbrev books_said : Command → Act → View → SeenBooks → SeenBooks
-  books_said c act v b = if clears going act v then books_cleared h k b else if act_reaches going act v then after_spoken saying (Ok c) b else b
+  books_said c act v b = if clears going act v then books_cleared h k b else if act_reaches going act v then after_spoken saying kept (Ok c) b else b
 
   abbrev Goes : Command → Act → Type 0
   Goes c act =
-      (vh vk : View) (b : SeenBooks) (hl kl : List Command) → (h == k) ≡ false → act_findings going act vh ≡ []
-      → option_to_list (if act_reaches going act vh then option_map (broken_by going) (spoken_rule saying kept (Ok c) b) else None) ≡ [] → (books_said c act vh b).full ≡ false
-      → Parley h k vh vk b hl kl → Parley h k (after_act going act vh) vk (books_said c act vh b) (hl ++ c ∷ []) kl
+      (vh vk : View) (b : SeenBooks) (hl kl : List Command) (ht kt : Afloat) → (h == k) ≡ false → Floated h k busy kept ht → act_findings going act vh ≡ []
+      → option_to_list (if act_reaches going act vh then option_map (broken_by going) (spoken_rule saying kept (Ok c) b) else None) ≡ []
+      → (if act_reaches going act vh then map (broken_by going) (spoken_numbers saying (Ok c) b) else []) ≡ [] → (books_said c act vh b).full ≡ false
+      → Parley h k vh vk b hl kl ht kt → Parley h k (after_act going act vh) vk (books_said c act vh b) (hl ++ c ∷ []) kl ht kt
 
   from_here : (h == k) ≡ false → (h == k && k == h) ≡ false
   from_here e = ap (λ (x : Bool). x && k == h) e
 
+  -- an RST goes out while no text is on its way
+  rst_quiet : (vh : View) → Awake vh → reset_findings going vh ≡ [] → busy ≡ None
+  rst_quiet vh a none = unbusy going (λ (link : ℕ). broken_by going (Rule.Unquiet false link)) vh refl a.rests parted
+    where
+      again : List Finding
+      again = option_to_list (again_finding going vh)
+
+      unquiet : List Finding
+      unquiet = option_to_list (unquiet_finding false going vh)
+
+      first : List Finding
+      first = option_to_list (first_finding going vh)
+
+      heard : again ++ unquiet ++ first ≡ []
+      heard = sym (ap (λ (x : Bool). if x || (zero && not (is_answered_too_often vh.host.wait)) then again ++ unquiet ++ first else []) a.told) ∙ none
+
+      parted : unquiet ≡ []
+      parted = empty_rest again unquiet (empty_front (again ++ unquiet) first heard)
+
   rst_goes : Goes Command.Rst Reset
-  rst_goes vh vk b hl kl apart none unsaid room p =
-      subst (λ (x : Bool). Parley h k now vk (if x then books_cleared h k b else b) (hl ++ Command.Rst ∷ []) kl) (sym (rst_clears going vh p.awake_h))
+  rst_goes vh vk b hl kl ht kt apart shows none unsaid unnumbered room p =
+      subst (λ (x : Bool). Parley h k now vk (if x then books_cleared h k b else b) (hl ++ Command.Rst ∷ []) kl ht kt) (sym (rst_clears going vh p.awake_h))
       (record { awake_h = r.awake; awake_k = p.awake_k; session = turned })
     where
       now : View
@@ -173,18 +241,31 @@ module _ (h k by : ℕ) (busy : Option ℕ) (zero : Bool) (kept : List Kept) whe
       wk : Bool
       wk = awaits_reply vk.host.wait
 
-      s : Session h k false vh.owes wk vk.owes b hl kl
-      s = subst (λ (w : Bool). Session h k w vh.owes wk vk.owes b hl kl) r.before p.session
+      s : Session h k false vh.owes wk vk.owes b hl kl ht kt
+      s = subst (λ (w : Bool). Session h k w vh.owes wk vk.owes b hl kl ht kt) r.before p.session
 
-      turned : Session h k (awaits_reply now.host.wait) now.owes wk vk.owes (books_cleared h k b) (hl ++ Command.Rst ∷ []) kl
+      turned : Session h k (awaits_reply now.host.wait) now.owes wk vk.owes (books_cleared h k b) (hl ++ Command.Rst ∷ []) kl ht kt
       turned =
-          subst (λ (w : Bool). Session h k w now.owes wk vk.owes (books_cleared h k b) (hl ++ Command.Rst ∷ []) kl) (sym r.after)
-          (subst (λ (o : Bool). Session h k true o wk vk.owes (books_cleared h k b) (hl ++ Command.Rst ∷ []) kl) (sym r.owes)
-          (session_resets h k vh.owes wk vk.owes b (books_cleared h k b) hl kl s (read_cleared h k b)
+          subst (λ (w : Bool). Session h k w now.owes wk vk.owes (books_cleared h k b) (hl ++ Command.Rst ∷ []) kl ht kt) (sym r.after)
+          (subst (λ (o : Bool). Session h k true o wk vk.owes (books_cleared h k b) (hl ++ Command.Rst ∷ []) kl ht kt) (sym r.owes)
+          (session_resets h k vh.owes wk vk.owes b (books_cleared h k b) hl kl ht kt s (shows.none (rst_quiet vh p.awake_h none)) (read_cleared h k b)
           (read_others k h b (books_cleared h k b) s.y (cleared_alike k h h k (from_here apart) b) s.at_k)))
 
+  -- and an RRP
+  rrp_quiet : (vh : View) → Awake vh → reply_findings going vh ≡ [] → busy ≡ None
+  rrp_quiet vh a none = unbusy going (λ (link : ℕ). broken_by going (Rule.Unquiet true link)) vh refl a.rests parted
+    where
+      unasked : List Finding
+      unasked = option_to_list (unasked_finding going vh)
+
+      unquiet : List Finding
+      unquiet = option_to_list (unquiet_finding true going vh)
+
+      parted : unquiet ≡ []
+      parted = empty_rest unasked unquiet (sym (ap (λ (x : Bool). if x then unasked ++ unquiet else []) a.told) ∙ none)
+
   rrp_goes : Goes Command.Rrp Reply
-  rrp_goes vh vk b hl kl apart none unsaid room p = record { awake_h = r.awake; awake_k = p.awake_k; session = turned }
+  rrp_goes vh vk b hl kl ht kt apart shows none unsaid unnumbered room p = record { awake_h = r.awake; awake_k = p.awake_k; session = turned }
     where
       now : View
       now = view_after_reply going vh
@@ -198,23 +279,40 @@ module _ (h k by : ℕ) (busy : Option ℕ) (zero : Bool) (kept : List Kept) whe
       wk : Bool
       wk = awaits_reply vk.host.wait
 
-      turned : Session h k (awaits_reply now.host.wait) now.owes wk vk.owes b (hl ++ Command.Rrp ∷ []) kl
+      turned : Session h k (awaits_reply now.host.wait) now.owes wk vk.owes b (hl ++ Command.Rrp ∷ []) kl ht kt
       turned =
-          subst (λ (w : Bool). Session h k w now.owes wk vk.owes b (hl ++ Command.Rrp ∷ []) kl) (sym r.waits)
-          (subst (λ (o : Bool). Session h k wh o wk vk.owes b (hl ++ Command.Rrp ∷ []) kl) (sym r.after)
-          (session_replies h k wh wk vk.owes b hl kl (subst (λ (o : Bool). Session h k wh o wk vk.owes b hl kl) r.before p.session)))
+          subst (λ (w : Bool). Session h k w now.owes wk vk.owes b (hl ++ Command.Rrp ∷ []) kl ht kt) (sym r.waits)
+          (subst (λ (o : Bool). Session h k wh o wk vk.owes b (hl ++ Command.Rrp ∷ []) kl ht kt) (sym r.after)
+          (session_replies h k wh wk vk.owes b hl kl ht kt (shows.none (rrp_quiet vh p.awake_h none)) (subst (λ (o : Bool). Session h k wh o wk vk.owes b hl kl ht kt) r.before p.session)))
+
+  -- a sender closes while no text of it is out
+  own_quiet : (c : Command) (b : SeenBooks) (x : Said) (ht : Afloat) → Floated h k busy kept ht → b.full ≡ false → ReadAs h k b x → Legal true c x → spoken_rule saying kept (Ok c) b ≡ None → LeavesNoText c x ht
+  own_quiet (Command.Cls my your) b x ht shows f a l rule = λ on e. shows.idle on (own_cls_idle h k kept my your b x f a l rule on e)
+  own_quiet Command.Nop b x ht shows f a l rule = tt
+  own_quiet (Command.Rts receive send link) b x ht shows f a l rule = tt
+  own_quiet (Command.Str send receive size) b x ht shows f a l rule = tt
+  own_quiet (Command.All link messages bits) b x ht shows f a l rule = tt
+  own_quiet (Command.Gvb link fm fb) b x ht shows f a l rule = tt
+  own_quiet (Command.Ret link messages bits) b x ht shows f a l rule = tt
+  own_quiet (Command.Inr link) b x ht shows f a l rule = tt
+  own_quiet (Command.Ins link) b x ht shows f a l rule = tt
+  own_quiet (Command.Eco byte) b x ht shows f a l rule = tt
+  own_quiet (Command.Erp byte) b x ht shows f a l rule = tt
+  own_quiet (Command.Err code bytes) b x ht shows f a l rule = tt
+  own_quiet Command.Rst b x ht shows f a l rule = tt
+  own_quiet Command.Rrp b x ht shows f a l rule = tt
 
   thing_goes : (c : Command) (t : IsThing c) → Goes c (Other t.what)
-  thing_goes c t vh vk b hl kl apart none unsaid room p =
-      subst (λ (v : View). Parley h k v vk (books_said c (Other t.what) vh b) (hl ++ c ∷ []) kl) (sym same)
-      (subst (λ (x : Bool). Parley h k vh vk (if x then now else b) (hl ++ c ∷ []) kl) (sym reach)
+  thing_goes c t vh vk b hl kl ht kt apart shows none unsaid unnumbered_so room p =
+      subst (λ (v : View). Parley h k v vk (books_said c (Other t.what) vh b) (hl ++ c ∷ []) kl ht kt) (sym same)
+      (subst (λ (x : Bool). Parley h k vh vk (if x then now else b) (hl ++ c ∷ []) kl ht kt) (sym reach)
       (record { awake_h = p.awake_h; awake_k = p.awake_k; session = turned }))
     where
       wk : Bool
       wk = awaits_reply vk.host.wait
 
       now : SeenBooks
-      now = after_spoken saying (Ok c) b
+      now = after_spoken saying kept (Ok c) b
 
       early : is_early going t.what vh ≡ false
       early = none_early going t.what vh p.awake_h.told none
@@ -231,45 +329,55 @@ module _ (h k by : ℕ) (busy : Option ℕ) (zero : Bool) (kept : List Kept) whe
       rule : spoken_rule saying kept (Ok c) b ≡ None
       rule = unbroken going (reaches going t.what vh) (spoken_rule saying kept (Ok c) b) reach unsaid
 
+      numbers : spoken_numbers saying (Ok c) b ≡ []
+      numbers = unnumbered going (reaches going t.what vh) (spoken_numbers saying (Ok c) b) reach unnumbered_so
+
       room_now : now.full ≡ false
       room_now = subst (λ (x : Bool). (if x then now else b).full ≡ false) reach room
 
-      s : Session h k false false wk vk.owes b hl kl
-      s = subst (λ (o : Bool). Session h k false o wk vk.owes b hl kl) in_time.1 (subst (λ (w : Bool). Session h k w vh.owes wk vk.owes b hl kl) in_time.0 p.session)
+      room_before : b.full ≡ false
+      room_before = said_room h k true kept c b room_now
+
+      s : Session h k false false wk vk.owes b hl kl ht kt
+      s = subst (λ (o : Bool). Session h k false o wk vk.owes b hl kl ht kt) in_time.1 (subst (λ (w : Bool). Session h k w vh.owes wk vk.owes b hl kl ht kt) in_time.0 p.session)
 
       read : Legal true c s.x × (now.full ≡ false → ReadAs h k now (after_said_by true c s.x))
-      read = read_own h k kept c b s.x (said_room h k true c b room_now) s.at_h rule
+      read = read_own h k kept c b s.x room_before s.at_h rule numbers
 
-      turned : Session h k (awaits_reply vh.host.wait) vh.owes wk vk.owes now (hl ++ c ∷ []) kl
+      turned : Session h k (awaits_reply vh.host.wait) vh.owes wk vk.owes now (hl ++ c ∷ []) kl ht kt
       turned =
-          subst (λ (w : Bool). Session h k w vh.owes wk vk.owes now (hl ++ c ∷ []) kl) (sym in_time.0)
-          (subst (λ (o : Bool). Session h k false o wk vk.owes now (hl ++ c ∷ []) kl) (sym in_time.1)
-          (session_says h k wk vk.owes b now c hl kl s t.not_rst t.not_rrp read.0 (read.1 room_now) (read_others k h b now s.y (item_alike k h h k (from_here apart) true (Ok c) b) s.at_k)))
+          subst (λ (w : Bool). Session h k w vh.owes wk vk.owes now (hl ++ c ∷ []) kl ht kt) (sym in_time.0)
+          (subst (λ (o : Bool). Session h k false o wk vk.owes now (hl ++ c ∷ []) kl ht kt) (sym in_time.1)
+          (session_says h k wk vk.owes b now c hl kl ht kt s t.not_rst t.not_rrp read.0 (own_quiet c b s.x ht shows room_before s.at_h read.0 rule) (read.1 room_now)
+          (read_others k h b now s.y (item_alike k h h k (from_here apart) true kept (Ok c) b) s.at_k)))
 
   each_goes : (c : Command) → Goes c (act_of (Ok c))
   each_goes = by_kind (λ (c : Command). Goes c (act_of (Ok c))) rst_goes rrp_goes (λ c t. subst (Goes c) (sym t.act) (thing_goes c t))
 
   -- a list of them
-  pub own_items : (cs : List Command) (vh vk : View) (b : SeenBooks) (hl kl : List Command) → (h == k) ≡ false → talked_findings going saying kept (items_of cs None) vh b ≡ []
-      → (after_talked going saying (items_of cs None) vh b).full ≡ false → Parley h k vh vk b hl kl
-      → Parley h k (after_items going (items_of cs None) vh) vk (after_talked going saying (items_of cs None) vh b) (hl ++ cs) kl
-  own_items [] vh vk b hl kl apart none room p = subst (λ (l : List Command). Parley h k vh vk b l kl) (sym (append-nil hl)) p
-  own_items (c ∷ cs) vh vk b hl kl apart none room p =
+  pub own_items : (cs : List Command) (vh vk : View) (b : SeenBooks) (hl kl : List Command) (ht kt : Afloat) → (h == k) ≡ false → Floated h k busy kept ht → talked_findings going saying kept (items_of cs None) vh b ≡ []
+      → (after_talked going saying kept (items_of cs None) vh b).full ≡ false → Parley h k vh vk b hl kl ht kt
+      → Parley h k (after_items going (items_of cs None) vh) vk (after_talked going saying kept (items_of cs None) vh b) (hl ++ cs) kl ht kt
+  own_items [] vh vk b hl kl ht kt apart shows none room p = subst (λ (l : List Command). Parley h k vh vk b l kl ht kt) (sym (append-nil hl)) p
+  own_items (c ∷ cs) vh vk b hl kl ht kt apart shows none room p =
       let v : View = after_item going (Ok c) vh in
-      let now : SeenBooks = after_talk going saying (Ok c) vh b in
+      let now : SeenBooks = after_talk going saying kept (Ok c) vh b in
       let found : List Finding = talked_findings going saying kept (items_of cs None) v now in
-      let one = empty_front (all_findings going saying kept (Ok c) vh b) found none in
-      let of_phase = empty_front (item_findings going (Ok c) vh) (option_to_list (talk_finding going saying kept (Ok c) vh b)) one in
-      let of_talk = empty_rest (item_findings going (Ok c) vh) (option_to_list (talk_finding going saying kept (Ok c) vh b)) one in
-      let rest = empty_rest (all_findings going saying kept (Ok c) vh b) found none in
-      subst (λ (l : List Command). Parley h k (after_items going (items_of cs None) v) vk (after_talked going saying (items_of cs None) v now) l kl) (append_assoc hl (c ∷ []) cs)
-      (own_items cs v vk now (hl ++ c ∷ []) kl apart rest room
-      (each_goes c vh vk b hl kl apart of_phase of_talk ((items_read h k going (items_of cs None) v now).room room) p))
+      let of_phase : List Finding = item_findings going (Ok c) vh in
+      let of_talk : List Finding = option_to_list (talk_finding going saying kept (Ok c) vh b) in
+      let of_numbers : List Finding = number_findings going saying (Ok c) vh b in
+      let all = empty_front (of_phase ++ of_talk ++ of_numbers) found none in
+      let one = empty_front (of_phase ++ of_talk) of_numbers all in
+      let rest = empty_rest (of_phase ++ of_talk ++ of_numbers) found none in
+      subst (λ (l : List Command). Parley h k (after_items going (items_of cs None) v) vk (after_talked going saying kept (items_of cs None) v now) l kl ht kt) (append_assoc hl (c ∷ []) cs)
+      (own_items cs v vk now (hl ++ c ∷ []) kl ht kt apart shows rest room
+      (each_goes c vh vk b hl kl ht kt apart shows (empty_front of_phase of_talk one) (empty_rest of_phase of_talk one) (empty_rest (of_phase ++ of_talk) of_numbers all)
+      ((items_read h k going kept (items_of cs None) v now).room room) p))
 
   -- and behind them
-  pub own_room : (full_room : Bool) (v vk : View) (b : SeenBooks) (hl kl : List Command) → (h == k) ≡ false → left_out_findings going saying kept full_room v b ≡ [] → Parley h k v vk b hl kl
-      → Parley h k v vk (after_left_out going saying full_room v b) hl kl
-  own_room full_room v vk b hl kl apart none p = go (tells_left_out going full_room v b) refl
+  pub own_left : (full_room : Bool) (v vk : View) (b : SeenBooks) (hl kl : List Command) (ht kt : Afloat) → (h == k) ≡ false → left_out_findings going saying kept full_room v b ≡ [] → Parley h k v vk b hl kl ht kt
+      → Parley h k v vk (after_left_out going saying full_room v b) hl kl ht kt
+  own_left full_room v vk b hl kl ht kt apart none p = go (tells_left_out going full_room v b) refl
     where
       left : List Finding
       left = option_to_list (missing_cls going saying kept full_room v b)
@@ -279,12 +387,18 @@ module _ (h k by : ℕ) (busy : Option ℕ) (zero : Bool) (kept : List Kept) whe
       no_missing true (Some c) e f = absurd (cc f)
       no_missing false o e f = absurd (cc e)
 
-      go : (x : Bool) → tells_left_out going full_room v b ≡ x → Parley h k v vk (if x then after_all_said h k b else b) hl kl
+      go : (x : Bool) → tells_left_out going full_room v b ≡ x → Parley h k v vk (if x then after_all_said h k b else b) hl kl ht kt
       go false e = p
       go true e =
           let s = p.session in
           let reply = no_missing (tells_left_out going full_room v b) (reply_left_out h k b) e (empty_front (option_to_list (missing_reply going saying full_room v b)) left none) in
-          reads_parley h k v vk b (after_all_said h k b) hl kl p (read_all_said h k b s.x reply s.at_h) (read_others k h b (after_all_said h k b) s.y (said_alike k h h k (from_here apart) b) s.at_k)
+          let read = read_room h k b s.x reply s.at_h in
+          record {
+            awake_h = p.awake_h;
+            awake_k = p.awake_k;
+            session = session_room h k (awaits_reply v.host.wait) v.owes (awaits_reply vk.host.wait) vk.owes b (after_all_said h k b) hl kl ht kt s read.0 read.1
+                (read_others k h b (after_all_said h k b) s.y (said_alike k h h k (from_here apart) b) s.at_k);
+          }
 
   -- ---- it comes to the second
 
@@ -295,19 +409,19 @@ module _ (h k by : ℕ) (busy : Option ℕ) (zero : Bool) (kept : List Kept) whe
   hearing = record { at = k; peer = h; sent = false }
 
   abbrev books_heard : Command → Act → View → SeenBooks → SeenBooks
-  books_heard c act v b = if clears coming act v then books_cleared k h b else if act_reaches coming act v then after_spoken hearing (Ok c) b else b
+  books_heard c act v b = if clears coming act v then books_cleared k h b else if act_reaches coming act v then after_spoken hearing kept (Ok c) b else b
 
   abbrev Comes : Command → Act → Type 0
   Comes c act =
-      (vh vk : View) (b : SeenBooks) (hl kl : List Command) → (h == k) ≡ false → act_findings coming act vk ≡ [] → (books_heard c act vk b).full ≡ false
-      → Parley h k vh vk b (c ∷ hl) kl → Parley h k vh (after_act coming act vk) (books_heard c act vk b) hl kl
+      (vh vk : View) (b : SeenBooks) (hl kl : List Command) (ht kt : Afloat) → (h == k) ≡ false → act_findings coming act vk ≡ [] → (books_heard c act vk b).full ≡ false
+      → Parley h k vh vk b (c ∷ hl) kl ht kt → Parley h k vh (after_act coming act vk) (books_heard c act vk b) hl kl ht kt
 
   from_there : (h == k) ≡ false → (k == h && h == k) ≡ false
   from_there e = ap (λ (x : Bool). k == h && x) e ∙ and-false (k == h)
 
   rst_comes : Comes Command.Rst Reset
-  rst_comes vh vk b hl kl apart none room p =
-      subst (λ (x : Bool). Parley h k vh now (if x then cleared else b) hl kl) (sym (rst_clears coming vk p.awake_k))
+  rst_comes vh vk b hl kl ht kt apart none room p =
+      subst (λ (x : Bool). Parley h k vh now (if x then cleared else b) hl kl ht kt) (sym (rst_clears coming vk p.awake_k))
       (record { awake_h = p.awake_h; awake_k = r.awake; session = turned })
     where
       now : View
@@ -325,22 +439,22 @@ module _ (h k by : ℕ) (busy : Option ℕ) (zero : Bool) (kept : List Kept) whe
       wk : Bool
       wk = awaits_reply vk.host.wait
 
-      s : Session h k wh vh.owes wk false b (Command.Rst ∷ hl) kl
-      s = subst (λ (o : Bool). Session h k wh vh.owes wk o b (Command.Rst ∷ hl) kl) r.before p.session
+      s : Session h k wh vh.owes wk false b (Command.Rst ∷ hl) kl ht kt
+      s = subst (λ (o : Bool). Session h k wh vh.owes wk o b (Command.Rst ∷ hl) kl ht kt) r.before p.session
 
       empty : ReadAs h k cleared unspoken
       empty =
           read_others h k b cleared unspoken (cleared_alike h k k h (from_there apart) b)
           (read_as_alike h k b s.x unspoken (s.empty_h (crossing wh vh.owes wk false (Command.Rst ∷ hl) kl (omega arith) s.matched).waits) s.at_h)
 
-      turned : Session h k wh vh.owes (awaits_reply now.host.wait) now.owes cleared hl kl
+      turned : Session h k wh vh.owes (awaits_reply now.host.wait) now.owes cleared hl kl ht kt
       turned =
-          subst (λ (w : Bool). Session h k wh vh.owes w now.owes cleared hl kl) (sym r.waits)
-          (subst (λ (o : Bool). Session h k wh vh.owes wk o cleared hl kl) (sym r.after)
-          (session_reset_heard h k wh vh.owes wk b cleared hl kl s empty (read_cleared k h b)))
+          subst (λ (w : Bool). Session h k wh vh.owes w now.owes cleared hl kl ht kt) (sym r.waits)
+          (subst (λ (o : Bool). Session h k wh vh.owes wk o cleared hl kl ht kt) (sym r.after)
+          (session_reset_heard h k wh vh.owes wk b cleared hl kl ht kt s empty (read_cleared k h b)))
 
   rrp_comes : Comes Command.Rrp Reply
-  rrp_comes vh vk b hl kl apart none room p = record { awake_h = p.awake_h; awake_k = r.awake; session = turned }
+  rrp_comes vh vk b hl kl ht kt apart none room p = record { awake_h = p.awake_h; awake_k = r.awake; session = turned }
     where
       now : View
       now = view_after_reply coming vk
@@ -351,22 +465,22 @@ module _ (h k by : ℕ) (busy : Option ℕ) (zero : Bool) (kept : List Kept) whe
       wh : Bool
       wh = awaits_reply vh.host.wait
 
-      turned : Session h k wh vh.owes (awaits_reply now.host.wait) now.owes b hl kl
+      turned : Session h k wh vh.owes (awaits_reply now.host.wait) now.owes b hl kl ht kt
       turned =
-          subst (λ (w : Bool). Session h k wh vh.owes w now.owes b hl kl) (sym r.after)
-          (subst (λ (o : Bool). Session h k wh vh.owes false o b hl kl) (sym r.owes)
-          (session_reply_heard h k wh vh.owes vk.owes b hl kl (subst (λ (w : Bool). Session h k wh vh.owes w vk.owes b (Command.Rrp ∷ hl) kl) r.before p.session)))
+          subst (λ (w : Bool). Session h k wh vh.owes w now.owes b hl kl ht kt) (sym r.after)
+          (subst (λ (o : Bool). Session h k wh vh.owes false o b hl kl ht kt) (sym r.owes)
+          (session_reply_heard h k wh vh.owes vk.owes b hl kl ht kt (subst (λ (w : Bool). Session h k wh vh.owes w vk.owes b (Command.Rrp ∷ hl) kl ht kt) r.before p.session)))
 
   thing_comes : (c : Command) (t : IsThing c) → Comes c (Other t.what)
-  thing_comes c t vh vk b hl kl apart none room p =
-      subst (λ (v : View). Parley h k vh v (books_heard c (Other t.what) vk b) hl kl) (sym same)
+  thing_comes c t vh vk b hl kl ht kt apart none room p =
+      subst (λ (v : View). Parley h k vh v (books_heard c (Other t.what) vk b) hl kl ht kt) (sym same)
       (record { awake_h = p.awake_h; awake_k = p.awake_k; session = turned (awaits_reply vk.host.wait) refl })
     where
       wh : Bool
       wh = awaits_reply vh.host.wait
 
       now : SeenBooks
-      now = after_spoken hearing (Ok c) b
+      now = after_spoken hearing kept (Ok c) b
 
       early : is_early coming t.what vk ≡ false
       early = none_early coming t.what vk p.awake_k.told none
@@ -374,97 +488,226 @@ module _ (h k by : ℕ) (busy : Option ℕ) (zero : Bool) (kept : List Kept) whe
       same : after_thing coming t.what vk ≡ vk
       same = thing_leaves coming t.what vk early
 
-      turned : (w : Bool) → awaits_reply vk.host.wait ≡ w → Session h k wh vh.owes (awaits_reply vk.host.wait) vk.owes (if reaches coming t.what vk then now else b) hl kl
+      turned : (w : Bool) → awaits_reply vk.host.wait ≡ w → Session h k wh vh.owes (awaits_reply vk.host.wait) vk.owes (if reaches coming t.what vk then now else b) hl kl ht kt
       turned true e =
-          subst (λ (x : Bool). Session h k wh vh.owes (awaits_reply vk.host.wait) vk.owes (if x then now else b) hl kl) (sym (dropped coming t.what vk e))
-          (subst (λ (w : Bool). Session h k wh vh.owes w vk.owes b hl kl) (sym e)
-          (session_drops h k wh vh.owes vk.owes b c hl kl t.not_rst t.not_rrp (subst (λ (w : Bool). Session h k wh vh.owes w vk.owes b (c ∷ hl) kl) e p.session)))
+          subst (λ (x : Bool). Session h k wh vh.owes (awaits_reply vk.host.wait) vk.owes (if x then now else b) hl kl ht kt) (sym (dropped coming t.what vk e))
+          (subst (λ (w : Bool). Session h k wh vh.owes w vk.owes b hl kl ht kt) (sym e)
+          (session_drops h k wh vh.owes vk.owes b c hl kl ht kt t.not_rst t.not_rrp (subst (λ (w : Bool). Session h k wh vh.owes w vk.owes b (c ∷ hl) kl ht kt) e p.session)))
       turned false e =
           let reach : reaches coming t.what vk ≡ true = reached coming t.what vk p.awake_k early e in
           let room_now : now.full ≡ false = subst (λ (x : Bool). (if x then now else b).full ≡ false) reach room in
-          let s : Session h k wh vh.owes false vk.owes b (c ∷ hl) kl = subst (λ (w : Bool). Session h k wh vh.owes w vk.owes b (c ∷ hl) kl) e p.session in
-          let legal : Legal false c s.y = (may_hear h k wh vh.owes vk.owes b c hl kl t.not_rst t.not_rrp s).0 in
+          let s : Session h k wh vh.owes false vk.owes b (c ∷ hl) kl ht kt = subst (λ (w : Bool). Session h k wh vh.owes w vk.owes b (c ∷ hl) kl ht kt) e p.session in
+          let legal : Legal false c s.y = (may_hear h k wh vh.owes vk.owes b c hl kl ht kt t.not_rst t.not_rrp s).0 in
           let read = read_their k h kept c b s.y s.at_k legal in
-          subst (λ (x : Bool). Session h k wh vh.owes (awaits_reply vk.host.wait) vk.owes (if x then now else b) hl kl) (sym reach)
-          (subst (λ (w : Bool). Session h k wh vh.owes w vk.owes now hl kl) (sym e)
-          (session_hears h k wh vh.owes vk.owes b now c hl kl t.not_rst t.not_rrp s (read_others h k b now s.x (item_alike h k k h (from_there apart) false (Ok c) b) s.at_h) (read.1 room_now)))
+          subst (λ (x : Bool). Session h k wh vh.owes (awaits_reply vk.host.wait) vk.owes (if x then now else b) hl kl ht kt) (sym reach)
+          (subst (λ (w : Bool). Session h k wh vh.owes w vk.owes now hl kl ht kt) (sym e)
+          (session_hears h k wh vh.owes vk.owes b now c hl kl ht kt t.not_rst t.not_rrp s (read_others h k b now s.x (item_alike h k k h (from_there apart) false kept (Ok c) b) s.at_h) (read.2 room_now)))
 
   each_comes : (c : Command) → Comes c (act_of (Ok c))
   each_comes = by_kind (λ (c : Command). Comes c (act_of (Ok c))) rst_comes rrp_comes (λ c t. subst (Comes c) (sym t.act) (thing_comes c t))
 
   -- nothing is found in it
+  abbrev found_in : Command → Act → View → SeenBooks → List Finding
+  found_in c act vk b =
+      option_to_list (if act_reaches coming act vk then option_map (broken_by coming) (spoken_rule hearing kept (Ok c) b) else None)
+      ++ (if act_reaches coming act vk then map (broken_by coming) (spoken_numbers hearing (Ok c) b) else [])
+
   abbrev Unfound : Command → Act → Type 0
-  Unfound c act =
-      (vh vk : View) (b : SeenBooks) (hl kl : List Command) → act_findings coming act vk ≡ [] → (b.full ≡ false → Parley h k vh vk b (c ∷ hl) kl)
-      → option_to_list (if act_reaches coming act vk then option_map (broken_by coming) (spoken_rule hearing kept (Ok c) b) else None) ≡ []
+  Unfound c act = (vh vk : View) (b : SeenBooks) (hl kl : List Command) (ht kt : Afloat) → act_findings coming act vk ≡ [] → (b.full ≡ false → Parley h k vh vk b (c ∷ hl) kl ht kt) → found_in c act vk b ≡ []
 
   thing_unfound : (c : Command) (t : IsThing c) → Unfound c (Other t.what)
-  thing_unfound c t vh vk b hl kl none p = go b.full refl
+  thing_unfound c t vh vk b hl kl ht kt none p = go b.full refl
     where
       rule : Option Rule
       rule = spoken_rule hearing kept (Ok c) b
 
-      go : (f : Bool) → b.full ≡ f → option_to_list (if reaches coming t.what vk then option_map (broken_by coming) rule else None) ≡ []
-      go true f = none_found coming (reaches coming t.what vk) rule (full_unbroken hearing kept c b f)
+      numbers : List Rule
+      numbers = spoken_numbers hearing (Ok c) b
+
+      reach : Bool
+      reach = reaches coming t.what vk
+
+      both : option_to_list (if reach then option_map (broken_by coming) rule else None) ≡ [] → (if reach then map (broken_by coming) numbers else []) ≡ [] → found_in c (Other t.what) vk b ≡ []
+      both e f = ap (λ (xs : List Finding). xs ++ (if reach then map (broken_by coming) numbers else [])) e ∙ f
+
+      go : (f : Bool) → b.full ≡ f → found_in c (Other t.what) vk b ≡ []
+      go true f = both (none_found coming reach rule (full_unbroken hearing kept c b f)) (no_numbers coming reach numbers (full_unnumbered hearing c b f))
       go false f = by_wait (awaits_reply vk.host.wait) refl
         where
           wh : Bool
           wh = awaits_reply vh.host.wait
 
-          by_wait : (w : Bool) → awaits_reply vk.host.wait ≡ w → option_to_list (if reaches coming t.what vk then option_map (broken_by coming) rule else None) ≡ []
-          by_wait true e = none_judged coming (reaches coming t.what vk) rule (dropped coming t.what vk e)
+          by_wait : (w : Bool) → awaits_reply vk.host.wait ≡ w → found_in c (Other t.what) vk b ≡ []
+          by_wait true e = both (none_judged coming reach rule (dropped coming t.what vk e)) (none_numbered coming reach numbers (dropped coming t.what vk e))
           by_wait false e =
-              let s : Session h k wh vh.owes false vk.owes b (c ∷ hl) kl = subst (λ (w : Bool). Session h k wh vh.owes w vk.owes b (c ∷ hl) kl) e (p f).session in
-              none_found coming (reaches coming t.what vk) rule (read_their k h kept c b s.y s.at_k (may_hear h k wh vh.owes vk.owes b c hl kl t.not_rst t.not_rrp s).0).0
+              let s : Session h k wh vh.owes false vk.owes b (c ∷ hl) kl ht kt = subst (λ (w : Bool). Session h k wh vh.owes w vk.owes b (c ∷ hl) kl ht kt) e (p f).session in
+              let read = read_their k h kept c b s.y s.at_k (may_hear h k wh vh.owes vk.owes b c hl kl ht kt t.not_rst t.not_rrp s).0 in
+              both (none_found coming reach rule read.0) (no_numbers coming reach numbers read.1)
 
   each_unfound : (c : Command) → Unfound c (act_of (Ok c))
-  each_unfound = by_kind (λ (c : Command). Unfound c (act_of (Ok c))) (λ vh vk b hl kl none p. refl) (λ vh vk b hl kl none p. refl) (λ c t. subst (Unfound c) (sym t.act) (thing_unfound c t))
+  each_unfound = by_kind (λ (c : Command). Unfound c (act_of (Ok c))) (λ vh vk b hl kl ht kt none p. refl) (λ vh vk b hl kl ht kt none p. refl) (λ c t. subst (Unfound c) (sym t.act) (thing_unfound c t))
 
-  pub their_item : (c : Command) (vh vk : View) (b : SeenBooks) (hl kl : List Command) → (h == k) ≡ false → item_findings coming (Ok c) vk ≡ [] → (after_talk coming hearing (Ok c) vk b).full ≡ false
-      → Parley h k vh vk b (c ∷ hl) kl → Parley h k vh (after_item coming (Ok c) vk) (after_talk coming hearing (Ok c) vk b) hl kl
+  pub their_item : (c : Command) (vh vk : View) (b : SeenBooks) (hl kl : List Command) (ht kt : Afloat) → (h == k) ≡ false → item_findings coming (Ok c) vk ≡ [] → (after_talk coming hearing kept (Ok c) vk b).full ≡ false
+      → Parley h k vh vk b (c ∷ hl) kl ht kt → Parley h k vh (after_item coming (Ok c) vk) (after_talk coming hearing kept (Ok c) vk b) hl kl ht kt
   their_item c = each_comes c
 
-  pub their_items : (cs : List Command) (vh vk : View) (b : SeenBooks) (hl kl : List Command) → (h == k) ≡ false → items_findings coming (items_of cs None) vk ≡ []
-      → (after_talked coming hearing (items_of cs None) vk b).full ≡ false → Parley h k vh vk b (cs ++ hl) kl
-      → Parley h k vh (after_items coming (items_of cs None) vk) (after_talked coming hearing (items_of cs None) vk b) hl kl
-  their_items [] vh vk b hl kl apart none room p = p
-  their_items (c ∷ cs) vh vk b hl kl apart none room p =
+  pub their_items : (cs : List Command) (vh vk : View) (b : SeenBooks) (hl kl : List Command) (ht kt : Afloat) → (h == k) ≡ false → items_findings coming (items_of cs None) vk ≡ []
+      → (after_talked coming hearing kept (items_of cs None) vk b).full ≡ false → Parley h k vh vk b (cs ++ hl) kl ht kt
+      → Parley h k vh (after_items coming (items_of cs None) vk) (after_talked coming hearing kept (items_of cs None) vk b) hl kl ht kt
+  their_items [] vh vk b hl kl ht kt apart none room p = p
+  their_items (c ∷ cs) vh vk b hl kl ht kt apart none room p =
       let v : View = after_item coming (Ok c) vk in
-      let now : SeenBooks = after_talk coming hearing (Ok c) vk b in
+      let now : SeenBooks = after_talk coming hearing kept (Ok c) vk b in
       let one = empty_front (item_findings coming (Ok c) vk) (items_findings coming (items_of cs None) v) none in
       let rest = empty_rest (item_findings coming (Ok c) vk) (items_findings coming (items_of cs None) v) none in
-      their_items cs vh v now hl kl apart rest room (their_item c vh vk b (cs ++ hl) kl apart one ((items_read k h coming (items_of cs None) v now).room room) p)
+      their_items cs vh v now hl kl ht kt apart rest room (their_item c vh vk b (cs ++ hl) kl ht kt apart one ((items_read k h coming kept (items_of cs None) v now).room room) p)
 
-  pub their_quiet : (cs : List Command) (vh vk : View) (b : SeenBooks) (hl kl : List Command) → (h == k) ≡ false → items_findings coming (items_of cs None) vk ≡ []
-      → (b.full ≡ false → Parley h k vh vk b (cs ++ hl) kl) → talked_findings coming hearing kept (items_of cs None) vk b ≡ []
-  their_quiet [] vh vk b hl kl apart none p = refl
-  their_quiet (c ∷ cs) vh vk b hl kl apart none p =
+  pub their_quiet : (cs : List Command) (vh vk : View) (b : SeenBooks) (hl kl : List Command) (ht kt : Afloat) → (h == k) ≡ false → items_findings coming (items_of cs None) vk ≡ []
+      → (b.full ≡ false → Parley h k vh vk b (cs ++ hl) kl ht kt) → talked_findings coming hearing kept (items_of cs None) vk b ≡ []
+  their_quiet [] vh vk b hl kl ht kt apart none p = refl
+  their_quiet (c ∷ cs) vh vk b hl kl ht kt apart none p =
       let v : View = after_item coming (Ok c) vk in
-      let now : SeenBooks = after_talk coming hearing (Ok c) vk b in
+      let now : SeenBooks = after_talk coming hearing kept (Ok c) vk b in
       let found : List Finding = talked_findings coming hearing kept (items_of cs None) v now in
       let of_talk : List Finding = option_to_list (talk_finding coming hearing kept (Ok c) vk b) in
+      let of_numbers : List Finding = number_findings coming hearing (Ok c) vk b in
       let one = empty_front (item_findings coming (Ok c) vk) (items_findings coming (items_of cs None) v) none in
       let rest = empty_rest (item_findings coming (Ok c) vk) (items_findings coming (items_of cs None) v) none in
-      let before : now.full ≡ false → b.full ≡ false = (talk_reads k h coming (Ok c) vk b).room in
-      ap (λ (xs : List Finding). (xs ++ of_talk) ++ found) one ∙ ap (λ (xs : List Finding). xs ++ found) (each_unfound c vh vk b (cs ++ hl) kl one p)
-      ∙ their_quiet cs vh v now hl kl apart rest (λ f. each_comes c vh vk b (cs ++ hl) kl apart one f (p (before f)))
+      let before : now.full ≡ false → b.full ≡ false = (talk_reads k h coming kept (Ok c) vk b).room in
+      ap (λ (xs : List Finding). ((xs ++ of_talk) ++ of_numbers) ++ found) one ∙ ap (λ (xs : List Finding). xs ++ found) (each_unfound c vh vk b (cs ++ hl) kl ht kt one p)
+      ∙ their_quiet cs vh v now hl kl ht kt apart rest (λ f. each_comes c vh vk b (cs ++ hl) kl ht kt apart one f (p (before f)))
+
+-- ---- a text
+
+-- the first sends it
+pub text_goes : (h k by : ℕ) (busy : Option ℕ) (zero : Bool) (on : ℕ) (message : Message) (vh vk : View) (b : SeenBooks) (hl kl : List Command) (ht kt : Afloat) → (h == k) ≡ false → b.full ≡ false → ht on ≡ None
+    → early_finding (record { by = by; sent = true; busy = busy; zero = zero }) Thing.Text vh ≡ None
+    → text_findings (record { by = by; sent = true; busy = busy; zero = zero }) (record { at = h; peer = k; sent = true }) on message vh b ≡ []
+    → Parley h k vh vk b hl kl ht kt
+    → Parley h k vh vk (after_talked_text (record { by = by; sent = true; busy = busy; zero = zero }) (record { at = h; peer = k; sent = true }) on message vh b) hl kl (with_float on (Some (message.size, length message.text)) ht) kt
+text_goes h k by busy zero on message vh vk b hl kl ht kt apart room_before none none_early_so unsaid p =
+    subst (λ (x : Bool). Parley h k vh vk (if x then now else b) hl kl now_out kt) (sym reach) (record { awake_h = p.awake_h; awake_k = p.awake_k; session = turned })
+  where
+    turn : Turn
+    turn = record { by = by; sent = true; busy = busy; zero = zero }
+
+    talk : Talk
+    talk = record { at = h; peer = k; sent = true }
+
+    now : SeenBooks
+    now = books_after_text talk on message b
+
+    now_out : Afloat
+    now_out = with_float on (Some (message.size, length message.text)) ht
+
+    wk : Bool
+    wk = awaits_reply vk.host.wait
+
+    early : is_early turn Thing.Text vh ≡ false
+    early = none_early turn Thing.Text vh p.awake_h.told (ap option_to_list none_early_so)
+
+    in_time : (awaits_reply vh.host.wait ≡ false) × (vh.owes ≡ false)
+    in_time = own_in_time by busy zero Thing.Text vh p.awake_h.rests early
+
+    reach : reaches turn Thing.Text vh ≡ true
+    reach = reached turn Thing.Text vh p.awake_h early refl
+
+    rules : text_rules talk on message b ≡ []
+    rules = unnumbered turn (reaches turn Thing.Text vh) (text_rules talk on message b) reach unsaid
+
+    s : Session h k false false wk vk.owes b hl kl ht kt
+    s = subst (λ (o : Bool). Session h k false o wk vk.owes b hl kl ht kt) in_time.1 (subst (λ (w : Bool). Session h k w vh.owes wk vk.owes b hl kl ht kt) in_time.0 p.session)
+
+    read : TextLegal true on message.size (length message.text) s.x × ReadAs h k now (after_text_by true on (length message.text) s.x)
+    read = read_own_text h k on message b s.x s.at_h room_before rules
+
+    turned : Session h k (awaits_reply vh.host.wait) vh.owes wk vk.owes now hl kl now_out kt
+    turned =
+        subst (λ (w : Bool). Session h k w vh.owes wk vk.owes now hl kl now_out kt) (sym in_time.0)
+        (subst (λ (o : Bool). Session h k false o wk vk.owes now hl kl now_out kt) (sym in_time.1)
+        (session_sends h k wk vk.owes b now on message.size (length message.text) hl kl ht kt s read.0 none read.1
+        (read_others k h b now s.y (text_alike k h h k (ap (λ (x : Bool). x && k == h) apart) true on message b) s.at_k)))
+
+-- it comes to the second
+module _ (h k who : ℕ) (busy : Option ℕ) (zero : Bool) (on : ℕ) (message : Message) (vh vk : View) (b : SeenBooks) (hl kl : List Command) (ht kt : Afloat) where
+  abbrev text_turn : Turn
+  text_turn = record { by = who; sent = false; busy = busy; zero = zero }
+
+  abbrev text_talk : Talk
+  text_talk = record { at = k; peer = h; sent = false }
+
+  abbrev text_books : SeenBooks
+  text_books = books_after_text text_talk on message b
+
+  -- what it is read of
+  received : ht on ≡ Some (message.size, length message.text) → awaits_reply vk.host.wait ≡ false → (p : Parley h k vh vk b hl kl ht kt)
+      → (s : Session h k (awaits_reply vh.host.wait) vh.owes false vk.owes b hl kl ht kt) × TextLegal false on message.size (length message.text) s.y
+  received out e p =
+      let s : Session h k (awaits_reply vh.host.wait) vh.owes false vk.owes b hl kl ht kt = subst (λ (w : Bool). Session h k (awaits_reply vh.host.wait) vh.owes w vk.owes b hl kl ht kt) e p.session in
+      (s, (may_receive h k (awaits_reply vh.host.wait) vh.owes vk.owes b on message.size (length message.text) hl kl ht kt s out).legal)
+
+  -- nothing is found in it
+  pub text_unfound : (b.full ≡ false → ht on ≡ Some (message.size, length message.text)) → (b.full ≡ false → Parley h k vh vk b hl kl ht kt) → text_findings text_turn text_talk on message vk b ≡ []
+  text_unfound out p = go b.full refl
+    where
+      go : (f : Bool) → b.full ≡ f → text_findings text_turn text_talk on message vk b ≡ []
+      go true f = no_numbers text_turn (reaches text_turn Thing.Text vk) (text_rules text_talk on message b) (ap (λ (x : Bool). if x then [] else led_text_rules on message b (text_lead text_talk on b)) f)
+      go false f = by (awaits_reply vk.host.wait) refl
+        where
+          by : (w : Bool) → awaits_reply vk.host.wait ≡ w → text_findings text_turn text_talk on message vk b ≡ []
+          by true e = none_numbered text_turn (reaches text_turn Thing.Text vk) (text_rules text_talk on message b) (dropped text_turn Thing.Text vk e)
+          by false e =
+              let r = received (out f) e (p f) in
+              no_numbers text_turn (reaches text_turn Thing.Text vk) (text_rules text_talk on message b) (read_their_text k h on message b r.0.y r.0.at_k r.1).0
+
+  pub text_comes : (h == k) ≡ false → ht on ≡ Some (message.size, length message.text) → early_finding text_turn Thing.Text vk ≡ None → Parley h k vh vk b hl kl ht kt
+      → Parley h k vh vk (after_talked_text text_turn text_talk on message vk b) hl kl (with_float on None ht) kt
+  text_comes apart out in_time p = record { awake_h = p.awake_h; awake_k = p.awake_k; session = turned (awaits_reply vk.host.wait) refl }
+    where
+      wh : Bool
+      wh = awaits_reply vh.host.wait
+
+      early : is_early text_turn Thing.Text vk ≡ false
+      early = none_early text_turn Thing.Text vk p.awake_k.told (ap option_to_list in_time)
+
+      turned : (w : Bool) → awaits_reply vk.host.wait ≡ w → Session h k wh vh.owes (awaits_reply vk.host.wait) vk.owes (if reaches text_turn Thing.Text vk then text_books else b) hl kl (with_float on None ht) kt
+      turned true e =
+          subst (λ (x : Bool). Session h k wh vh.owes (awaits_reply vk.host.wait) vk.owes (if x then text_books else b) hl kl (with_float on None ht) kt) (sym (dropped text_turn Thing.Text vk e))
+          (subst (λ (w : Bool). Session h k wh vh.owes w vk.owes b hl kl (with_float on None ht) kt) (sym e)
+          (session_drops_text h k wh vh.owes vk.owes b on hl kl ht kt (subst (λ (w : Bool). Session h k wh vh.owes w vk.owes b hl kl ht kt) e p.session)))
+      turned false e =
+          let reach : reaches text_turn Thing.Text vk ≡ true = reached text_turn Thing.Text vk p.awake_k early e in
+          let r = received out e p in
+          let s : Session h k wh vh.owes false vk.owes b hl kl ht kt = r.0 in
+          subst (λ (x : Bool). Session h k wh vh.owes (awaits_reply vk.host.wait) vk.owes (if x then text_books else b) hl kl (with_float on None ht) kt) (sym reach)
+          (subst (λ (w : Bool). Session h k wh vh.owes w vk.owes text_books hl kl (with_float on None ht) kt) (sym e)
+          (session_receives h k wh vh.owes vk.owes b text_books on message.size (length message.text) hl kl ht kt s out
+          (read_others h k b text_books s.x (text_alike h k k h (ap (λ (x : Bool). k == h && x) apart ∙ and-false (k == h)) false on message b) s.at_h)
+          (read_their_text k h on message b s.y s.at_k r.1).1))
 
 -- ---- once too much is out, nothing that is said is judged
 
 record Unjudged (turn : Turn) (talk : Talk) (kept : List Kept) (item : Result Command CommandFault) (v : View) (b : SeenBooks) : Type 0 where
   none : option_to_list (talk_finding turn talk kept item v b) ≡ []
+  numbers : number_findings turn talk item v b ≡ []
   told : (after_item turn item v).told ≡ false
+
+pub untold_none : (turn : Turn) (what : Thing) (v : View) → v.told ≡ false → reaches turn what v ≡ false
+untold_none turn what v t = ap (λ (x : Bool). x && not (is_early turn what v) && not v.rests && not (not turn.sent && awaits_reply v.host.wait)) t
 
 thing_unjudged : (turn : Turn) (what : Thing) (v : View) (o : Option Rule) → v.told ≡ false → option_to_list (if reaches turn what v then option_map (broken_by turn) o else None) ≡ []
 thing_unjudged turn what v o t =
-    none_judged turn (reaches turn what v) o (ap (λ (x : Bool). x && not (is_early turn what v) && not v.rests && not (not turn.sent && awaits_reply v.host.wait)) t)
+    none_judged turn (reaches turn what v) o (untold_none turn what v t)
+
+thing_unnumbered : (turn : Turn) (what : Thing) (v : View) (rs : List Rule) → v.told ≡ false → (if reaches turn what v then map (broken_by turn) rs else []) ≡ []
+thing_unnumbered turn what v rs t = none_numbered turn (reaches turn what v) rs (untold_none turn what v t)
 
 unjudged : (turn : Turn) (talk : Talk) (kept : List Kept) (item : Result Command CommandFault) (v : View) (b : SeenBooks) → v.told ≡ false → turn.zero ≡ false → Unjudged turn talk kept item v b
-unjudged turn talk kept (Err fault) v b t z = record { none = thing_unjudged turn Thing.Bad v (spoken_rule talk kept (Err fault) b) t; told = t }
+unjudged turn talk kept (Err fault) v b t z = record { none = thing_unjudged turn Thing.Bad v (spoken_rule talk kept (Err fault) b) t; numbers = thing_unnumbered turn Thing.Bad v [] t; told = t }
 unjudged turn talk kept (Ok c) v b t z = by_kind (λ (d : Command). Unjudged turn talk kept (Ok d) v b) rst rrp thing c
   where
     rst : Unjudged turn talk kept (Ok Command.Rst) v b
-    rst = record { none = refl; told = go v.told turn.zero t z }
+    rst = record { none = refl; numbers = refl; told = go v.told turn.zero t z }
       where
         go : (x y : Bool) → x ≡ false → y ≡ false → (if x || (y && not (is_answered_too_often v.host.wait)) then if turn.sent then after_reset_of_host turn v else after_reset_of_peer turn v else v).told ≡ false
         go true y e f = absurd (cc e)
@@ -472,7 +715,7 @@ unjudged turn talk kept (Ok c) v b t z = by_kind (λ (d : Command). Unjudged tur
         go false false e f = t
 
     rrp : Unjudged turn talk kept (Ok Command.Rrp) v b
-    rrp = record { none = refl; told = go v.told turn.sent t }
+    rrp = record { none = refl; numbers = refl; told = go v.told turn.sent t }
       where
         go : (x s : Bool) → x ≡ false → (if x then if turn.sent then after_reply_of_host turn v else after_reply_of_peer v else if s then v else record v { host = record v.host { wait = Answered } }).told ≡ false
         go true s e = absurd (cc e)
@@ -484,6 +727,9 @@ unjudged turn talk kept (Ok c) v b t z = by_kind (λ (d : Command). Unjudged tur
       none =
           subst (λ (a : Act). option_to_list (if act_reaches turn a v then option_map (broken_by turn) (spoken_rule talk kept (Ok d) b) else None) ≡ []) (sym k.act)
           (thing_unjudged turn k.what v (spoken_rule talk kept (Ok d) b) t);
+      numbers =
+          subst (λ (a : Act). (if act_reaches turn a v then map (broken_by turn) (spoken_numbers talk (Ok d) b) else []) ≡ []) (sym k.act)
+          (thing_unnumbered turn k.what v (spoken_numbers talk (Ok d) b) t);
       told = subst (λ (a : Act). (after_act turn a v).told ≡ false) (sym k.act) t;
     }
 
@@ -493,7 +739,8 @@ untold_quiet turn talk kept [] v b t z = refl
 untold_quiet turn talk kept (item ∷ items) v b t z =
     let one = unjudged turn talk kept item v b t z in
     let v' : View = after_item turn item v in
-    let now : SeenBooks = after_talk turn talk item v b in
-    ap (λ (xs : List Finding). (item_findings turn item v ++ xs) ++ talked_findings turn talk kept items v' now) one.none
-    ∙ ap (λ (xs : List Finding). xs ++ talked_findings turn talk kept items v' now) (append-nil (item_findings turn item v))
+    let now : SeenBooks = after_talk turn talk kept item v b in
+    ap (λ (xs : List Finding). ((item_findings turn item v ++ xs) ++ number_findings turn talk item v b) ++ talked_findings turn talk kept items v' now) one.none
+    ∙ ap (λ (xs : List Finding). ((item_findings turn item v ++ []) ++ xs) ++ talked_findings turn talk kept items v' now) one.numbers
+    ∙ ap (λ (xs : List Finding). xs ++ talked_findings turn talk kept items v' now) (append-nil (item_findings turn item v ++ []) ∙ append-nil (item_findings turn item v))
     ∙ ap (λ (xs : List Finding). item_findings turn item v ++ xs) (untold_quiet turn talk kept items v' now one.told z)

@@ -1,10 +1,10 @@
 -- In the file of two hosts with the subnet between them nothing is found, by any rule: what is known of both is kept through
 -- each event.
-use Rattle.std.proofs.Common.{◌≡◌, ◌≢◌, ℕ, ◌<◌, ◌==◌, Bool, true, false, if◌then◌else◌, List, [], ◌∷◌, ◌++◌, length, All, Option, None, Some, Ok, refl, sym, ap, ◌∙◌, subst, arith}
+use Rattle.std.proofs.Common.{◌≡◌, ◌≢◌, ℕ, ◌<◌, ◌==◌, Bool, true, false, if◌then◌else◌, List, [], ◌∷◌, ◌++◌, length, All, Option, None, Some, Result, Ok, Err, filter, refl, sym, ap, ◌∙◌, subst, arith}
 use Rattle.std.proofs.lemmas.Bool.{eqb-true}
 use Rattle.ncp_numbers.specs.Bytes.{bits_of_bytes}
 use Rattle.ncp_leader.specs.Leader.{leader_in}
-use Rattle.ncp_leader.specs.Message.{message_in, message_with}
+use Rattle.ncp_leader.specs.Message.{Message, message_in, message_with}
 use Rattle.ncp_terms.specs.declared.command.Command.{Command}
 use Rattle.ncp_terms.specs.Spelling.{IsCommand, spellings}
 use Rattle.ncp_slot.specs.declared.slot.Slot.{Slot}
@@ -44,7 +44,6 @@ use Rattle.ncp_transcript_two.specs.Happening.{IsCalled, note_of_coming, note_of
 use Rattle.ncp_transcript_two.specs.Seen.{had_for, seen}
 use Rattle.ncp_transcript_two.proofs.Comings.{small}
 use Rattle.ncp_transcript_two.proofs.OnePeer.{had-changed, had-sent, noted-answer}
-use Rattle.ncp_transcript_two.proofs.SeenRuns.{turned}
 use Rattle.ncp_transcript_two.proofs.SeenSteps.{seen_with}
 use Rattle.ncp_transcript_two.proofs.Well.{cut-written}
 use Rattle.ncp_transcript_two.proofs.Written.{read, control_text, answer_leader}
@@ -53,20 +52,21 @@ use Rattle.ncp_umpire.specs.declared.umpire.Umpire.{Umpire}
 use Rattle.ncp_umpire.specs.declared.view.View.{View}
 use Rattle.ncp_umpire.specs.declared.way.Way.TheVariants.{ToImp, FromImp}
 use Rattle.ncp_umpire.specs.Tables.{view_in}
-use Rattle.ncp_umpire.specs.Judged.{new_umpire, sees, view_of, after_in, turn_at, unsent_finding, record_findings, after_record}
-use Rattle.ncp_umpire.specs.Speaking.{books_after_text}
-use Rattle.ncp_umpire.specs.Talked.{reaches}
-use Rattle.ncp_umpire.specs.declared.finding.Thing.{Thing}
+use Rattle.ncp_umpire.specs.Judged.{new_umpire, next_number, sees, fresh_out, umpire_after_out, turn_at, after_said, unsent_finding, record_findings, after_record}
 use Rattle.ncp_umpire.specs.declared.phase.Turn.{Turn}
 use Rattle.ncp_umpire.specs.Lives.{SeenBooks, no_books}
 use Rattle.ncp_umpire.specs.Messages.{rule_of_message}
 use Rattle.ncp_umpire.specs.Views.{new_view}
 use Rattle.ncp_umpire.specs.declared.finding.Rule.{Rule}
-use Rattle.ncp_umpire.proofs.Following.{answer_is}
+use Rattle.ncp_umpire.specs.declared.kept.Kept.{Kept}
+use Rattle.ncp_umpire.specs.Slots.{is_of, busy_link}
+use Rattle.ncp_leader.specs.declared.fault.MessageFault.{MessageFault}
+use Rattle.ncp_umpire.proofs.Following.{out_is, answer_is}
 use Rattle.ncp_umpire.proofs.Parted.{pass_parts}
 use Rattle.ncp_umpire.proofs.Passing.{Pass}
 use Rattle.ncp_proof_umpire.specs.Worlds.{comes_to, goes_from, world_file}
-use Rattle.ncp_proof_umpire.proofs.Fresh.{not_quiet}
+use Rattle.ncp_proof_umpire.proofs.Fresh.{OnLinks, not_quiet, sees_busy}
+use Rattle.ncp_proof_umpire.proofs.Shown
 use Rattle.ncp_proof_umpire.proofs.HostSlots.{call_noted}
 use Rattle.ncp_proof_umpire.proofs.Laid.{weighs, fitting_all}
 use Rattle.ncp_proof_umpire.proofs.Others.{other_leaves}
@@ -77,7 +77,7 @@ use Rattle.ncp_proof_umpire_many.proofs.Coming.{Control, control, Text, a_text, 
 use Rattle.ncp_proof_umpire_many.proofs.Quiet.{phase_quiet}
 use Rattle.ncp_proof_umpire_many.specs.Files.{findings_in, found_by, NothingFound}
 use Rattle.ncp_proof_umpire_many.proofs.Between.{Leaves, leaves, Written, written, comes_led, comes_near, AnswerLed, answer_leads}
-use Rattle.ncp_proof_umpire_many.proofs.Both.{Both, turn_both, kept_by, control_said, out_slot, Told_how, told_how, each_step}
+use Rattle.ncp_proof_umpire_many.proofs.Both.{Both, kept_by, control_said, out_slot, Told_how, told_how, each_step}
 use Rattle.ncp_proof_umpire_many.proofs.Both
 use Rattle.ncp_proof_umpire_many.proofs.Counts.{line}
 use Rattle.ncp_proof_umpire_many.proofs.Moves.{Keeps, goes_on, commands_read, line_zero, line_other, line_again}
@@ -85,19 +85,18 @@ use Rattle.ncp_proof_umpire_many.proofs.OwnSide.{At, one_peer}
 use Rattle.ncp_proof_umpire_many.proofs.Sides.{OfA, both_sides}
 use Rattle.ncp_proof_umpire_many.proofs.Walk.{Shows, Steps, AllPass, all_pass, after_file}
 use Rattle.ncp_proof_umpire_many.proofs.Ways.{Comes_in, ways_in, Told, ways_answer}
-use Rattle.ncp_proof_umpire_talk.proofs.BooksRecord.{record_reads, in_books, answer_books}
+use Rattle.ncp_proof_umpire_counts.proofs.BooksRecord.{record_reads, answer_books}
+use Rattle.ncp_proof_umpire_talk.proofs.ShowsKept.{shows_busy}
+use Rattle.ncp_proof_umpire_talk.proofs.CarriesOn.{quiet_tells}
 use Rattle.ncp_proof_umpire_talk.proofs.TalkFile.{AtOwn, WentOut, own_called, own_went, own_came, own_elsewhere}
 use Rattle.ncp_proof_umpire_talk.proofs.TalkWalk.{AllSpoken}
-use Rattle.ncp_proof_umpire_whole.proofs.Parleys.{ParleyOf, Parleys, calm_by, calm_back, Known, turn_known}
+use Rattle.ncp_proof_umpire_whole.proofs.Parleys.{ParleyOf, Parleys, Known, turn_known}
 use Rattle.ncp_proof_umpire_talk.proofs.TalkOut.{talks_begin}
-use Rattle.ncp_proof_umpire_whole.proofs.Sessions.{Parley, begins_parley}
+use Rattle.ncp_proof_umpire_whole.proofs.Sessions.{Parley, Floated, begins_parley, floats_parley, books_parley}
+use Rattle.ncp_proof_umpire_whole.proofs.Abreast.{Afloat, with_float}
+use Rattle.ncp_proof_umpire_whole.proofs.Floats.{floats, floats_again, floats_text, floats_zero, floats_lost, floats_told, floats_heard, floats_came, floats_out, floats_back, call_floats, none_floats, floated, floated_same}
 use Rattle.ncp_proof_umpire_whole.proofs.OwnBooks
 use Rattle.ncp_proof_umpire_whole.proofs.TheirBooks
-use Rattle.ncp_proof_umpire_whole.proofs.TextsAnswered.{answered_here, new_texts}
-use Rattle.ncp_proof_umpire_whole.proofs.TextsKept.{called_here, elsewhere}
-use Rattle.ncp_proof_umpire_whole.proofs.TextComes.{text_taken}
-use Rattle.ncp_proof_umpire_whole.proofs.TextsGo.{out_here, out_there}
-use Rattle.ncp_proof_umpire_whole.proofs.TextsCame.{came_here, came_there}
 
 -- no finding passes
 abbrev pub never : Finding → Bool
@@ -161,9 +160,11 @@ called w umpire call note n k = (did, subst (λ (x : Note). Parleys (hosts_after
     now = record {
       talks_a = own.followed.talks;
       talks_b = k.1.talks_b;
-      parley = λ f r. subst (λ (cs : List Command). ParleyOf w umpire cs (line (seen w).that (seen w).coming)) (sym (ap commands_out (keeps.line ((seen w).going 0)))) (k.1.parley f r);
-      texts_a = called_here w umpire call (Note.Called A h) (record { of_host = h; said = refl; noted = n.noted; fits = n.fits }) k.0 after k.1.texts_a;
-      texts_b = k.1.texts_b;
+      parley = λ f r.
+          subst (λ (cs : List Command). ParleyOf w umpire cs (line (seen w).that (seen w).coming) (floats (had_for w.number_b (after_note h w.a)) (seen w).going) (floats (seen w).that (seen w).coming)) (sym (ap commands_out (keeps.line ((seen w).going 0))))
+          (floats_parley w.number_a w.number_b (view_in umpire.views w.number_a w.number_b) (view_in umpire.views w.number_b w.number_a) umpire.books (line (seen w).this (seen w).going) (line (seen w).that (seen w).coming)
+          (floats (seen w).this (seen w).going) (floats (seen w).that (seen w).coming) (floats (had_for w.number_b (after_note h w.a)) (seen w).going) (floats (seen w).that (seen w).coming)
+          (λ l. sym (call_floats w.number_b w.a h (seen w).going k.0.joined.stand.a after.joined.stand.a (noted_said (Input.Call call) h w.a n.noted) (call_noted call h w.a n.noted) k.0.at_a.holds l)) (λ l. refl) (k.1.parley f r));
     }
 
 -- ---- a message goes out
@@ -188,22 +189,29 @@ module _ (w : Hosts) (umpire : Umpire) (k : Known w umpire) (m : List Bool) (ful
   p_seen : Seen st (view_in umpire.views w.number_a w.number_b)
   p_seen = Both.own_seen w umpire k.0 open_before
 
-  -- with these commands on the line behind it
-  abbrev GoneWith : List Command → Type 0
-  GoneWith going =
-      Parley w.number_a w.number_b (view_in (after_record umpire ToImp w.number_a m).views w.number_a w.number_b) theirs (after_record umpire ToImp w.number_a m).books going (line (seen w).that (seen w).coming)
+  -- with these commands on the line behind it, and these texts
+  abbrev GoneWith : List Command → Afloat → Type 0
+  GoneWith going ht =
+      Parley w.number_a w.number_b (view_in (after_record umpire ToImp w.number_a m).views w.number_a w.number_b) theirs (after_record umpire ToImp w.number_a m).books going (line (seen w).that (seen w).coming) ht (floats (seen w).that (seen w).coming)
 
   abbrev Gone : ℕ → Type 0
-  Gone on = GoneWith (line (goes_on on m (seen w)).this (goes_on on m (seen w)).going)
+  Gone on = GoneWith (line (goes_on on m (seen w)).this (goes_on on m (seen w)).going) (floats (goes_on on m (seen w)).this (goes_on on m (seen w)).going)
+
+  -- the texts that are out after it
+  gone_with : (on : ℕ) (going : List Command) (ht : Afloat) → line (goes_on on m (seen w)).this (goes_on on m (seen w)).going ≡ going → ((l : ℕ) → floats (goes_on on m (seen w)).this (goes_on on m (seen w)).going l ≡ ht l) → GoneWith going ht → Gone on
+  gone_with on going ht e f p =
+      subst (λ (cs : List Command). GoneWith cs (floats (goes_on on m (seen w)).this (goes_on on m (seen w)).going)) (sym e)
+      (floats_parley w.number_a w.number_b (view_in (after_record umpire ToImp w.number_a m).views w.number_a w.number_b) theirs (after_record umpire ToImp w.number_a m).books going (line (seen w).that (seen w).coming) ht (floats (seen w).that (seen w).coming)
+      (floats (goes_on on m (seen w)).this (goes_on on m (seen w)).going) (floats (seen w).that (seen w).coming) (λ l. sym (f l)) (λ l. refl) p)
 
   module _ (on : ℕ) (led : leader_in m ≡ Ok (leader_to w.number_b on)) (ready : output_by (slot_at st.slots on) w.number_b on st.peer ≡ Some m) where
     sent_again : (r : List Bool) → slot_at st.slots on ≡ Slot.Ready r → Gone on
     sent_again r q =
         let same : r ≡ m = some_same (ap (λ (x : LinkSlot). output_by x w.number_b on st.peer) (sym q) ∙ ready) in
         let is : slot_at st.slots on ≡ Slot.Ready m = q ∙ ap (λ (x : List Bool). Slot.Ready x) same in
-        subst GoneWith (sym (line_again on m v is))
+        gone_with on (line v.this v.going) (floats v.this v.going) (line_again on m v is) (floats_again on m v is)
         (OwnBooks.again w.number_a w.number_b on m (slot_at st.slots on) st.peer umpire (b_a w umpire k) (a_b w umpire k) k.0.joined.stand.fits_a k.0.joined.stand.fits_b k.0.ways.sound.long led ready p_seen.stands.phased.known
-        (λ f. (k.0.at_a.watched.follows f).agrees w.number_b st (Both.there w umpire k.0) on) full none room theirs (line v.this v.going) (line v.that v.coming) (k.1.parley open_before room_before) (ap is_empty q))
+        (λ f. (k.0.at_a.watched.follows f).agrees w.number_b st (Both.there w umpire k.0) on) full none room theirs (line v.this v.going) (line v.that v.coming) (floats v.this v.going) (floats v.that v.coming) (k.1.parley open_before room_before) (ap is_empty q))
 
     waits_on : {P : Type 0} → (r : List Bool) → slot_at st.slots on ≡ Slot.Travelling r → P
     waits_on r q = let nay : None ≡ Some m = ap (λ (x : LinkSlot). output_by x w.number_b on st.peer) (sym q) ∙ ready in absurd (cc)
@@ -211,8 +219,9 @@ module _ (w : Hosts) (umpire : Umpire) (k : Known w umpire) (m : List Bool) (ful
     held_on : {P : Type 0} → (r : List Bool) → slot_at st.slots on ≡ Slot.Held r → P
     held_on r q = let nay : None ≡ Some m = ap (λ (x : LinkSlot). output_by x w.number_b on st.peer) (sym q) ∙ ready in absurd (cc)
 
-  zero_goes : leader_in m ≡ Ok (leader_to w.number_b 0) → output_by (slot_at st.slots 0) w.number_b 0 st.peer ≡ Some m → Gone 0
-  zero_goes led ready = by (slot_at st.slots 0) refl
+  zero_goes : leader_in m ≡ Ok (leader_to w.number_b 0) → output_by (slot_at st.slots 0) w.number_b 0 st.peer ≡ Some m
+      → Floated w.number_a w.number_b (busy_link w.number_a w.number_b (umpire_after_out (sees umpire w.number_a) w.number_a w.number_b 0 m).kept) (umpire_after_out (sees umpire w.number_a) w.number_a w.number_b 0 m).kept (floats v.this v.going) → Gone 0
+  zero_goes led ready shows = by (slot_at st.slots 0) refl
     where
       by : (slot : LinkSlot) → slot_at st.slots 0 ≡ slot → Gone 0
       by (Slot.Ready r) q = sent_again 0 led ready r q
@@ -224,11 +233,11 @@ module _ (w : Hosts) (umpire : Umpire) (k : Known w umpire) (m : List Bool) (ful
           let each : All IsCommand cs = fitting_all MAX_CONTROL st.peer.phase.waiting (Both.is_ready w umpire k.0).fine.well.waiting in
           let fits : AreCommands cs = (each, weighs MAX_CONTROL st.peer.phase.waiting) in
           let reads : message_in m ≡ Ok (control_of w.number_b cs) = ap message_in c.0 ∙ read w.number_b 0 8 (bits_of_bytes (spellings cs)) k.0.joined.stand.fits_b (omega arith) (control_text cs fits) in
-          let before : ParleyOf w umpire [] (line v.that v.coming) =
-          subst (λ (xs : List Command). ParleyOf w umpire xs (line v.that v.coming)) (ap (λ (x : LinkSlot). commands_out (not_come x (v.going 0))) q) (k.1.parley open_before room_before) in
-          subst GoneWith (sym (line_zero m v ∙ ap commands_of c.0 ∙ commands_read w.number_b cs k.0.joined.stand.fits_b fits))
+          let before : ParleyOf w umpire [] (line v.that v.coming) (floats v.this v.going) (floats v.that v.coming) =
+          subst (λ (xs : List Command). ParleyOf w umpire xs (line v.that v.coming) (floats v.this v.going) (floats v.that v.coming)) (ap (λ (x : LinkSlot). commands_out (not_come x (v.going 0))) q) (k.1.parley open_before room_before) in
+          gone_with 0 cs (floats v.this v.going) (line_zero m v ∙ ap commands_of c.0 ∙ commands_read w.number_b cs k.0.joined.stand.fits_b fits) (floats_zero m v)
           (OwnBooks.commands w.number_a w.number_b 0 m (slot_at st.slots 0) st.peer umpire (b_a w umpire k) (a_b w umpire k) k.0.joined.stand.fits_a k.0.joined.stand.fits_b k.0.ways.sound.long led ready p_seen.stands.phased.known
-          (λ f. (k.0.at_a.watched.follows f).agrees w.number_b st (Both.there w umpire k.0) 0) full none room theirs [] (line v.that v.coming) before cs (ap is_empty q) each reads)
+          (λ f. (k.0.at_a.watched.follows f).agrees w.number_b st (Both.there w umpire k.0) 0) full none room theirs [] (line v.that v.coming) (floats v.this v.going) (floats v.that v.coming) before cs (ap is_empty q) each shows reads)
 
   other_goes : (on : ℕ) → (on == 0) ≡ false → is_wrong_link on ≡ false → leader_in m ≡ Ok (leader_to w.number_b on) → output_by (slot_at st.slots on) w.number_b on st.peer ≡ Some m → Gone on
   other_goes on z right led ready = by (slot_at st.slots on) refl
@@ -239,9 +248,10 @@ module _ (w : Hosts) (umpire : Umpire) (k : Known w umpire) (m : List Bool) (ful
           let fits : IsText t.0 t.1 = cut-written on st.peer.ends t (Both.is_ready w umpire k.0).fine.good (Both.is_ready w umpire k.0).fine.well.ends f in
           let is : message_to w.number_b on t.0 t.1 ≡ m = cc in
           let reads : message_in m ≡ Ok (message_with (leader_to w.number_b on) t.0 t.1) = ap message_in (sym is) ∙ read w.number_b on t.0 t.1 k.0.joined.stand.fits_b (small on right) fits in
-          subst GoneWith (sym (line_other on m v z))
+          gone_with on (line v.this v.going) (with_float on (Some (t.0, length t.1)) (floats v.this v.going)) (line_other on m v z) (floats_text on m v (message_with (leader_to w.number_b on) t.0 t.1) z reads)
           (OwnBooks.text w.number_a w.number_b on m (slot_at st.slots on) st.peer umpire (b_a w umpire k) (a_b w umpire k) k.0.joined.stand.fits_a k.0.joined.stand.fits_b k.0.ways.sound.long led ready p_seen.stands.phased.known
-          (λ g. (k.0.at_a.watched.follows g).agrees w.number_b st (Both.there w umpire k.0) on) full none room theirs (line v.this v.going) (line v.that v.coming) (k.1.parley open_before room_before) t.0 t.1 (ap is_empty q) right z reads)
+          (λ g. (k.0.at_a.watched.follows g).agrees w.number_b st (Both.there w umpire k.0) on) full none room theirs (line v.this v.going) (line v.that v.coming) (floats v.this v.going) (floats v.that v.coming) (k.1.parley open_before room_before) t.0 t.1 (ap is_empty q) right z
+          (none_floats v.this v.going on (λ x. ap is_empty q)) reads)
 
       by : (slot : LinkSlot) → slot_at st.slots on ≡ slot → Gone on
       by (Slot.Ready r) q = sent_again on led ready r q
@@ -251,12 +261,53 @@ module _ (w : Hosts) (umpire : Umpire) (k : Known w umpire) (m : List Bool) (ful
           by_text (answer (cut_in on st.peer.ends)) refl
           (sym (ap (λ (x : Bool). if x then control_message w.number_b (next_commands st.peer.phase.waiting) else text_message w.number_b on (answer (cut_in on st.peer.ends))) z) ∙ ap (λ (x : LinkSlot). output_by x w.number_b on st.peer) (sym q) ∙ ready) q
 
-  one_goes : (l : Leaves w m) → Gone l.on
-  one_goes l = go (l.on == 0) refl
-    where
-      go : (x : Bool) → (l.on == 0) ≡ x → Gone l.on
-      go true z = subst (λ (j : ℕ). leader_in m ≡ Ok (leader_to w.number_b j) → output_by (slot_at st.slots j) w.number_b j st.peer ≡ Some m → Gone j) (sym (eqb-true l.on 0 z)) zero_goes l.led l.ready
-      go false z = other_goes l.on z l.right l.led l.ready
+  module _ (after : Both (hosts_after_note (Note.Out A (HostNote.Out m)) w) (after_record umpire ToImp w.number_a m)) where
+    abbrev next : Hosts
+    next = hosts_after_note (Note.Out A (HostNote.Out m)) w
+
+    abbrev now : Umpire
+    now = after_record umpire ToImp w.number_a m
+
+    abbrev sent : PeerState
+    sent = had_for w.number_b next.a
+
+    -- what is kept of its messages after it shows which of its texts are out
+    shown : leader_in m ≡ Ok (leader_to w.number_b 0) → sent ≡ after_output 0 m st
+        → Floated w.number_a w.number_b (busy_link w.number_a w.number_b (umpire_after_out (sees umpire w.number_a) w.number_a w.number_b 0 m).kept) (umpire_after_out (sees umpire w.number_a) w.number_a w.number_b 0 m).kept (floats v.this v.going)
+    shown led is =
+        floated_same w.number_a w.number_b (busy_link w.number_a w.number_b A.kept) A.kept (floats sent (goes_on 0 m v).going) (floats v.this v.going)
+        (λ l. ap (λ (x : PeerState). floats x (goes_on 0 m v).going l) is ∙ floats_zero m v l)
+        (subst (λ (ks : List Kept). Floated w.number_a w.number_b (busy_link w.number_a w.number_b ks) ks (floats sent (goes_on 0 m v).going)) kept
+        (floated w.number_a w.number_b now.kept sent (goes_on 0 m v).going (shows_busy w.number_a w.number_b now.kept sent.slots agrees) (sees_busy w.number_a w.number_b now.kept sent agrees used) (λ q l d. quiet_tells sent.slots used q l d)))
+      where
+        A : Umpire
+        A = umpire_after_out (sees umpire w.number_a) w.number_a w.number_b 0 m
+
+        agrees : (on : ℕ) → Shown.Shows (filter (is_of w.number_a w.number_b on) now.kept) (slot_at sent.slots on)
+        agrees on = (after.at_a.watched.follows full).agrees w.number_b sent (Both.there next now after) on
+
+        used : OnLinks sent
+        used = (Both.own_seen next now after full).used
+
+        said : (x : Umpire) (turn : Turn) (fresh : Bool) (r : Result Message MessageFault) → (after_said x w.number_a w.number_b turn fresh r).kept ≡ x.kept
+        said x turn true (Ok y) = refl
+        said x turn false (Ok y) = refl
+        said x turn fresh (Err f) = refl
+
+        kept : now.kept ≡ A.kept
+        kept =
+            ap (λ (x : Umpire). x.kept) (out_is umpire w.number_a w.number_b 0 m led (b_a w umpire k))
+            ∙ said A (turn_at A w.number_a w.number_b w.number_a true) (fresh_out (sees umpire w.number_a) w.number_a w.number_b 0 m) (message_in m)
+
+    one_goes : (l : Leaves w m) → sent ≡ after_output l.on m st → Gone l.on
+    one_goes l = go (l.on == 0) refl
+      where
+        Went : ℕ → Type 0
+        Went j = leader_in m ≡ Ok (leader_to w.number_b j) → output_by (slot_at st.slots j) w.number_b j st.peer ≡ Some m → sent ≡ after_output j m st → Gone j
+
+        go : (x : Bool) → (l.on == 0) ≡ x → sent ≡ after_output l.on m st → Gone l.on
+        go true z is = subst Went (sym (eqb-true l.on 0 z)) (λ led ready e. zero_goes led ready (shown led e)) l.led l.ready is
+        go false z is = other_goes l.on z l.right l.led l.ready
 
 went : (w : Hosts) (umpire : Umpire) → Known w umpire → Shows never Known (goes_from w.number_a (note_of_output w.a)) (hosts_after_note (note_of_out A w) w) umpire
 went w umpire k = go (next_output w.a) refl (each_step (Event.Out A) (note_of_out A w) w umpire refl k.0).1
@@ -283,11 +334,13 @@ went w umpire k = go (next_output w.a) refl (each_step (Event.Out A) (note_of_ou
         far_own : AtOwn (w.number_a ∷ []) w.number_b w.b (after_record umpire ToImp w.number_a m)
         far_own = own_elsewhere (w.number_a ∷ []) w.number_b w.b umpire w.number_a ToImp m (a_b w umpire k) (own_b w umpire k)
 
+        state : had_for w.number_b (after_next_output w.a) ≡ after_output l.on m (had_for w.number_b w.a)
+        state = had-sent w.number_b w.a k.0.joined.stand.a ∙ ap (λ (o : Option (ℕ × List Bool)). after_next o (had_for w.number_b w.a)) l.next
+
         is : seen (hosts_after_note (Note.Out A (HostNote.Out m)) w) ≡ goes_on l.on m (seen w)
         is =
             ap (λ (x : Subnet). (let y : Hosts = record w { a = after_next_output w.a; subnet = x } in seen y)) l.takes
-            ∙ seen_with w k.0.joined.stand.differ l.on (Accepted m) (after_next_output w.a) w.b (after_output l.on m (had_for w.number_b w.a)) (had_for w.number_a w.b)
-            (had-sent w.number_b w.a k.0.joined.stand.a ∙ ap (λ (o : Option (ℕ × List Bool)). after_next o (had_for w.number_b w.a)) l.next) refl
+            ∙ seen_with w k.0.joined.stand.differ l.on (Accepted m) (after_next_output w.a) w.b (after_output l.on m (had_for w.number_b w.a)) (had_for w.number_a w.b) state refl
 
         far : view_in (after_record umpire ToImp w.number_a m).views w.number_b w.number_a ≡ view_in umpire.views w.number_b w.number_a
         far = (other_leaves w.number_b w.number_a ToImp m umpire (a_b w umpire k)).views w.number_a k.0.joined.stand.fits_a
@@ -296,21 +349,15 @@ went w umpire k = go (next_output w.a) refl (each_step (Event.Out A) (note_of_ou
         next = hosts_after_note (Note.Out A (HostNote.Out m)) w
 
         spoken : (after_record umpire ToImp w.number_a m).full ≡ false → (after_record umpire ToImp w.number_a m).books.full ≡ false
-            → ParleyOf w (after_record umpire ToImp w.number_a m) (line (seen next).this (seen next).going) (line (seen next).that (seen next).coming)
+            → ParleyOf w (after_record umpire ToImp w.number_a m) (line (seen next).this (seen next).going) (line (seen next).that (seen next).coming) (floats (seen next).this (seen next).going) (floats (seen next).that (seen next).coming)
         spoken f r =
-            subst (λ (x : World). ParleyOf w (after_record umpire ToImp w.number_a m) (line x.this x.going) (line x.that x.coming)) (sym is)
+            subst (λ (x : World). ParleyOf w (after_record umpire ToImp w.number_a m) (line x.this x.going) (line x.that x.coming) (floats x.this x.going) (floats x.that x.coming)) (sym is)
             (subst (λ (x : View). Parley w.number_a w.number_b (view_in (after_record umpire ToImp w.number_a m).views w.number_a w.number_b) x (after_record umpire ToImp w.number_a m).books
-            (line (goes_on l.on m (seen w)).this (goes_on l.on m (seen w)).going) (line (seen w).that (seen w).coming)) (sym far) (one_goes w umpire k m f r out.none l))
+            (line (goes_on l.on m (seen w)).this (goes_on l.on m (seen w)).going) (line (seen w).that (seen w).coming) (floats (goes_on l.on m (seen w)).this (goes_on l.on m (seen w)).going) (floats (seen w).that (seen w).coming)) (sym far)
+            (one_goes w umpire k m f r out.none after l state))
 
         now : Parleys (hosts_after_note (Note.Out A (HostNote.Out m)) w) (after_record umpire ToImp w.number_a m)
-        now = record {
-          talks_a = out.own.followed.talks;
-          talks_b = far_own.followed.talks;
-          parley = spoken;
-          texts_a = out_here w umpire m q (b_a w umpire k) k.0 after (calm_by w umpire (line (seen w).this (seen w).going) (line (seen w).that (seen w).coming) k.1.parley)
-              (calm_by next (after_record umpire ToImp w.number_a m) (line (seen next).this (seen next).going) (line (seen next).that (seen next).coming) spoken) out.own.followed.talks k.1.texts_a;
-          texts_b = out_there w umpire m (a_b w umpire k) k.1.texts_b;
-        }
+        now = record { talks_a = out.own.followed.talks; talks_b = far_own.followed.talks; parley = spoken }
 
 -- ---- it comes
 
@@ -320,22 +367,44 @@ record Come (w : Hosts) (umpire : Umpire) (on : ℕ) (bits : List Bool) : Type 0
   parley : umpire.full ≡ false → (after_record umpire FromImp w.number_b bits).books.full ≡ false
       → Parley w.number_a w.number_b (view_in umpire.views w.number_a w.number_b) (view_in (after_record umpire FromImp w.number_b bits).views w.number_b w.number_a) (after_record umpire FromImp w.number_b bits).books
       (line (seen w).this (set_at on Delivered (seen w).going)) (line (state_after_received bits (had_for w.number_a w.b)) (seen w).coming)
+      (floats (seen w).this (set_at on Delivered (seen w).going)) (floats (state_after_received bits (had_for w.number_a w.b)) (seen w).coming)
 
 module _ (w : Hosts) (umpire : Umpire) (k : Known w umpire) (m : List Bool) where
+  -- with these on the lines
+  abbrev Came : List Bool → List Command → List Command → Afloat → Afloat → Type 0
+  Came bits =
+      Parley w.number_a w.number_b (view_in umpire.views w.number_a w.number_b) (view_in (after_record umpire FromImp w.number_b bits).views w.number_b w.number_a) (after_record umpire FromImp w.number_b bits).books
+
+  came_with : (bits : List Bool) (hl kl gl ll : List Command) (ht kt hu ku : Afloat) → hl ≡ gl → kl ≡ ll → ((l : ℕ) → hu l ≡ ht l) → ((l : ℕ) → ku l ≡ kt l) → Came bits gl ll ht kt → Came bits hl kl hu ku
+  came_with bits hl kl gl ll ht kt hu ku d e f g p =
+      subst (λ (xs : List Command). Came bits xs kl hu ku) (sym d)
+      (subst (λ (xs : List Command). Came bits gl xs hu ku) (sym e)
+      (floats_parley w.number_a w.number_b (view_in umpire.views w.number_a w.number_b) (view_in (after_record umpire FromImp w.number_b bits).views w.number_b w.number_a) (after_record umpire FromImp w.number_b bits).books gl ll ht kt hu ku (λ l. sym (f l)) (λ l. sym (g l)) p))
+
   come_zero : leader_in (from_host w.number_a m) ≡ Ok (leader_to w.number_a 0) → transit_at w.subnet w.number_a w.number_b 0 ≡ Accepted m → unsent_finding (sees umpire w.number_b) w.number_b w.number_a 0 (from_host w.number_a m) ≡ None
       → Pass phase_quiet (record_findings umpire FromImp w.number_b (from_host w.number_a m)) → Come w umpire 0 (from_host w.number_a m)
   come_zero led e sent quiet = record {
     none = TheirBooks.commands_none w.number_b w.number_a 0 (from_host w.number_a m) (control_of w.number_a c.cs) umpire (a_b w umpire k) k.0.joined.stand.fits_b k.0.joined.stand.fits_a k.0.ways.sound.long led reads laid sent quiet
-        (view_in umpire.views w.number_a w.number_b) c.cs (line (seen w).that (seen w).coming) c.fits.0 refl before (a_b w umpire k);
+        (view_in umpire.views w.number_a w.number_b) c.cs back ht kt c.fits.0 refl before (a_b w umpire k);
     parley = λ f room.
-        subst (λ (xs : List Command). Parley w.number_a w.number_b (view_in umpire.views w.number_a w.number_b) (view_in (after_record umpire FromImp w.number_b (from_host w.number_a m)).views w.number_b w.number_a)
-        (after_record umpire FromImp w.number_b (from_host w.number_a m)).books (line (seen w).this (set_at 0 Delivered (seen w).going)) xs) (sym (line_back m c.cs (state_after_received (from_host w.number_a m) (had_for w.number_a w.b)) (seen w) to_slots c.slot line_is))
-        (subst (λ (xs : List Command). Parley w.number_a w.number_b (view_in umpire.views w.number_a w.number_b) (view_in (after_record umpire FromImp w.number_b (from_host w.number_a m)).views w.number_b w.number_a)
-        (after_record umpire FromImp w.number_b (from_host w.number_a m)).books xs (line (seen w).that (seen w).coming)) (sym (none_left m c.cs (state_after_received (from_host w.number_a m) (had_for w.number_a w.b)) (seen w) to_slots c.slot line_is))
+        came_with (from_host w.number_a m) (line (seen w).this (set_at 0 Delivered (seen w).going)) (line heard (seen w).coming) [] back ht kt (floats (seen w).this (set_at 0 Delivered (seen w).going)) (floats heard (seen w).coming)
+        (none_left m c.cs heard (seen w) to_slots c.slot line_is) (line_back m c.cs heard (seen w) to_slots c.slot line_is) (floats_heard (seen w)) (floats_back heard (had_for w.number_a w.b) (seen w).coming to_slots)
         (TheirBooks.commands_after w.number_b w.number_a 0 (from_host w.number_a m) (control_of w.number_a c.cs) umpire (a_b w umpire k) k.0.joined.stand.fits_b k.0.joined.stand.fits_a k.0.ways.sound.long led reads laid sent quiet
-        (view_in umpire.views w.number_a w.number_b) c.cs (line (seen w).that (seen w).coming) c.fits.0 refl before (a_b w umpire k) f room));
+        (view_in umpire.views w.number_a w.number_b) c.cs back ht kt c.fits.0 refl before (a_b w umpire k) f room);
   }
     where
+      heard : PeerState
+      heard = state_after_received (from_host w.number_a m) (had_for w.number_a w.b)
+
+      back : List Command
+      back = line (seen w).that (seen w).coming
+
+      ht : Afloat
+      ht = floats (seen w).this (seen w).going
+
+      kt : Afloat
+      kt = floats (seen w).that (seen w).coming
+
       c : Control w m
       c = control w m k.0.joined e
 
@@ -353,54 +422,58 @@ module _ (w : Hosts) (umpire : Umpire) (k : Known w umpire) (m : List Bool) wher
           ap (λ (x : LinkSlot). commands_out (not_come x ((seen w).going 0))) c.slot ∙ ap (λ (h : Holds). commands_out (not_come (Slot.Travelling m) h)) e
           ∙ ap commands_of c.is ∙ commands_read w.number_b c.cs k.0.joined.stand.fits_b c.fits
 
-      to_slots : (state_after_received (from_host w.number_a m) (had_for w.number_a w.b)).slots ≡ (had_for w.number_a w.b).slots
+      to_slots : heard.slots ≡ (had_for w.number_a w.b).slots
       to_slots = received_slots w.number_a 0 (from_host w.number_a m) (had_for w.number_a w.b) led
 
-      before : umpire.full ≡ false → umpire.books.full ≡ false → ParleyOf w umpire c.cs (line (seen w).that (seen w).coming)
-      before f r = subst (λ (xs : List Command). ParleyOf w umpire xs (line (seen w).that (seen w).coming)) line_is (k.1.parley f r)
+      before : umpire.full ≡ false → umpire.books.full ≡ false → ParleyOf w umpire c.cs back ht kt
+      before f r = subst (λ (xs : List Command). ParleyOf w umpire xs back ht kt) line_is (k.1.parley f r)
 
   come_text : (on : ℕ) → (on == 0) ≡ false → leader_in (from_host w.number_a m) ≡ Ok (leader_to w.number_a on) → on < 256 → transit_at w.subnet w.number_a w.number_b on ≡ Accepted m
       → unsent_finding (sees umpire w.number_b) w.number_b w.number_a on (from_host w.number_a m) ≡ None → Pass phase_quiet (record_findings umpire FromImp w.number_b (from_host w.number_a m)) → Come w umpire on (from_host w.number_a m)
   come_text on z led few e sent quiet = record {
     none = TheirBooks.text_none w.number_b w.number_a on (from_host w.number_a m) (message_with (leader_to w.number_a on) c.size c.text) umpire (a_b w umpire k) k.0.joined.stand.fits_b k.0.joined.stand.fits_a k.0.ways.sound.long led reads laid sent quiet
-        (view_in umpire.views w.number_a w.number_b) c.right z;
+        (view_in umpire.views w.number_a w.number_b) going back ht kt c.right z out k.1.parley;
     parley = λ f room.
-        subst (λ (xs : List Command). Parley w.number_a w.number_b (view_in umpire.views w.number_a w.number_b) (view_in (after_record umpire FromImp w.number_b (from_host w.number_a m)).views w.number_b w.number_a)
-        (after_record umpire FromImp w.number_b (from_host w.number_a m)).books (line (seen w).this (set_at on Delivered (seen w).going)) xs) (sym (back_same on (state_after_received (from_host w.number_a m) (had_for w.number_a w.b)) (seen w) z to_slots (busy f)))
-        (subst (λ (xs : List Command). Parley w.number_a w.number_b (view_in umpire.views w.number_a w.number_b) (view_in (after_record umpire FromImp w.number_b (from_host w.number_a m)).views w.number_b w.number_a)
-        (after_record umpire FromImp w.number_b (from_host w.number_a m)).books xs (line (seen w).that (seen w).coming)) (sym (line_same on (state_after_received (from_host w.number_a m) (had_for w.number_a w.b)) (seen w) z to_slots (busy f)))
+        came_with (from_host w.number_a m) (line (seen w).this (set_at on Delivered (seen w).going)) (line heard (seen w).coming) going back (with_float on None ht) kt
+        (floats (seen w).this (set_at on Delivered (seen w).going)) (floats heard (seen w).coming)
+        (line_same on heard (seen w) z to_slots (busy f)) (back_same on heard (seen w) z to_slots (busy f)) (floats_came on m (seen w) c.slot) (floats_back heard (had_for w.number_a w.b) (seen w).coming to_slots)
         (TheirBooks.text_after w.number_b w.number_a on (from_host w.number_a m) (message_with (leader_to w.number_a on) c.size c.text) umpire (a_b w umpire k) k.0.joined.stand.fits_b k.0.joined.stand.fits_a k.0.ways.sound.long led reads laid sent quiet
-        (view_in umpire.views w.number_a w.number_b) c.right z (line (seen w).this (seen w).going) (line (seen w).that (seen w).coming) f room k.1.parley (took f room)));
+        (view_in umpire.views w.number_a w.number_b) going back ht kt c.right z out k.1.parley (a_b w umpire k) f room);
   }
     where
+      heard : PeerState
+      heard = state_after_received (from_host w.number_a m) (had_for w.number_a w.b)
+
+      going : List Command
+      going = line (seen w).this (seen w).going
+
+      back : List Command
+      back = line (seen w).that (seen w).coming
+
+      ht : Afloat
+      ht = floats (seen w).this (seen w).going
+
+      kt : Afloat
+      kt = floats (seen w).that (seen w).coming
+
       c : Text w on m
       c = a_text w on m z k.0.joined e
 
       reads : message_in (from_host w.number_a m) ≡ Ok (message_with (leader_to w.number_a on) c.size c.text)
       reads = Both.reads_as w umpire k.0 m on c.size c.text c.fits few c.is
 
+      -- as it went out
+      out : ht on ≡ Some (c.size, length c.text)
+      out = floats_out (seen w).this (seen w).going on m (message_with (leader_to w.number_b on) c.size c.text) z c.slot e (ap message_in c.is ∙ read w.number_b on c.size c.text k.0.joined.stand.fits_b few c.fits)
+
       laid : rule_of_message (message_in (from_host w.number_a m)) on (length (from_host w.number_a m)) ≡ None
       laid = Both.laid_on w umpire k.0 m on c.size c.text c.fits few c.is c.slot
 
-      to_slots : (state_after_received (from_host w.number_a m) (had_for w.number_a w.b)).slots ≡ (had_for w.number_a w.b).slots
+      to_slots : heard.slots ≡ (had_for w.number_a w.b).slots
       to_slots = received_slots w.number_a on (from_host w.number_a m) (had_for w.number_a w.b) led
 
       busy : umpire.full ≡ false → is_quiet (had_for w.number_b w.a).slots ≡ false
       busy f = not_quiet (had_for w.number_b w.a) on (Both.own_seen w umpire k.0 f).used z (ap is_empty c.slot)
-
-      -- where it is read at all, a connection has its link
-      took : umpire.full ≡ false → (after_record umpire FromImp w.number_b (from_host w.number_a m)).books.full ≡ false → reaches (turn_at (after_in (sees umpire w.number_b) w.number_b w.number_a on) w.number_b w.number_a w.number_a false) Thing.Text (view_of (after_in (sees umpire w.number_b) w.number_b w.number_a on) w.number_b w.number_a) ≡ true
-          → Parley w.number_a w.number_b (view_in umpire.views w.number_a w.number_b) (view_of (after_in (sees umpire w.number_b) w.number_b w.number_a on) w.number_b w.number_a) (after_in (sees umpire w.number_b) w.number_b w.number_a on).books (line (seen w).this (seen w).going) (line (seen w).that (seen w).coming)
-          → Parley w.number_a w.number_b (view_in umpire.views w.number_a w.number_b) (view_of (after_in (sees umpire w.number_b) w.number_b w.number_a on) w.number_b w.number_a) (books_after_text w.number_b w.number_a on (after_in (sees umpire w.number_b) w.number_b w.number_a on).books) (line (seen w).this (seen w).going) (line (seen w).that (seen w).coming)
-      took f room reached p =
-          let r : umpire.books.full ≡ false = (record_reads umpire FromImp w.number_b (from_host w.number_a m)).room room in
-          let turn : Turn = turn_at (after_in (sees umpire w.number_b) w.number_b w.number_a on) w.number_b w.number_a w.number_a false in
-          subst (λ (b : SeenBooks). Parley w.number_a w.number_b (view_in umpire.views w.number_a w.number_b) (view_of (after_in (sees umpire w.number_b) w.number_b w.number_a on) w.number_b w.number_a) (books_after_text w.number_b w.number_a on b) (line (seen w).this (seen w).going) (line (seen w).that (seen w).coming)) (sym books)
-          (text_taken w umpire k.0 on m z e (a_b w umpire k) f r k.1.texts_a (k.1.talks_b.tidy r) turn.by turn.busy turn.zero (view_of (after_in (sees umpire w.number_b) w.number_b w.number_a on) w.number_b w.number_a) (line (seen w).this (seen w).going) (line (seen w).that (seen w).coming)
-          (subst (λ (b : SeenBooks). Parley w.number_a w.number_b (view_in umpire.views w.number_a w.number_b) (view_of (after_in (sees umpire w.number_b) w.number_b w.number_a on) w.number_b w.number_a) b (line (seen w).this (seen w).going) (line (seen w).that (seen w).coming)) books p) reached)
-        where
-          books : (after_in (sees umpire w.number_b) w.number_b w.number_a on).books ≡ umpire.books
-          books = in_books (sees umpire w.number_b) w.number_b w.number_a on
 
   comes : (on : ℕ) → leader_in (from_host w.number_a m) ≡ Ok (leader_to w.number_a on) → on < 256 → transit_at w.subnet w.number_a w.number_b on ≡ Accepted m
       → unsent_finding (sees umpire w.number_b) w.number_b w.number_a on (from_host w.number_a m) ≡ None → Pass phase_quiet (record_findings umpire FromImp w.number_b (from_host w.number_a m)) → Come w umpire on (from_host w.number_a m)
@@ -467,21 +540,18 @@ arrived w umpire link k = go (transit_of A link w) refl (each_step (Event.Delive
         next = hosts_after_note (Note.Came A link (note_of_bits (from_host w.number_a m) w.b)) w
 
         spoken : (after_record umpire FromImp w.number_b (from_host w.number_a m)).full ≡ false → (after_record umpire FromImp w.number_b (from_host w.number_a m)).books.full ≡ false
-            → ParleyOf w (after_record umpire FromImp w.number_b (from_host w.number_a m)) (line (seen next).this (seen next).going) (line (seen next).that (seen next).coming)
+            → ParleyOf w (after_record umpire FromImp w.number_b (from_host w.number_a m)) (line (seen next).this (seen next).going) (line (seen next).that (seen next).coming) (floats (seen next).this (seen next).going) (floats (seen next).that (seen next).coming)
         spoken f room =
-            subst (λ (x : World). ParleyOf w (after_record umpire FromImp w.number_b (from_host w.number_a m)) (line x.this x.going) (line x.that x.coming)) (sym is)
+            subst (λ (x : World). ParleyOf w (after_record umpire FromImp w.number_b (from_host w.number_a m)) (line x.this x.going) (line x.that x.coming) (floats x.this x.going) (floats x.that x.coming)) (sym is)
             (subst (λ (x : View). Parley w.number_a w.number_b x (view_in (after_record umpire FromImp w.number_b (from_host w.number_a m)).views w.number_b w.number_a) (after_record umpire FromImp w.number_b (from_host w.number_a m)).books
-            (line (seen w).this (set_at link Delivered (seen w).going)) (line (state_after_received (from_host w.number_a m) (had_for w.number_a w.b)) (seen w).coming)) (sym far) (come.parley (open_before f) room))
+            (line (seen w).this (set_at link Delivered (seen w).going)) (line (state_after_received (from_host w.number_a m) (had_for w.number_a w.b)) (seen w).coming)
+            (floats (seen w).this (set_at link Delivered (seen w).going)) (floats (state_after_received (from_host w.number_a m) (had_for w.number_a w.b)) (seen w).coming)) (sym far) (come.parley (open_before f) room))
 
         now : Parleys (hosts_after_note (Note.Came A link (note_of_bits (from_host w.number_a m) w.b)) w) (after_record umpire FromImp w.number_b (from_host w.number_a m))
         now = record {
           talks_a = far_own.followed.talks;
           talks_b = near_own.followed.talks;
           parley = spoken;
-          texts_a = came_here w umpire link (note_of_bits (from_host w.number_a m) w.b) (from_host w.number_a m) (b_a w umpire k) k.1.texts_a;
-          texts_b =
-              came_there w umpire m k.0 (a_b w umpire k) (b_a w umpire k) k.1.parley quiet link q way.sent (turn_both next (after_record umpire FromImp w.number_b (from_host w.number_a m)) after.1) near_own.followed.talks
-              (calm_back next (after_record umpire FromImp w.number_b (from_host w.number_a m)) (line (seen next).this (seen next).going) (line (seen next).that (seen next).coming) spoken) k.1.texts_b;
         }
 
 -- ---- it is lost, or its destination is dead
@@ -492,10 +562,11 @@ lose_with w umpire link m as_what k e l = record {
   talks_a = k.1.talks_a;
   talks_b = k.1.talks_b;
   parley = λ f r.
-      subst (λ (x : World). ParleyOf w umpire (line x.this x.going) (line x.that x.coming)) (sym is)
-      (subst (λ (xs : List Command). ParleyOf w umpire xs (line (seen w).that (seen w).coming)) (sym (line_lost link m as_what (seen w) (out_slot w link m k.0.joined e) e l)) (k.1.parley f r));
-  texts_a = k.1.texts_a;
-  texts_b = k.1.texts_b;
+      subst (λ (x : World). ParleyOf w umpire (line x.this x.going) (line x.that x.coming) (floats x.this x.going) (floats x.that x.coming)) (sym is)
+      (subst (λ (xs : List Command). ParleyOf w umpire xs (line (seen w).that (seen w).coming) (floats (seen w).this (set_at link as_what (seen w).going)) (floats (seen w).that (seen w).coming)) (sym (line_lost link m as_what (seen w) (out_slot w link m k.0.joined e) e l))
+      (floats_parley w.number_a w.number_b (view_in umpire.views w.number_a w.number_b) (view_in umpire.views w.number_b w.number_a) umpire.books (line (seen w).this (seen w).going) (line (seen w).that (seen w).coming)
+      (floats (seen w).this (seen w).going) (floats (seen w).that (seen w).coming) (floats (seen w).this (set_at link as_what (seen w).going)) (floats (seen w).that (seen w).coming)
+      (λ j. sym (floats_lost link m as_what (seen w) (out_slot w link m k.0.joined e) e l j)) (λ j. refl) (k.1.parley f r)));
 }
   where
     is : seen (record w { subnet = with_transit w.subnet w.number_a w.number_b link as_what }) ≡ goes_lost link as_what (seen w)
@@ -569,7 +640,7 @@ told w umpire link k = go (answer_kind (transit_of A link w)) refl (each_step (E
         is =
             seen_with w k.0.joined.stand.differ link Free (after_note (note_of_bits (answer_bits kind w.number_b link) w.a) w.a) w.b (answer_comes link (answer_of kind) (had_for w.number_b w.a)) (had_for w.number_a w.b) state refl
 
-        books : (after_record umpire FromImp w.number_a (answer_bits kind w.number_b link)).books ≡ umpire.books
+        books : (after_record umpire FromImp w.number_a (answer_bits kind w.number_b link)).books ≡ next_number umpire.books
         books = ap (λ (x : Umpire). x.books) (answer_is umpire w.number_a (answer_bits kind w.number_b link) (answer_leader kind w.number_b link) l.led (b_a w umpire k) l.not_regular l.is_one) ∙ answer_books (sees umpire w.number_a) kind w.number_a w.number_b link
 
         far : view_in (after_record umpire FromImp w.number_a (answer_bits kind w.number_b link)).views w.number_b w.number_a ≡ view_in umpire.views w.number_b w.number_a
@@ -593,17 +664,34 @@ told w umpire link k = go (answer_kind (transit_of A link w)) refl (each_step (E
           talks_a = near_own.followed.talks;
           talks_b = far_own.followed.talks;
           parley = λ f r.
-              subst (λ (x : World). ParleyOf w (after_record umpire FromImp w.number_a (answer_bits kind w.number_b link)) (line x.this x.going) (line x.that x.coming)) (sym is)
-              (subst (λ (xs : List Command). ParleyOf w (after_record umpire FromImp w.number_a (answer_bits kind w.number_b link)) xs (line (seen w).that (seen w).coming)) (sym (line_told link t.m (answer_of kind) t.h (seen w) t.slot t.is t.same))
-              (subst (λ (x : View). Parley w.number_a w.number_b x (view_in (after_record umpire FromImp w.number_a (answer_bits kind w.number_b link)).views w.number_b w.number_a) (after_record umpire FromImp w.number_a (answer_bits kind w.number_b link)).books
-              (line (seen w).this (seen w).going) (line (seen w).that (seen w).coming)) (sym near)
-              (subst (λ (x : View). Parley w.number_a w.number_b (view_in umpire.views w.number_a w.number_b) x (after_record umpire FromImp w.number_a (answer_bits kind w.number_b link)).books
-              (line (seen w).this (seen w).going) (line (seen w).that (seen w).coming)) (sym far)
-              (subst (λ (x : SeenBooks). Parley w.number_a w.number_b (view_in umpire.views w.number_a w.number_b) (view_in umpire.views w.number_b w.number_a) x (line (seen w).this (seen w).going) (line (seen w).that (seen w).coming)) (sym books)
-              (k.1.parley (open_before f) (ap (λ (x : SeenBooks). x.full) (sym books) ∙ r))))));
-          texts_a = answered_here w (hosts_after_note (Note.Answered A link (note_of_bits (answer_bits kind w.number_b link) w.a)) w) umpire (after_record umpire FromImp w.number_a (answer_bits kind w.number_b link)) link (answer_of kind) after refl refl state books open_before k.1.texts_a;
-          texts_b = elsewhere (turned w) (turned (hosts_after_note (Note.Answered A link (note_of_bits (answer_bits kind w.number_b link) w.a)) w)) umpire FromImp w.number_a (answer_bits kind w.number_b link) (a_b w umpire k) refl refl refl k.1.texts_b;
+              subst (λ (x : World). ParleyOf w umpire_now (line x.this x.going) (line x.that x.coming) (floats x.this x.going) (floats x.that x.coming)) (sym is)
+              (subst (λ (xs : List Command). ParleyOf w umpire_now xs back (floats world.this world.going) kt) (sym (line_told link t.m (answer_of kind) t.h (seen w) t.slot t.is t.same))
+              (subst (λ (x : View). Parley w.number_a w.number_b x (view_in umpire_now.views w.number_b w.number_a) umpire_now.books (line (seen w).this (seen w).going) back (floats world.this world.going) kt) (sym near)
+              (subst (λ (x : View). Parley w.number_a w.number_b (view_in umpire.views w.number_a w.number_b) x umpire_now.books (line (seen w).this (seen w).going) back (floats world.this world.going) kt) (sym far)
+              (subst (λ (x : SeenBooks). Parley w.number_a w.number_b (view_in umpire.views w.number_a w.number_b) (view_in umpire.views w.number_b w.number_a) x (line (seen w).this (seen w).going) back (floats world.this world.going) kt) (sym books)
+              (numbered_parley
+              (floats_parley w.number_a w.number_b (view_in umpire.views w.number_a w.number_b) (view_in umpire.views w.number_b w.number_a) umpire.books (line (seen w).this (seen w).going) back
+              (floats (seen w).this (seen w).going) kt (floats world.this world.going) kt (λ j. sym (floats_told link t.m (answer_of kind) t.h (seen w) t.slot t.is t.same j)) (λ j. refl)
+              (k.1.parley (open_before f) (ap (λ (x : SeenBooks). x.full) (sym books) ∙ r))))))));
         }
+          where
+            umpire_now : Umpire
+            umpire_now = after_record umpire FromImp w.number_a (answer_bits kind w.number_b link)
+
+            world : World
+            world = is_told link (answer_of kind) (seen w)
+
+            back : List Command
+            back = line (seen w).that (seen w).coming
+
+            kt : Afloat
+            kt = floats (seen w).that (seen w).coming
+
+            numbered_parley : Parley w.number_a w.number_b (view_in umpire.views w.number_a w.number_b) (view_in umpire.views w.number_b w.number_a) umpire.books (line (seen w).this (seen w).going) back (floats world.this world.going) kt
+                → Parley w.number_a w.number_b (view_in umpire.views w.number_a w.number_b) (view_in umpire.views w.number_b w.number_a) (next_number umpire.books) (line (seen w).this (seen w).going) back (floats world.this world.going) kt
+            numbered_parley =
+                books_parley w.number_a w.number_b (view_in umpire.views w.number_a w.number_b) (view_in umpire.views w.number_b w.number_a) umpire.books (next_number umpire.books) (line (seen w).this (seen w).going) back (floats world.this world.going) kt
+                (record { lives = refl; marks = refl; dues = refl }) (record { lives = refl; marks = refl; dues = refl })
 
 sides : OfA never Known
 sides = record { call = called; out = went; deliver = arrived; lose = lost; die = died; answer = told }
@@ -621,15 +709,21 @@ known_begins a b d k l = (
     talks_a = talks_begin a (b ∷ []);
     talks_b = talks_begin b (a ∷ []);
     parley = λ f r.
-        subst (λ (xs : List Command). ParleyOf (new_hosts a b) (new_umpire false) xs (line (seen (new_hosts a b)).that (seen (new_hosts a b)).coming)) (sym (empty (seen (new_hosts a b)).this (seen (new_hosts a b)).going (Both.new_had b)))
-        (subst (λ (xs : List Command). ParleyOf (new_hosts a b) (new_umpire false) [] xs) (sym (empty (seen (new_hosts a b)).that (seen (new_hosts a b)).coming (Both.new_had a)))
-        (subst (λ (x : View). Parley a b x (view_in (new_umpire false).views b a) no_books [] []) (sym (Both.new_seen a b))
-        (subst (λ (x : View). Parley a b (new_view false) x no_books [] []) (sym (Both.new_seen b a)) (begins_parley a b))));
-    texts_a = new_texts (new_hosts a b) (new_umpire false) (Both.new_had b);
-    texts_b = new_texts (turned (new_hosts a b)) (new_umpire false) (Both.new_had a);
+        floats_parley a b (view_in (new_umpire false).views a b) (view_in (new_umpire false).views b a) no_books (line first.this first.going) (line first.that first.coming) (λ l. None) (λ l. None) (floats first.this first.going) (floats first.that first.coming)
+        (λ l. sym (no_floats first.this first.going (Both.new_had b) l)) (λ l. sym (no_floats first.that first.coming (Both.new_had a) l))
+        (subst (λ (xs : List Command). ParleyOf (new_hosts a b) (new_umpire false) xs (line first.that first.coming) (λ l. None) (λ l. None)) (sym (empty first.this first.going (Both.new_had b)))
+        (subst (λ (xs : List Command). ParleyOf (new_hosts a b) (new_umpire false) [] xs (λ l. None) (λ l. None)) (sym (empty first.that first.coming (Both.new_had a)))
+        (subst (λ (x : View). Parley a b x (view_in (new_umpire false).views b a) no_books [] [] (λ l. None) (λ l. None)) (sym (Both.new_seen a b))
+        (subst (λ (x : View). Parley a b (new_view false) x no_books [] [] (λ l. None) (λ l. None)) (sym (Both.new_seen b a)) (begins_parley a b)))));
   },
 )
   where
+    first : World
+    first = seen (new_hosts a b)
+
+    no_floats : (s : PeerState) (u : ℕ → Holds) → s ≡ new_state → (l : ℕ) → floats s u l ≡ None
+    no_floats s u e l = none_floats s u l (λ z. ap (λ (x : PeerState). is_empty (slot_at x.slots l)) e ∙ ap is_empty (slot_at-no_slots l))
+
     empty : (s : PeerState) (u : ℕ → Holds) → s ≡ new_state → line s u ≡ []
     empty s u e = ap (λ (x : LinkSlot). commands_out (not_come x (u 0))) (ap (λ (x : PeerState). slot_at x.slots 0) e ∙ slot_at-no_slots 0)
 

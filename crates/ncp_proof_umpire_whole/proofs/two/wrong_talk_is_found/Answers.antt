@@ -19,3 +19,15 @@ returns-clause-judged c = refl
 pub returns-clause-spared : goal.returns-clause-spared
 unfolding number_of byte_of bytes_of command_with command_at commands_within
 returns-clause-spared c = refl
+
+pub returns-clause-sent : goal.returns-clause-sent
+unfolding number_of byte_of bytes_of command_with command_at commands_within
+returns-clause-sent c = refl
+
+pub returns-clause-received : goal.returns-clause-received
+unfolding number_of byte_of bytes_of command_with command_at commands_within
+returns-clause-received c = refl
+
+pub returns-clause-allocated : goal.returns-clause-allocated
+unfolding number_of byte_of bytes_of command_with command_at commands_within
+returns-clause-allocated c = refl
