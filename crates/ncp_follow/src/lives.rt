@@ -9,7 +9,7 @@ use std::alloc::{AllocError, Global};
 use std::marker::Model;
 
 /// How many connections, and requests for them, are followed at once at most. One more is not followed.
-pub const MAX_LIVES: usize = 1024;
+pub const MAX_LIVES: usize = 4096;
 
 /// The connections, and the requests for them, that have not ended. Their room is made at once.
 #[derive(Drop)]

@@ -14,7 +14,7 @@ use ncp_terms::{CONTROL_LINK, CONTROL_SIZE, Command, CommandFault, FIRST_LINK, L
 
 /// What is read of a message.
 #[derive(Clone, Copy, Drop)]
-pub(crate) enum Reading {
+pub enum Reading {
     Nothing,
     Text,
     Control,

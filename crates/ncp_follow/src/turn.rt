@@ -2,7 +2,7 @@
 
 /// A message between two hosts, as it is seen at the interface of one.
 #[derive(Clone, Copy, Debug, Drop, PartialEq, Eq)]
-pub(crate) struct Turn {
+pub struct Turn {
     /// The number of its record.
     pub number: u32,
     /// The host at whose interface it is seen.
