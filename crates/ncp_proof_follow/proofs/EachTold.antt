@@ -1,0 +1,628 @@
+-- Each event of two hosts with the subnet between them keeps what is known of both, beside what is followed of their file: what
+-- is told at each interface is what the ends there have to do with.
+use Rattle.std.proofs.Common.{◌≡◌, ◌≤◌, ℕ, ◌+◌, ◌-◌, ◌^◌, ◌==◌, Bool, true, false, if◌then◌else◌, List, [], ◌∷◌, ◌++◌, length, Option, None, Some, Ok, Result, refl, sym, ap, ◌∙◌, subst, arith}
+use Rattle.std.specs.FinMap.{get}
+use Rattle.std.specs.Prelude.{min, nat_lt}
+use Rattle.std.proofs.lemmas.Bool.Decides.{nat_tests}
+use Rattle.ncp_leader.specs.declared.leader.Leader.{Leader}
+use Rattle.ncp_leader.specs.declared.leader.Short.{Short}
+use Rattle.ncp_leader.specs.Leader.{leader_in}
+use Rattle.ncp_leader.specs.Message.{message_in}
+use Rattle.ncp_subnet.specs.Messages.{arriving, answering, answer_about}
+use Rattle.ncp_subnet.specs.Transit.{is_accepted, answer_kind}
+use Rattle.ncp_subnet.specs.Ways.{OnLink}
+use Rattle.ncp_model.specs.declared.pair.Pair.{Pair}
+use Rattle.ncp_model.specs.Phase.{up}
+use Rattle.ncp_model.specs.Peers.{Take}
+use Rattle.ncp_proof_watch.specs.Sound.{SoundAt}
+use Rattle.ncp_proof_machine.specs.Hosts.{Pasts, past_of}
+use Rattle.ncp_proof_resets.specs.Resets.{This, That}
+use Rattle.ncp_host.specs.PeerState.{PeerState, answer_comes}
+use Rattle.ncp_host.specs.Hearing.{answer_of}
+use Rattle.ncp_host.specs.Output.{leader_to, next_of}
+use Rattle.ncp_host.specs.Turns.{next_output}
+use Rattle.ncp_transcript.specs.declared.call.Call.{Call}
+use Rattle.ncp_transcript.specs.declared.note.HostNote.{HostNote}
+use Rattle.ncp_transcript.specs.After.{after_note}
+use Rattle.ncp_transcript.specs.Noting.{note_of_message, note_of_bits}
+use Rattle.ncp_transcript_two.specs.Subnet.{Free, Accepted, Delivered, Lost, Dead, from_host, answer_bits}
+use Rattle.ncp_transcript_two.specs.World.{World, Asked, Asks, Replied, Took, WorldStep, Call_is_made, Goes_out, Is_delivered, Is_lost, Finds_dead, Is_answered, Told, Called, swap, goes, delivers, loses, dies, answers_for, moves}
+use Rattle.ncp_transcript_two.specs.Watch.{Both, turn, histories_after_told, pasts_after_message}
+use Rattle.ncp_transcript_two.specs.declared.side.Side.TheVariants.{A, B}
+use Rattle.ncp_transcript_two.specs.declared.event.Event.{Event}
+use Rattle.ncp_transcript_two.specs.declared.note.Move.{Move}
+use Rattle.ncp_transcript_two.specs.declared.note.Note.{Note}
+use Rattle.ncp_transcript_two.specs.Between.{Hosts, transit_of, hosts_after_note}
+use Rattle.ncp_transcript_two.specs.Happening.{Noted, IsCalled, note_of_coming, note_of_answering, note_of_out, note_of_delivery, note_of_loss, note_of_death, note_of_answer}
+use Rattle.ncp_transcript_two.specs.Seen.{had_for, seen, asked_by, done, told_call, told_in, told_answer, watched}
+use Rattle.ncp_transcript_two.proofs.OnePeer.{had-changed, noted-message, noted-answer}
+use Rattle.ncp_transcript_two.proofs.SeenRuns.{turned, DoesOn, event-does}
+use Rattle.ncp_transcript_two.proofs.Written.{answer_leader}
+use Rattle.ncp_umpire.specs.declared.finding.Finding.{Finding}
+use Rattle.ncp_umpire.specs.declared.umpire.Umpire.{Umpire}
+use Rattle.ncp_umpire.specs.declared.way.Way.{Way}
+use Rattle.ncp_umpire.specs.declared.way.Way.TheVariants.{ToImp, FromImp}
+use Rattle.ncp_umpire.specs.Lives.{SeenBooks}
+use Rattle.ncp_umpire.specs.Judged.{record_findings, after_record}
+use Rattle.ncp_umpire.proofs.Passing.{Pass}
+use Rattle.ncp_follow.specs.declared.follower.Follower.{Follower}
+use Rattle.ncp_follow.specs.declared.tables.Tables.{Tables}
+use Rattle.ncp_follow.specs.declared.told.TheConstants.{MAX_TOLD}
+use Rattle.ncp_follow.specs.Tables.{has_place_told}
+use Rattle.ncp_follow.specs.Followed.{is_answer, follower_after_read, follower_after_record}
+use Rattle.ncp_proof_umpire.specs.Worlds.{comes_to, passes_between}
+use Rattle.ncp_proof_umpire_talk.proofs.Spoken.{Tells}
+use Rattle.ncp_proof_umpire_many.proofs.Between.{Written, written, comes_led, AnswerLed, answer_leads}
+use Rattle.ncp_proof_umpire_many.proofs.Both
+use Rattle.ncp_proof_umpire_many.proofs.Coming.{came_to}
+use Rattle.ncp_proof_umpire_many.proofs.Walk.{after_file, Steps}
+use Rattle.ncp_proof_umpire_many.specs.Files.{findings_in}
+use Rattle.ncp_proof_umpire_whole.proofs.Parleys.{Known, turn_known}
+use Rattle.ncp_proof_umpire_whole.proofs.WholeWalk.{never}
+use Rattle.ncp_proof_follow.specs.ToldTexts.{is_to_imp, followed_from}
+use Rattle.ncp_proof_follow.proofs.OpensSo.{AllOpened}
+use Rattle.ncp_proof_follow.proofs.Placed.{Placed}
+use Rattle.ncp_proof_follow.proofs.Telling.{Got, Given}
+use Rattle.ncp_proof_follow.proofs.HostLives.{told_lives}
+use Rattle.ncp_proof_follow.proofs.ControlComes.{AtHost, still_told}
+use Rattle.ncp_proof_follow.proofs.CallsTold.{called_told}
+use Rattle.ncp_proof_follow.proofs.CameTold.{IsCovered}
+use Rattle.ncp_proof_follow.proofs.GoesTold.{goes_told}
+use Rattle.ncp_proof_follow.proofs.ComesTold.{comes_told}
+use Rattle.ncp_proof_follow.proofs.Elsewhere.{Away, record_away}
+use Rattle.ncp_proof_follow.proofs.BothFollowed.{Beside, turn_beside, each_beside}
+use Rattle.ncp_proof_follow.proofs.ToldWalk.{histories_then, EachEvent, ToldAt}
+
+-- ---- of all records of an event
+
+pub record FileKeeps (t now : Tables) : Type 0 where
+  pub placed : Placed now
+  pub opened : has_place_told now.told ≡ true → AllOpened t.lives → AllOpened now.lives
+  pub more : length t.told ≤ length now.told
+
+fewer_told : (n m : ℕ) → n ≤ m → nat_lt m MAX_TOLD ≡ true → nat_lt n MAX_TOLD ≡ true
+fewer_told n m l e = grind (arith, nat_tests)
+
+file_keeps : (number : ℕ) (file : List (ℕ × Way × List Bool)) (f : Follower) → Placed f.tables → FileKeeps f.tables (followed_from number file f).tables
+file_keeps number [] f k = record { placed = k; opened = λ h all. all; more = omega arith }
+file_keeps number (x ∷ xs) f k =
+    let mid : Follower = follower_after_record number (is_to_imp x.1) x.0 x.2 f in
+    let one : Away x.0 f.tables mid.tables = record_away number (is_to_imp x.1) x.0 x.2 f k in
+    let rest : FileKeeps mid.tables (followed_from (min (number + 1) (2 ^ 32 - 1)) xs mid).tables = file_keeps (min (number + 1) (2 ^ 32 - 1)) xs mid one.placed in
+    record {
+      placed = rest.placed;
+      opened = λ h all. rest.opened h (one.opened (fewer_told (length mid.tables.told) (length (followed_from (min (number + 1) (2 ^ 32 - 1)) xs mid).tables.told) rest.more h) all);
+      more = let a = one.more in let b = rest.more in omega arith;
+    }
+
+-- what is told at another interface
+at_away : (at me n : ℕ) (s : PeerState) (pasts : Pasts) (t now : Tables) → (me == at) ≡ false → Away at t now → AtHost me n s pasts t → AtHost me n s pasts now
+at_away at me n s pasts t now d a k = record {
+  got = λ q r. subst (Got (get s.peer.ends q) (past_of pasts q)) (sym (a.texts (record { at = me; peer = n; pair = q }) d)) (k.got q r);
+  given = λ q r. subst (Given (get s.peer.ends q) (past_of pasts q)) (sym (a.texts (record { at = me; peer = n; pair = q }) d)) (k.given q r);
+}
+
+none_found : (found : List Finding) → Pass never (found ++ []) → found ≡ []
+none_found [] p = refl
+none_found (x ∷ found) p = absurd (cc p)
+
+-- an answer tells nothing
+tables_answered : (number at : ℕ) (leader : Leader) (bits : List Bool) (f : Follower) → leader_in bits ≡ Ok leader → (leader.host == at) ≡ false → (leader.kind == 0) ≡ false → is_answer leader.kind ≡ true
+    → (follower_after_record number false at bits f).tables ≡ f.tables
+tables_answered number at leader bits f led d z a = ap (λ (r : Result Leader Short). (follower_after_read number false at r bits f).tables) led ∙ (rw (d, z, a) refl)
+
+-- ---- what the rules note
+
+abbrev is_called : Told → Bool
+is_called (Called asked reply) = true
+is_called other = false
+
+done_called : (o : Option Asked) (t : Told) → done o ≡ Some t → is_called t ≡ true
+done_called None t e = absurd (cc e)
+done_called (Some asked) t e = let is : Called asked (Replied (Ok tt)) ≡ t = cc e in ap is_called (sym is)
+
+told_called : (h : HostNote) (t : Told) → told_call h ≡ Some t → is_called t ≡ true
+told_called (HostNote.Refused call fault) t e = absurd (cc e)
+told_called (HostNote.Done call) t e = done_called (asked_by call) t e
+told_called (HostNote.Took peer pair bytes text) t e = let is : Called (Asks pair (Take bytes)) (Took (Ok text)) ≡ t = cc e in ap is_called (sym is)
+told_called (HostNote.State peer pair r) t e = absurd (cc e)
+told_called (HostNote.Phase peer flags) t e = absurd (cc e)
+told_called (HostNote.Echoed peer byte) t e = absurd (cc e)
+told_called (HostNote.Errors peer errors) t e = absurd (cc e)
+told_called (HostNote.Counts peer counts) t e = absurd (cc e)
+told_called (HostNote.Waiting peer place command) t e = absurd (cc e)
+told_called (HostNote.Kept peer link message) t e = absurd (cc e)
+told_called (HostNote.Ignored ignored) t e = absurd (cc e)
+told_called (HostNote.Out message) t e = absurd (cc e)
+told_called HostNote.Nothing t e = absurd (cc e)
+told_called (HostNote.In message received) t e = absurd (cc e)
+told_called (HostNote.Answered peer link how received) t e = absurd (cc e)
+
+-- only a call is told as one
+
+goes_uncalled : (o : Option (ℕ × List Bool)) (v : World) → is_called (goes o v).1 ≡ false
+goes_uncalled None v = refl
+goes_uncalled (Some out) v = refl
+
+delivers_uncalled : (on : ℕ) (h : OnLink) (v : World) → is_called (delivers on h v).1 ≡ false
+delivers_uncalled on Free v = refl
+delivers_uncalled on (Accepted m) v = refl
+delivers_uncalled on Delivered v = refl
+delivers_uncalled on Lost v = refl
+delivers_uncalled on Dead v = refl
+
+loses_uncalled : (on : ℕ) (h : OnLink) (v : World) → is_called (loses on h v).1 ≡ false
+loses_uncalled on Free v = refl
+loses_uncalled on (Accepted m) v = refl
+loses_uncalled on Delivered v = refl
+loses_uncalled on Lost v = refl
+loses_uncalled on Dead v = refl
+
+dies_uncalled : (on : ℕ) (h : OnLink) (v : World) → is_called (dies on h v).1 ≡ false
+dies_uncalled on Free v = refl
+dies_uncalled on (Accepted m) v = refl
+dies_uncalled on Delivered v = refl
+dies_uncalled on Lost v = refl
+dies_uncalled on Dead v = refl
+
+answers_uncalled : (on : ℕ) (h : OnLink) (v : World) → is_called (answers_for on h v).1 ≡ false
+answers_uncalled on Free v = refl
+answers_uncalled on (Accepted m) v = refl
+answers_uncalled on Delivered v = refl
+answers_uncalled on Lost v = refl
+answers_uncalled on Dead v = refl
+
+-- what comes to a host and is not a message of its peer changes no history
+answered_histories : (link : ℕ) (h : HostNote) (v : World) (p : Both) → watched This (told_answer link h) v p ≡ p
+answered_histories link (HostNote.Refused call fault) v p = refl
+answered_histories link (HostNote.Done call) v p = refl
+answered_histories link (HostNote.Took peer pair bytes text) v p = refl
+answered_histories link (HostNote.State peer pair r) v p = refl
+answered_histories link (HostNote.Phase peer flags) v p = refl
+answered_histories link (HostNote.Echoed peer byte) v p = refl
+answered_histories link (HostNote.Errors peer errors) v p = refl
+answered_histories link (HostNote.Counts peer counts) v p = refl
+answered_histories link (HostNote.Waiting peer place command) v p = refl
+answered_histories link (HostNote.Kept peer link' message) v p = refl
+answered_histories link (HostNote.Ignored ignored) v p = refl
+answered_histories link (HostNote.Out message) v p = refl
+answered_histories link HostNote.Nothing v p = refl
+answered_histories link (HostNote.In message received) v p = refl
+answered_histories link (HostNote.Answered peer on how received) v p = refl
+
+-- of the other side
+watched_turned : (o : Option Told) (v : World) (p : Both) → turn (watched This o (swap v) (turn p)) ≡ watched That o v p
+watched_turned None v p = refl
+watched_turned (Some t) v p = refl
+
+-- ---- what is known of both hosts, of what is judged and of what is followed; of what it is enough to know that each event keeps it
+
+module _ (Kept : Hosts → Umpire → Type 0) (known_of : (w : Hosts) (u : Umpire) → Kept w u → Known w u) (unfull_of : (w : Hosts) (u : Umpire) → Kept w u → u.full ≡ false) (room_of : (w : Hosts) (u : Umpire) → Kept w u → u.books.full ≡ false)
+    (turn_kept : (w : Hosts) (u : Umpire) → Kept w u → Kept (turned w) u) (each_kept : Steps never Kept)
+    (Cover : SeenBooks → Tables → Type 0) (is_covered : (b : SeenBooks) (t : Tables) → Cover b t → IsCovered b t)
+    (each_cover : (event : Event) (note : Note) (w : Hosts) (u : Umpire) → Noted event note w → Known w u → u.full ≡ false → u.books.full ≡ false
+    → (after_file u (passes_between event note w)).full ≡ false → (after_file u (passes_between event note w)).books.full ≡ false → (number : ℕ) (f : Follower) → Beside w.number_a w.number_b u f → Cover u.books f.tables
+    → Cover (after_file u (passes_between event note w)).books (followed_from number (passes_between event note w) f).tables) where
+  pub record Holds (w : Hosts) (p : Both) (u : Umpire) (f : Follower) : Type 0 where
+    pub kept : Kept w u
+    pub beside : Beside w.number_a w.number_b u f
+    pub covered : Cover u.books f.tables
+    pub placed : Placed f.tables
+    pub opened : has_place_told f.tables.told ≡ true → AllOpened f.tables.lives
+    pub here : has_place_told f.tables.told ≡ true → AtHost w.number_a w.number_b (had_for w.number_b w.a) p.this f.tables
+    pub there : has_place_told f.tables.told ≡ true → AtHost w.number_b w.number_a (had_for w.number_a w.b) p.that f.tables
+
+  turn_holds : (w : Hosts) (p : Both) (u : Umpire) (f : Follower) → Holds w p u f → Holds (turned w) (turn p) u f
+  turn_holds w p u f h = record {
+    kept = turn_kept w u h.kept;
+    beside = turn_beside w.number_a w.number_b u f h.beside;
+    covered = h.covered;
+    placed = h.placed;
+    opened = h.opened;
+    here = h.there;
+    there = h.here;
+  }
+
+  module _ (w : Hosts) (p : Both) (u : Umpire) (number : ℕ) (f : Follower) (h : Holds w p u f) where
+    abbrev Keeps : Event → Note → Type 0
+    Keeps event note = Holds (hosts_after_note note w) (histories_then note w p) (after_file u (passes_between event note w)) (followed_from number (passes_between event note w) f)
+
+    abbrev a : ℕ
+    a = w.number_a
+
+    abbrev b : ℕ
+    b = w.number_b
+
+    abbrev st : PeerState
+    st = had_for w.number_b w.a
+
+    abbrev far : PeerState
+    far = had_for w.number_a w.b
+
+    known : Known w u
+    known = known_of w u h.kept
+
+    unfull : u.full ≡ false
+    unfull = unfull_of w u h.kept
+
+    room : u.books.full ≡ false
+    room = room_of w u h.kept
+
+    b_a : (w.number_b == w.number_a) ≡ false
+    b_a = Both.b_a w u known.0
+
+    a_b : (w.number_a == w.number_b) ≡ false
+    a_b = Both.a_b w u known.0
+
+    sound : (q : Pair) → SoundAt q (get st.peer.ends q)
+    sound = (Both.is_ready w u known.0).fine.good.sound
+
+    -- with what is told of each host
+    module _ (event : Event) (note : Note) (n : Noted event note w) where
+      abbrev file : List (ℕ × Way × List Bool)
+      file = passes_between event note w
+
+      abbrev u_now : Umpire
+      u_now = after_file u file
+
+      abbrev f_now : Follower
+      f_now = followed_from number file f
+
+      next_kept : Kept (hosts_after_note note w) u_now
+      next_kept = (each_kept event note w u n h.kept).1
+
+      unfull_now : u_now.full ≡ false
+      unfull_now = unfull_of (hosts_after_note note w) u_now next_kept
+
+      room_now : u_now.books.full ≡ false
+      room_now = room_of (hosts_after_note note w) u_now next_kept
+
+      keeps : FileKeeps f.tables f_now.tables
+      keeps = file_keeps number file f h.placed
+
+      told_before : has_place_told f_now.tables.told ≡ true → has_place_told f.tables.told ≡ true
+      told_before e = fewer_told (length f.tables.told) (length f_now.tables.told) keeps.more e
+
+      event_holds : (hosts_after_note note w).number_a ≡ w.number_a → (hosts_after_note note w).number_b ≡ w.number_b
+          → (has_place_told f_now.tables.told ≡ true → AtHost (hosts_after_note note w).number_a (hosts_after_note note w).number_b (had_for (hosts_after_note note w).number_b (hosts_after_note note w).a) (histories_then note w p).this f_now.tables)
+          → (has_place_told f_now.tables.told ≡ true → AtHost (hosts_after_note note w).number_b (hosts_after_note note w).number_a (had_for (hosts_after_note note w).number_a (hosts_after_note note w).b) (histories_then note w p).that f_now.tables)
+          → Keeps event note
+      event_holds one other here there = record {
+        kept = next_kept;
+        beside =
+            subst (λ (x : ℕ). Beside x (hosts_after_note note w).number_b u_now f_now) (sym one)
+            (subst (λ (x : ℕ). Beside w.number_a x u_now f_now) (sym other) (each_beside event note w u n known unfull room unfull_now room_now number f h.beside));
+        covered = each_cover event note w u n known unfull room unfull_now room_now number f h.beside h.covered;
+        placed = keeps.placed;
+        opened = λ e. keeps.opened e (h.opened (told_before e));
+        here = here;
+        there = there;
+      }
+
+    -- ---- a call
+
+    call_here : (call : Call) (x : HostNote) → Noted (Event.Call A call) (Note.Called A x) w → AtHost a b st p.this f.tables → AtHost a b (had_for b (after_note x w.a)) (histories_then (Note.Called A x) w p).this f.tables
+    call_here call x n at = go (told_call x) refl did
+      where
+        next : Hosts
+        next = hosts_after_note (Note.Called A x) w
+
+        did : DoesOn This (told_call x) (seen w) (seen next)
+        did = event-does w known.0.joined.stand known.0.joined.model.0 known.0.joined.model.1 (Event.Call A call) (Note.Called A x) n
+
+        tells : up st.peer.phase ≡ true → Tells a b st.peer.ends st.peer.echoes.awaited st.peer.phase.waiting u.books
+        tells is_up = (known.1.talks_a.spoken unfull room b st (Both.there w u known.0)).tells (known.1.parley unfull room).awake_h.rests is_up
+
+        nay : (t : Told) (s : Told) → is_called t ≡ true → is_called s ≡ false → s ≡ t → ⊥
+        nay t s c d e = let no : false ≡ true = sym d ∙ ap is_called e ∙ c in cc no
+
+        by : (st' : WorldStep) (t : Told) → moves st' (seen w) ≡ (seen next, t) → is_called t ≡ true → AtHost a b (seen next).this (histories_after_told t (seen w) p).this f.tables
+        by (Call_is_made asked) t is c =
+            subst (λ (d : World × Told). AtHost a b d.0.this (histories_after_told d.1 (seen w) p).this f.tables) is
+            (called_told a b st p.this f.tables st.peer.echoes.awaited st.peer.phase.waiting u.books asked tells h.beside.this.same h.placed sound at)
+        by Goes_out t is c = absurd (nay t (moves Goes_out (seen w)).1 c (goes_uncalled (next_of b st) (seen w)) (ap (λ (d : World × Told). d.1) is))
+        by (Is_delivered on) t is c = absurd (nay t (moves (Is_delivered on) (seen w)).1 c (delivers_uncalled on ((seen w).going on) (seen w)) (ap (λ (d : World × Told). d.1) is))
+        by (Is_lost on) t is c = absurd (nay t (moves (Is_lost on) (seen w)).1 c (loses_uncalled on ((seen w).going on) (seen w)) (ap (λ (d : World × Told). d.1) is))
+        by (Finds_dead on) t is c = absurd (nay t (moves (Finds_dead on) (seen w)).1 c (dies_uncalled on ((seen w).going on) (seen w)) (ap (λ (d : World × Told). d.1) is))
+        by (Is_answered on) t is c = absurd (nay t (moves (Is_answered on) (seen w)).1 c (answers_uncalled on ((seen w).going on) (seen w)) (ap (λ (d : World × Told). d.1) is))
+
+        go : (o : Option Told) → told_call x ≡ o → DoesOn This o (seen w) (seen next) → AtHost a b (seen next).this (watched This o (seen w) p).this f.tables
+        go None e d = subst (λ (y : World). AtHost a b y.this p.this f.tables) (sym d) at
+        go (Some t) e (st', ok, is) = by st' t is (told_called x t e)
+
+    -- of the other nothing is noted
+    call_there : (x : HostNote) → (histories_then (Note.Called A x) w p).that ≡ p.that
+    call_there x = go (told_call x) refl
+      where
+        one : (t : Told) → is_called t ≡ true → (histories_after_told t (seen w) p).that ≡ p.that
+        one (Called asked reply) c = refl
+        one (Told.Out m) c = absurd (cc c)
+        one (Told.In on m r) c = absurd (cc c)
+        one (Told.Went_lost on) c = absurd (cc c)
+        one (Told.Went_dead on) c = absurd (cc c)
+        one (Told.Answered on how r) c = absurd (cc c)
+        one Told.Nothing c = absurd (cc c)
+
+        go : (o : Option Told) → told_call x ≡ o → (watched This o (seen w) p).that ≡ p.that
+        go None e = refl
+        go (Some t) e = one t (told_called x t e)
+
+    call_a : (call : Call) (note : Note) → IsCalled A call note w → Keeps (Event.Call A call) note
+    call_a call note n =
+        subst (Keeps (Event.Call A call)) (sym n.said)
+        (event_holds (Event.Call A call) (Note.Called A n.of_host) noted refl refl (λ e. call_here call n.of_host noted (h.here e))
+        (λ e. subst (λ (q : Pasts). AtHost b a far q f.tables) (sym (call_there n.of_host)) (h.there e)))
+      where
+        noted : Noted (Event.Call A call) (Note.Called A n.of_host) w
+        noted = record { of_host = n.of_host; said = refl; noted = n.noted; fits = n.fits }
+
+    -- ---- a message goes out
+
+    out_a : Keeps (Event.Out A) (note_of_out A w)
+    out_a = go (next_output w.a) refl
+      where
+        go : (o : Option (List Bool)) → next_output w.a ≡ o → Keeps (Event.Out A) (Note.Out A (note_of_message (next_output w.a)))
+        go None q = subst (λ (o : Option (List Bool)). Keeps (Event.Out A) (Note.Out A (note_of_message o))) (sym q) h
+        go (Some m) q = subst (λ (o : Option (List Bool)). Keeps (Event.Out A) (Note.Out A (note_of_message o))) (sym q) (event_holds (Event.Out A) note n refl refl here there)
+          where
+            note : Note
+            note = Note.Out A (HostNote.Out m)
+
+            n : Noted (Event.Out A) (Note.Out A (HostNote.Out m)) w
+            n = ap (λ (o : Option (List Bool)). Note.Out A (note_of_message o)) (sym q)
+
+            unfound : record_findings u ToImp a m ≡ []
+            unfound = none_found (record_findings u ToImp a m) (each_kept (Event.Out A) note w u n h.kept).0
+
+            here : has_place_told (follower_after_record number true a m f).tables.told ≡ true → AtHost a b (had_for b (hosts_after_note (Note.Out A (HostNote.Out m)) w).a) p.this (follower_after_record number true a m f).tables
+            here e =
+                let before = told_before (Event.Out A) note n e in
+                goes_told w u known unfull room number f h.beside h.placed (h.opened before) (is_covered u.books f.tables h.covered) m q (unfull_now (Event.Out A) note n) (room_now (Event.Out A) note n) unfound p.this (h.here before)
+
+            there : has_place_told (follower_after_record number true a m f).tables.told ≡ true → AtHost b a far p.that (follower_after_record number true a m f).tables
+            there e = at_away a b a far p.that f.tables (follower_after_record number true a m f).tables b_a (record_away number true a m f h.placed) (h.there (told_before (Event.Out A) note n e))
+
+    -- ---- it comes
+
+    -- with this in the subnet
+    abbrev come_file : OnLink → List (ℕ × Way × List Bool)
+    come_file x = comes_to w.number_b (arriving w.number_a x)
+
+    abbrev Came : ℕ → OnLink → Type 0
+    Came link x = Holds (hosts_after_note (note_of_coming A link (arriving w.number_a x) w) w) (histories_then (note_of_coming A link (arriving w.number_a x) w) w p) (after_file u (come_file x)) (followed_from number (come_file x) f)
+
+    came_a : (link : ℕ) (m : List Bool) → transit_of A link w ≡ Accepted m → Came link (Accepted m)
+    came_a link m q =
+        subst (λ (x : OnLink). Holds (hosts_after_note note w) (histories_then note w p) (after_file u (come_file x)) (followed_from number (come_file x) f)) q
+        (event_holds event note n refl refl (subst Here (sym q) here) (subst There (sym q) there))
+      where
+        bits : List Bool
+        bits = from_host w.number_a m
+
+        event : Event
+        event = Event.Deliver A link
+
+        note : Note
+        note = Note.Came A link (note_of_bits (from_host w.number_a m) w.b)
+
+        n : Noted (Event.Deliver A link) (Note.Came A link (note_of_bits (from_host w.number_a m) w.b)) w
+        n = sym (ap (λ (x : OnLink). note_of_coming A link (arriving w.number_a x) w) q)
+
+        now : Tables
+        now = (follower_after_record number false w.number_b (from_host w.number_a m) f).tables
+
+        r : Written w link m
+        r = written w link m known.0.joined q
+
+        led : leader_in (from_host w.number_a m) ≡ Ok (leader_to w.number_a link)
+        led = comes_led w link m known.0.joined r
+
+        Here : OnLink → Type 0
+        Here x = has_place_told (followed_from number (come_file x) f).tables.told ≡ true → AtHost a b st (histories_then (Note.Came A link (note_of_bits (from_host w.number_a m) w.b)) w p).this (followed_from number (come_file x) f).tables
+
+        There : OnLink → Type 0
+        There x =
+            has_place_told (followed_from number (come_file x) f).tables.told ≡ true
+            → AtHost b a (had_for a (after_note (note_of_bits (from_host w.number_a m) w.b) w.b)) (histories_then (Note.Came A link (note_of_bits (from_host w.number_a m) w.b)) w p).that (followed_from number (come_file x) f).tables
+
+        said : histories_then (Note.Came A link (note_of_bits (from_host w.number_a m) w.b)) w p ≡ record p { that = pasts_after_message link (from_host w.number_a m) (message_in (from_host w.number_a m)) far p.that }
+        said = ap (λ (x : HostNote). watched This (told_in link x) (seen w) p) (noted-message w.b (from_host w.number_a m) (leader_to w.number_a link) led refl)
+
+        before : has_place_told now.told ≡ true → has_place_told f.tables.told ≡ true
+        before e = fewer_told (length f.tables.told) (length now.told) (record_away number false w.number_b (from_host w.number_a m) f h.placed).more e
+
+        room_then : (after_record u FromImp w.number_b (from_host w.number_a m)).books.full ≡ false
+        room_then = subst (λ (x : OnLink). (after_file u (come_file x)).books.full ≡ false) q (room_now (Event.Deliver A link) note n)
+
+        unfound : record_findings u FromImp w.number_b (from_host w.number_a m) ≡ []
+        unfound =
+            none_found (record_findings u FromImp w.number_b (from_host w.number_a m))
+            (subst (λ (x : OnLink). Pass never (findings_in u (come_file x))) q (each_kept (Event.Deliver A link) note w u n h.kept).0)
+
+        here : Here (Accepted m)
+        here e =
+            subst (λ (x : Both). AtHost a b st x.this now) (sym said)
+            (at_away b a b st p.this f.tables now a_b (record_away number false w.number_b (from_host w.number_a m) f h.placed) (h.here (before e)))
+
+        there : There (Accepted m)
+        there e =
+            subst (λ (x : Both). AtHost b a (had_for a (after_note (note_of_bits (from_host w.number_a m) w.b) w.b)) x.that now) (sym said)
+            (subst (λ (x : PeerState). AtHost b a x (pasts_after_message link (from_host w.number_a m) (message_in (from_host w.number_a m)) far p.that) now) (sym (came_to w link (from_host w.number_a m) known.0.joined led))
+            (comes_told (turned w) u (turn_known w u known) unfull room number f (turn_beside w.number_a w.number_b u f h.beside) h.placed (h.opened (before e)) (is_covered u.books f.tables h.covered) link m q room_then unfound p.that (h.there (before e))))
+
+    deliver_a : (link : ℕ) → Keeps (Event.Deliver A link) (note_of_delivery A link w)
+    deliver_a link = go (transit_of A link w) refl
+      where
+        go : (x : OnLink) → transit_of A link w ≡ x → Came link (transit_of A link w)
+        go Free q = subst (Came link) (sym q) h
+        go Delivered q = subst (Came link) (sym q) h
+        go Lost q = subst (Came link) (sym q) h
+        go Dead q = subst (Came link) (sym q) h
+        go (Accepted m) q = subst (Came link) (sym q) (came_a link m q)
+
+    -- ---- it is lost, or its destination is dead
+
+    lose_a : (link : ℕ) → Keeps (Event.Lose A link) (note_of_loss A link w)
+    lose_a link = go (is_accepted (transit_of A link w)) refl
+      where
+        go : (x : Bool) → is_accepted (transit_of A link w) ≡ x → Keeps (Event.Lose A link) (if is_accepted (transit_of A link w) then Note.Lost A link else Note.Nothing A link Move.Lose)
+        go true q =
+            subst (λ (x : Bool). Keeps (Event.Lose A link) (if x then Note.Lost A link else Note.Nothing A link Move.Lose)) (sym q)
+            (event_holds (Event.Lose A link) (Note.Lost A link) (sym (ap (λ (x : Bool). if x then Note.Lost A link else Note.Nothing A link Move.Lose) q)) refl refl h.here h.there)
+        go false q = subst (λ (x : Bool). Keeps (Event.Lose A link) (if x then Note.Lost A link else Note.Nothing A link Move.Lose)) (sym q) h
+
+    die_a : (link : ℕ) → Keeps (Event.Dead A link) (note_of_death A link w)
+    die_a link = go (is_accepted (transit_of A link w)) refl
+      where
+        go : (x : Bool) → is_accepted (transit_of A link w) ≡ x → Keeps (Event.Dead A link) (if is_accepted (transit_of A link w) then Note.FoundDead A link else Note.Nothing A link Move.Dead)
+        go true q =
+            subst (λ (x : Bool). Keeps (Event.Dead A link) (if x then Note.FoundDead A link else Note.Nothing A link Move.Dead)) (sym q)
+            (event_holds (Event.Dead A link) (Note.FoundDead A link) (sym (ap (λ (x : Bool). if x then Note.FoundDead A link else Note.Nothing A link Move.Dead) q)) refl refl h.here h.there)
+        go false q = subst (λ (x : Bool). Keeps (Event.Dead A link) (if x then Note.FoundDead A link else Note.Nothing A link Move.Dead)) (sym q) h
+
+    -- ---- it is answered
+
+    abbrev answer_file : ℕ → Option ℕ → List (ℕ × Way × List Bool)
+    answer_file link o = comes_to w.number_a (answering w.number_b link o)
+
+    abbrev Told_so : ℕ → Option ℕ → Type 0
+    Told_so link o =
+        Holds (hosts_after_note (note_of_answering A link (answering w.number_b link o) w) w) (histories_then (note_of_answering A link (answering w.number_b link o) w) w p) (after_file u (answer_file link o)) (followed_from number (answer_file link o) f)
+
+    told_a : (link kind : ℕ) → answer_kind (transit_of A link w) ≡ Some kind → Told_so link (Some kind)
+    told_a link kind q =
+        subst (λ (o : Option ℕ). Holds (hosts_after_note note w) (histories_then note w p) (after_file u (answer_file link o)) (followed_from number (answer_file link o) f)) q
+        (event_holds (Event.Answer A link) note n refl refl (subst Here (sym q) here) (subst There (sym q) there))
+      where
+        note : Note
+        note = Note.Answered A link (note_of_bits (answer_bits kind w.number_b link) w.a)
+
+        n : Noted (Event.Answer A link) (Note.Answered A link (note_of_bits (answer_bits kind w.number_b link) w.a)) w
+        n = sym (ap (λ (o : Option ℕ). note_of_answering A link (answering w.number_b link o) w) q)
+
+        l : AnswerLed w link kind
+        l = answer_leads w link kind known.0.joined q
+
+        now : Tables
+        now = (follower_after_record number false w.number_a (answer_bits kind w.number_b link) f).tables
+
+        same : now ≡ f.tables
+        same = tables_answered number w.number_a (answer_leader kind w.number_b link) (answer_bits kind w.number_b link) f l.led b_a l.not_regular l.is_one
+
+        said : histories_then (Note.Answered A link (note_of_bits (answer_bits kind w.number_b link) w.a)) w p ≡ p
+        said = answered_histories link (note_of_bits (answer_bits kind w.number_b link) w.a) (seen w) p
+
+        state : had_for b (after_note (note_of_bits (answer_bits kind w.number_b link) w.a) w.a) ≡ answer_comes link (answer_of kind) st
+        state =
+            ap (λ (x : HostNote). had_for b (after_note x w.a)) (noted-answer w.a (answer_bits kind w.number_b link) (answer_leader kind w.number_b link) known.0.joined.stand.a l.led l.is_one)
+            ∙ had-changed b (answer_comes link (answer_of kind)) w.a known.0.joined.stand.a
+
+        Here : Option ℕ → Type 0
+        Here o =
+            has_place_told (followed_from number (answer_file link o) f).tables.told ≡ true
+            → AtHost a b (had_for b (after_note (note_of_bits (answer_bits kind w.number_b link) w.a) w.a)) (histories_then (Note.Answered A link (note_of_bits (answer_bits kind w.number_b link) w.a)) w p).this (followed_from number (answer_file link o) f).tables
+
+        There : Option ℕ → Type 0
+        There o =
+            has_place_told (followed_from number (answer_file link o) f).tables.told ≡ true
+            → AtHost b a far (histories_then (Note.Answered A link (note_of_bits (answer_bits kind w.number_b link) w.a)) w p).that (followed_from number (answer_file link o) f).tables
+
+        still : AtHost a b st p.this f.tables → AtHost a b (answer_comes link (answer_of kind) st) p.this f.tables
+        still at =
+            still_told a b st (answer_comes link (answer_of kind) st) p.this p.this f.tables f.tables (λ q. []) (λ q. false) (λ q. told_lives st p.this sound q link (answer_of kind)) (λ q x y. refl)
+            (λ q x y. let begins : false ≡ true = (told_lives st p.this sound q link (answer_of kind)).begins x y in absurd (cc begins)) at
+
+        here : Here (Some kind)
+        here e =
+            subst (λ (x : Both). AtHost a b (had_for b (after_note (note_of_bits (answer_bits kind w.number_b link) w.a) w.a)) x.this now) (sym said)
+            (subst (λ (x : Tables). AtHost a b (had_for b (after_note (note_of_bits (answer_bits kind w.number_b link) w.a) w.a)) p.this x) (sym same)
+            (subst (λ (x : PeerState). AtHost a b x p.this f.tables) (sym state) (still (h.here (sym (ap (λ (x : Tables). has_place_told x.told) same) ∙ e)))))
+
+        there : There (Some kind)
+        there e =
+            subst (λ (x : Both). AtHost b a far x.that now) (sym said)
+            (subst (λ (x : Tables). AtHost b a far p.that x) (sym same) (h.there (sym (ap (λ (x : Tables). has_place_told x.told) same) ∙ e)))
+
+    answer_a : (link : ℕ) → Keeps (Event.Answer A link) (note_of_answer A link w)
+    answer_a link = go (answer_kind (transit_of A link w)) refl
+      where
+        go : (o : Option ℕ) → answer_kind (transit_of A link w) ≡ o → Told_so link (answer_kind (transit_of A link w))
+        go None q = subst (Told_so link) (sym q) h
+        go (Some kind) q = subst (Told_so link) (sym q) (told_a link kind q)
+
+  -- ---- of both sides
+
+  module _ (w : Hosts) (p : Both) (u : Umpire) (number : ℕ) (f : Follower) (h : Holds w p u f) where
+    t : Holds (turned w) (turn p) u f
+    t = turn_holds w p u f h
+
+    -- what is so of the hosts with their sides turned
+    abbrev After : List (ℕ × Way × List Bool) → Hosts → Both → Type 0
+    After file x q = Holds x q (after_file u file) (followed_from number file f)
+
+    turned_after : (file : List (ℕ × Way × List Bool)) (note note' : Note) → After file (hosts_after_note note' (turned w)) (histories_then note' (turned w) (turn p)) → turned (hosts_after_note note' (turned w)) ≡ hosts_after_note note w → turn (histories_then note' (turned w) (turn p)) ≡ histories_then note w p
+        → After file (hosts_after_note note w) (histories_then note w p)
+    turned_after file note note' k e g =
+        subst (λ (x : Hosts). After file x (histories_then note w p)) e
+        (subst (λ (q : Both). After file (turned (hosts_after_note note' (turned w))) q) g
+        (turn_holds (hosts_after_note note' (turned w)) (histories_then note' (turned w) (turn p)) (after_file u file) (followed_from number file f) k))
+
+    call_b : (call : Call) (note : Note) → IsCalled B call note w → After [] (hosts_after_note note w) (histories_then note w p)
+    call_b call note n =
+        subst (λ (x : Note). After [] (hosts_after_note x w) (histories_then x w p)) (sym n.said)
+        (turned_after [] (Note.Called B n.of_host) (Note.Called A n.of_host)
+        (call_a (turned w) (turn p) u number f t call (Note.Called A n.of_host) (record { of_host = n.of_host; said = refl; noted = n.noted; fits = n.fits })) refl (watched_turned (told_call n.of_host) (seen w) p))
+
+    came_b : (link : ℕ) (o : Option (List Bool)) (file : List (ℕ × Way × List Bool))
+        → After file (hosts_after_note (note_of_coming A link o (turned w)) (turned w)) (histories_then (note_of_coming A link o (turned w)) (turned w) (turn p)) → After file (hosts_after_note (note_of_coming B link o w) w) (histories_then (note_of_coming B link o w) w p)
+    came_b link None file k = turned_after file (note_of_coming B link None w) (note_of_coming A link None (turned w)) k refl refl
+    came_b link (Some bits) file k = turned_after file (note_of_coming B link (Some bits) w) (note_of_coming A link (Some bits) (turned w)) k refl (watched_turned (told_in link (note_of_bits bits w.a)) (seen w) p)
+
+    told_b : (link : ℕ) (o : Option (List Bool)) (file : List (ℕ × Way × List Bool))
+        → After file (hosts_after_note (note_of_answering A link o (turned w)) (turned w)) (histories_then (note_of_answering A link o (turned w)) (turned w) (turn p)) → After file (hosts_after_note (note_of_answering B link o w) w) (histories_then (note_of_answering B link o w) w p)
+    told_b link None file k = turned_after file (note_of_answering B link None w) (note_of_answering A link None (turned w)) k refl refl
+    told_b link (Some bits) file k = turned_after file (note_of_answering B link (Some bits) w) (note_of_answering A link (Some bits) (turned w)) k refl (watched_turned (told_answer link (note_of_bits bits w.b)) (seen w) p)
+
+    lost_b : (link : ℕ) (x : Bool) → After [] (hosts_after_note (if x then Note.Lost A link else Note.Nothing A link Move.Lose) (turned w)) (histories_then (if x then Note.Lost A link else Note.Nothing A link Move.Lose) (turned w) (turn p))
+        → After [] (hosts_after_note (if x then Note.Lost B link else Note.Nothing B link Move.Lose) w) (histories_then (if x then Note.Lost B link else Note.Nothing B link Move.Lose) w p)
+    lost_b link true k = turned_after [] (Note.Lost B link) (Note.Lost A link) k refl refl
+    lost_b link false k = turned_after [] (Note.Nothing B link Move.Lose) (Note.Nothing A link Move.Lose) k refl refl
+
+    dead_b : (link : ℕ) (x : Bool) → After [] (hosts_after_note (if x then Note.FoundDead A link else Note.Nothing A link Move.Dead) (turned w)) (histories_then (if x then Note.FoundDead A link else Note.Nothing A link Move.Dead) (turned w) (turn p))
+        → After [] (hosts_after_note (if x then Note.FoundDead B link else Note.Nothing B link Move.Dead) w) (histories_then (if x then Note.FoundDead B link else Note.Nothing B link Move.Dead) w p)
+    dead_b link true k = turned_after [] (Note.FoundDead B link) (Note.FoundDead A link) k refl refl
+    dead_b link false k = turned_after [] (Note.Nothing B link Move.Dead) (Note.Nothing A link Move.Dead) k refl refl
+
+    each_side : (event : Event) (note : Note) → Noted event note w → After (passes_between event note w) (hosts_after_note note w) (histories_then note w p)
+    each_side (Event.Call A call) note n = call_a w p u number f h call note n
+    each_side (Event.Call B call) note n = call_b call note n
+    each_side (Event.Out A) note n = subst (λ (x : Note). After (passes_between (Event.Out A) x w) (hosts_after_note x w) (histories_then x w p)) (sym n) (out_a w p u number f h)
+    each_side (Event.Out B) note n =
+        subst (λ (x : Note). After (passes_between (Event.Out B) x w) (hosts_after_note x w) (histories_then x w p)) (sym n)
+        (turned_after (passes_between (Event.Out B) (note_of_out B w) w) (note_of_out B w) (note_of_out A (turned w)) (out_a (turned w) (turn p) u number f t) refl refl)
+    each_side (Event.Deliver A link) note n = subst (λ (x : Note). After (passes_between (Event.Deliver A link) x w) (hosts_after_note x w) (histories_then x w p)) (sym n) (deliver_a w p u number f h link)
+    each_side (Event.Deliver B link) note n =
+        subst (λ (x : Note). After (passes_between (Event.Deliver B link) x w) (hosts_after_note x w) (histories_then x w p)) (sym n)
+        (came_b link (arriving w.number_b (transit_of B link w)) (comes_to w.number_a (arriving w.number_b (transit_of B link w))) (deliver_a (turned w) (turn p) u number f t link))
+    each_side (Event.Lose A link) note n = subst (λ (x : Note). After (passes_between (Event.Lose A link) x w) (hosts_after_note x w) (histories_then x w p)) (sym n) (lose_a w p u number f h link)
+    each_side (Event.Lose B link) note n =
+        subst (λ (x : Note). After (passes_between (Event.Lose B link) x w) (hosts_after_note x w) (histories_then x w p)) (sym n) (lost_b link (is_accepted (transit_of B link w)) (lose_a (turned w) (turn p) u number f t link))
+    each_side (Event.Dead A link) note n = subst (λ (x : Note). After (passes_between (Event.Dead A link) x w) (hosts_after_note x w) (histories_then x w p)) (sym n) (die_a w p u number f h link)
+    each_side (Event.Dead B link) note n =
+        subst (λ (x : Note). After (passes_between (Event.Dead B link) x w) (hosts_after_note x w) (histories_then x w p)) (sym n) (dead_b link (is_accepted (transit_of B link w)) (die_a (turned w) (turn p) u number f t link))
+    each_side (Event.Answer A link) note n = subst (λ (x : Note). After (passes_between (Event.Answer A link) x w) (hosts_after_note x w) (histories_then x w p)) (sym n) (answer_a w p u number f h link)
+    each_side (Event.Answer B link) note n =
+        subst (λ (x : Note). After (passes_between (Event.Answer B link) x w) (hosts_after_note x w) (histories_then x w p)) (sym n)
+        (told_b link (answer_about w.number_a link (transit_of B link w)) (comes_to w.number_b (answer_about w.number_a link (transit_of B link w))) (answer_a (turned w) (turn p) u number f t link))
+
+  pub each_told : EachEvent Holds
+  each_told event note w p u number f n h = each_side w p u number f h event note n
+
+  -- so what is told at both is as the law says
+  pub told_at : (w : Hosts) (p : Both) (u : Umpire) (f : Follower) → Holds w p u f → has_place_told f.tables.told ≡ true → ToldAt w p f
+  told_at w p u f h e = record {
+    here = h.here e;
+    there = h.there e;
+    sound_here = sound w p u 0 f h;
+    sound_there = sound (turned w) (turn p) u 0 f (turn_holds w p u f h);
+  }

@@ -1,0 +1,113 @@
+-- Where one of two hosts is up, what stands at the interfaces of both, with what is on its way there, is little: each connection
+-- that it sees has an end there, or a CLS of it waits; and what the other sees it sees too, but for what is on its way.
+use Rattle.std.proofs.Common.{◌≡◌, ℕ, suc, ◌+◌, ◌*◌, ◌≤◌, Bool, true, false, not, ◌||◌, if◌then◌else◌, List, [], ◌∷◌, length, is_some, refl, sym, ap, ◌∙◌, subst, arith}
+use Rattle.std.specs.List.{filter}
+use Rattle.std.specs.FinMap.{entries}
+use Rattle.ncp_terms.specs.declared.command.Command.{Command}
+use Rattle.ncp_model.specs.declared.limits.TheConstants.{MAX_WAITING}
+use Rattle.ncp_model.specs.Peers.{Peer}
+use Rattle.ncp_model.specs.Phase.{up, is_rst, is_rrp, is_other}
+use Rattle.ncp_model.proofs.ResetLists.{bit}
+use Rattle.ncp_transcript_two.specs.Between.{Hosts}
+use Rattle.ncp_transcript_two.specs.Seen.{seen, had_for}
+use Rattle.ncp_transcript_two.proofs.Waiting.{few-wait}
+use Rattle.ncp_umpire.specs.declared.umpire.Umpire.{Umpire}
+use Rattle.ncp_umpire.specs.declared.view.View.{View}
+use Rattle.ncp_umpire.specs.Lives.{SeenBooks}
+use Rattle.ncp_umpire.specs.Tables.{view_in}
+use Rattle.ncp_umpire.specs.Views.{awaits_reply}
+use Rattle.ncp_proof_umpire_talk.proofs.Spoken.{Tells}
+use Rattle.ncp_proof_umpire_many.proofs.Both.{there, own_seen}
+use Rattle.ncp_proof_umpire_many.proofs.Counts.{line}
+use Rattle.ncp_proof_umpire_whole.proofs.Said.{Said, SaidAlike, unspoken}
+use Rattle.ncp_proof_umpire_whole.proofs.ReadAs.{ReadAs}
+use Rattle.ncp_proof_umpire_whole.proofs.Hears.{hears}
+use Rattle.ncp_proof_umpire_whole.proofs.AbreastSteps.{turn_abreast}
+use Rattle.ncp_proof_umpire_whole.proofs.Floats.{floats}
+use Rattle.ncp_proof_umpire_whole.proofs.Parleys.{ParleyOf, Known}
+use Rattle.ncp_proof_follow.proofs.EndsFew.{few_ends}
+use Rattle.ncp_proof_follow.proofs.FewHeld.{few_seen, few_lives_up, few_lives_there}
+use Rattle.ncp_proof_follow.proofs.Fewer.{lives_at, others_in, Fewer}
+
+hears_length : (waits : Bool) (u : List Command) → length (hears waits u) ≤ length u
+hears_length waits [] = omega arith
+hears_length true (c ∷ u) = let l = hears_length (not (is_rrp c)) u in omega (arith, l)
+hears_length false (c ∷ u) = go (is_rst c) (is_rrp c) (hears_length false u)
+  where
+    go : (a b : Bool) → length (hears false u) ≤ length u → length (if a then [] else if b then hears false u else c ∷ hears false u) ≤ suc (length u)
+    go true b l = omega arith
+    go false true l = omega (arith, l)
+    go false false l = omega (arith, l)
+
+others_length : (u : List Command) → others_in u ≤ length u
+others_length [] = omega arith
+others_length (c ∷ u) = go (is_other c) (others_length u)
+  where
+    go : (b : Bool) → length (filter is_other u) ≤ length u → length (if b then c ∷ filter is_other u else filter is_other u) ≤ suc (length u)
+    go true l = omega (arith, l)
+    go false l = omega (arith, l)
+
+-- one that waits for a reply has seen nothing
+none_seen : (me n : ℕ) (b : SeenBooks) (x : Said) → ReadAs me n b x → SaidAlike x unspoken → lives_at me n b ≤ 0
+none_seen me n b x r e = few_seen me n b [] r.unique (λ u k. let nay : false ≡ true = sym (ap is_some (r.shapes u ∙ e.shapes u)) ∙ k in absurd (cc nay))
+
+pub few_where_up : (w : Hosts) (umpire : Umpire) → Known w umpire → umpire.full ≡ false → umpire.books.full ≡ false → length (line (seen w).this (seen w).going) ≤ 120 → length (line (seen w).that (seen w).coming) ≤ 120
+    → up (had_for w.number_b w.a).peer.phase ≡ true → Fewer w umpire
+few_where_up w umpire k full room going coming is_up = record { going_short = going; coming_short = coming; this = this; that = that (awaits_reply vb.host.wait) refl }
+  where
+    va : View
+    va = view_in umpire.views w.number_a w.number_b
+
+    vb : View
+    vb = view_in umpire.views w.number_b w.number_a
+
+    parley : ParleyOf w umpire (line (seen w).this (seen w).going) (line (seen w).that (seen w).coming) (floats (seen w).this (seen w).going) (floats (seen w).that (seen w).coming)
+    parley = k.1.parley full room
+
+    tells : Tells w.number_a w.number_b (had_for w.number_b w.a).peer.ends (had_for w.number_b w.a).peer.echoes.awaited (had_for w.number_b w.a).peer.phase.waiting umpire.books
+    tells = (k.1.talks_a.spoken full room w.number_b (had_for w.number_b w.a) (there w umpire k.0)).tells parley.awake_h.rests is_up
+
+    few : length (entries (had_for w.number_b w.a).peer.ends) ≤ 128
+    few = subst (λ (p : Peer). length (entries p.ends) ≤ 128) (sym k.0.joined.model.1.this.peer) (few_ends k.0.joined.model.1.reached).0
+
+    waiting : length (had_for w.number_b w.a).peer.phase.waiting ≤ MAX_WAITING
+    waiting = subst (λ (p : Peer). length p.phase.waiting ≤ MAX_WAITING) (sym k.0.joined.model.1.this.peer) (few-wait k.0.joined.model.0 k.0.joined.model.1.reached).0
+
+    lives : lives_at w.number_a w.number_b umpire.books ≤ 640
+    lives =
+        let l = few_lives_up w.number_a w.number_b (had_for w.number_b w.a).peer.ends (had_for w.number_b w.a).peer.phase.waiting umpire.books parley.session.at_h.unique parley.session.at_h.calm tells.meets.tally.pairs in
+        omega (arith, l, few, waiting)
+
+    this : lives_at w.number_a w.number_b umpire.books + 3 * others_in (line (seen w).that (seen w).coming) ≤ 1240
+    this = let l = others_length (line (seen w).that (seen w).coming) in omega (arith, lives, l, coming)
+
+    -- it waits for no reply
+    waits_not : awaits_reply va.host.wait ≡ false
+    waits_not = go (awaits_reply va.host.wait) refl
+      where
+        last : (x d : Bool) → not (x || d) ≡ true → d ≡ false
+        last true d e = absurd (cc e)
+        last false true e = absurd (cc e)
+        last false false e = refl
+
+        go : (b : Bool) → awaits_reply va.host.wait ≡ b → awaits_reply va.host.wait ≡ false
+        go false e = e
+        go true e =
+            let p = (had_for w.number_b w.a).peer.phase in
+            let waits = (own_seen w umpire k.0 full).stands.phased.waits e in
+            let nay : true ≡ false = sym waits ∙ last (p.down || p.want || p.owe) p.wait is_up in absurd (cc nay)
+
+    that : (wk : Bool) → awaits_reply vb.host.wait ≡ wk → lives_at w.number_b w.number_a umpire.books + 3 * others_in (line (seen w).this (seen w).going) ≤ 1240
+    that true e =
+        let none = none_seen w.number_b w.number_a umpire.books parley.session.y parley.session.at_k (parley.session.empty_k e) in
+        let l = others_length (line (seen w).this (seen w).going) in omega (arith, none, l, going)
+    that false e =
+        let ours = parley.session.matched.ours in
+        let theirs = parley.session.matched.theirs in
+        let wh = ap bit waits_not in
+        let wk = ap bit e in
+        let a = parley.session.abreast (omega (arith, ours, wh)) (omega (arith, theirs, wk)) in
+        let l = few_lives_there w.number_b w.number_a umpire.books (turn_abreast a) parley.session.at_k parley.session.at_h in
+        let i = hears_length (awaits_reply va.host.wait) (line (seen w).that (seen w).coming) in
+        let j = hears_length (awaits_reply vb.host.wait) (line (seen w).this (seen w).going) in
+        let o = others_length (line (seen w).this (seen w).going) in omega (arith, l, lives, i, j, o, going, coming)

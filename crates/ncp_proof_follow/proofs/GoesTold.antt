@@ -1,0 +1,313 @@
+-- What goes out of a host, and what is told at its interface behind it: of each end that lives what it was, and of the sender of a
+-- text that with the text.
+use Rattle.std.proofs.Common.{◌≡◌, ◌≤◌, ℕ, ◌+◌, ◌-◌, ◌==◌, Bool, true, false, not, ◌||◌, if◌then◌else◌, List, [], ◌∷◌, ◌++◌, length, map, All, Option, None, Some, is_some, Result, Ok, refl, sym, ap, ◌∙◌, subst, arith}
+use Rattle.std.specs.Prelude.{nat_le}
+use Rattle.std.specs.FinMap.{get, get-empty}
+use Rattle.std.proofs.lemmas.Bool.{eqb-true}
+use Rattle.ncp_numbers.specs.Bytes.{bits_of_bytes}
+use Rattle.ncp_leader.specs.declared.fault.MessageFault.{MessageFault}
+use Rattle.ncp_leader.specs.Leader.{leader_in}
+use Rattle.ncp_leader.specs.Message.{Message, message_in, message_with}
+use Rattle.ncp_terms.specs.declared.command.Command.{Command}
+use Rattle.ncp_terms.specs.declared.fault.CommandFault.{CommandFault}
+use Rattle.ncp_terms.specs.Spelling.{IsCommand, spelling, spellings}
+use Rattle.ncp_control.specs.Texts.{items_of}
+use Rattle.ncp_slot.specs.declared.slot.Slot.{Slot}
+use Rattle.ncp_slot.specs.Slot.{is_empty}
+use Rattle.ncp_slot.specs.Slots.{LinkSlot, slot_at}
+use Rattle.ncp_model.specs.declared.pair.Pair.{Pair}
+use Rattle.ncp_model.specs.declared.limits.TheConstants.{MAX_CONTROL}
+use Rattle.ncp_model.specs.Pairs.{pair_cmp}
+use Rattle.ncp_model.specs.Act.{answer}
+use Rattle.ncp_model.specs.End.{End, is_live}
+use Rattle.ncp_model.specs.Ends.{Ends, cut_in}
+use Rattle.ncp_model.specs.Phase.{up}
+use Rattle.ncp_model.specs.Sending.{fitting, next_commands}
+use Rattle.ncp_model.proofs.ResetLists.{rsts, rsts-append, bit}
+use Rattle.ncp_proof_watch.specs.Sound.{SoundAt}
+use Rattle.ncp_proof_machine.specs.Hosts.{Pasts}
+use Rattle.ncp_host.specs.PeerState.{PeerState}
+use Rattle.ncp_host.specs.Hearing.{is_wrong_link}
+use Rattle.ncp_host.specs.Output.{leader_to, message_to, control_message, text_message, output_by, after_next, after_output}
+use Rattle.ncp_host.specs.Turns.{next_output, after_next_output}
+use Rattle.ncp_transcript_two.specs.Tie.{AreCommands, IsText}
+use Rattle.ncp_transcript_two.specs.Between.{Hosts}
+use Rattle.ncp_transcript_two.specs.Seen.{had_for}
+use Rattle.ncp_transcript_two.proofs.Comings.{small}
+use Rattle.ncp_transcript_two.proofs.OnePeer.{had-sent}
+use Rattle.ncp_transcript_two.proofs.Well.{cut-written}
+use Rattle.ncp_transcript_two.proofs.Written.{read, control_text}
+use Rattle.ncp_umpire.specs.declared.message.Reading.{Reading}
+use Rattle.ncp_umpire.specs.declared.umpire.Umpire.{Umpire}
+use Rattle.ncp_umpire.specs.declared.way.Way.TheVariants.{ToImp}
+use Rattle.ncp_umpire.specs.Lives.{life_in_place}
+use Rattle.ncp_umpire.specs.Messages.{judged_reading}
+use Rattle.ncp_umpire.specs.Tables.{view_in}
+use Rattle.ncp_umpire.specs.Views.{awaits_reply}
+use Rattle.ncp_umpire.specs.Judged.{sees, fresh_out, record_findings, after_record}
+use Rattle.ncp_umpire.proofs.LinkOrder.{about}
+use Rattle.ncp_follow.specs.declared.follower.Follower.{Follower}
+use Rattle.ncp_follow.specs.declared.life.Life.{Life}
+use Rattle.ncp_follow.specs.declared.saying.Reading as followed_kind
+use Rattle.ncp_follow.specs.declared.session.Session.{Session}
+use Rattle.ncp_follow.specs.declared.tables.Tables.{Tables}
+use Rattle.ncp_follow.specs.declared.turn.Turn.{Turn}
+use Rattle.ncp_follow.specs.Lives.{life_at}
+use Rattle.ncp_follow.specs.Sessions.{session_of, is_heard}
+use Rattle.ncp_follow.specs.Slots.{outs_with_message}
+use Rattle.ncp_follow.specs.Tables.{after_text}
+use Rattle.ncp_follow.specs.Followed.{tables_after_all, followed_reading, read_tables, follower_after_said, follower_after_record}
+use Rattle.ncp_proof_umpire.proofs.Laid.{weighs, fitting_all}
+use Rattle.ncp_proof_umpire.proofs.PhaseSeen.{Seen}
+use Rattle.ncp_proof_umpire_seen.proofs.OwnMoves.{all_says}
+use Rattle.ncp_proof_umpire_talk.proofs.Spoken.{Tells}
+use Rattle.ncp_proof_umpire_many.proofs.AsRead.{items, control_of}
+use Rattle.ncp_proof_umpire_many.proofs.Between.{Leaves, leaves}
+use Rattle.ncp_proof_umpire_many.proofs.Both.{control_said}
+use Rattle.ncp_proof_umpire_many.proofs.Both
+use Rattle.ncp_proof_umpire_many.proofs.OwnOut
+use Rattle.ncp_proof_umpire_whole.proofs.Parleys.{Known}
+use Rattle.ncp_proof_follow.proofs.SameReads.{reading_as, reading_is}
+use Rattle.ncp_proof_follow.proofs.SameSessions.{few_room}
+use Rattle.ncp_proof_follow.proofs.SameRecords.{tables_out, heard_out}
+use Rattle.ncp_proof_follow.proofs.OpensSo.{AllOpened}
+use Rattle.ncp_proof_follow.proofs.Placed.{named, text_named, Placed}
+use Rattle.ncp_proof_follow.proofs.PeerLives.{SoundAll}
+use Rattle.ncp_proof_follow.proofs.HostLives.{HostLives, gone_by, out_lives}
+use Rattle.ncp_proof_follow.proofs.HostAsks.{live_heard}
+use Rattle.ncp_proof_follow.proofs.HostMeets.{leaves_in, none_over}
+use Rattle.ncp_proof_follow.proofs.ControlComes.{AtHost, none_lives, still_told}
+use Rattle.ncp_proof_follow.proofs.ControlGoes.{IsSaid, GoneOut, gone_begins, all_go}
+use Rattle.ncp_proof_follow.proofs.TextsGone.{text_goes_told}
+use Rattle.ncp_proof_follow.proofs.BothFollowed.{Beside, roomy, roomy_out, waits, b_a}
+
+-- the commands of a control message are from the front of those that wait
+front : (space : ℕ) (cs : List Command) → (rest : List Command) × (cs ≡ fitting space cs ++ rest)
+front space [] = ([], refl)
+front space (c ∷ cs) = go (nat_le (length (spelling c)) space) (front (space - length (spelling c)) cs)
+  where
+    go : (b : Bool) → (rest : List Command) × (cs ≡ fitting (space - length (spelling c)) cs ++ rest) → (rest : List Command) × ((c ∷ cs) ≡ (if b then c ∷ fitting (space - length (spelling c)) cs else []) ++ rest)
+    go false r = (c ∷ cs, refl)
+    go true r = (r.0, ap (λ (xs : List Command). c ∷ xs) r.1)
+
+items_ok : (cs : List Command) → items_of cs None ≡ map Ok cs
+items_ok [] = refl
+items_ok (c ∷ cs) = ap (λ (xs : List (Result Command CommandFault)). Ok c ∷ xs) (items_ok cs)
+
+-- a host that is up has no RST to say
+none_said : (w : List Command) → rsts w ≡ 0 → IsSaid w Command.Rst → ⊥
+none_said w e (before, after, is) =
+    let parts : rsts w ≡ rsts before + rsts (Command.Rst ∷ after) = ap rsts is ∙ rsts-append before (Command.Rst ∷ after) in
+    let some : 1 ≤ rsts (Command.Rst ∷ after) = omega arith in
+    too_few (rsts w) (rsts before) (rsts (Command.Rst ∷ after)) e parts some
+  where
+    too_few : (x y z : ℕ) → x ≡ 0 → x ≡ y + z → 1 ≤ z → ⊥
+    too_few x y z a b c = omega arith
+
+module _ (w : Hosts) (u : Umpire) (k : Known w u) (unfull : u.full ≡ false) (room : u.books.full ≡ false) (number : ℕ) (f : Follower) (beside : Beside w.number_a w.number_b u f) (placed : Placed f.tables) (all : AllOpened f.tables.lives)
+    (covered : (p : ℕ) → is_some (life_at f.tables.lives p).place ≡ true → ((life_in_place u.books.lives p).messages ≤ (life_at f.tables.lives p).left.messages) × ((life_in_place u.books.lives p).bits ≤ (life_at f.tables.lives p).left.bits))
+    (m : List Bool) (q : next_output w.a ≡ Some m) (full : (after_record u ToImp w.number_a m).full ≡ false) (after_room : (after_record u ToImp w.number_a m).books.full ≡ false) (unfound : record_findings u ToImp w.number_a m ≡ []) (pasts : Pasts) where
+  abbrev a : ℕ
+  a = w.number_a
+
+  abbrev b : ℕ
+  b = w.number_b
+
+  abbrev st : PeerState
+  st = had_for w.number_b w.a
+
+  l : Leaves w m
+  l = leaves w m k.0.joined q
+
+  seen : Seen st (view_in u.views a b)
+  seen = Both.own_seen w u k.0 unfull
+
+  sound : SoundAll st.peer.ends
+  sound = (Both.is_ready w u k.0).fine.good.sound
+
+  rests : (view_in u.views a b).rests ≡ false
+  rests = beside.this.touch.awake.rests
+
+  abbrev now : Tables
+  now = (follower_after_record number true a m f).tables
+
+  abbrev σ : Session
+  σ = session_of false f.sessions a b
+
+  abbrev sent_on : ℕ → Follower
+  sent_on on = record f { outs = outs_with_message f.outs a b on m }
+
+  abbrev saying : Turn
+  saying = record { number = number; at = a; peer = b; sent = true }
+
+  abbrev After : ℕ → Tables → Type 0
+  After on t = AtHost a b st pasts f.tables → AtHost a b (after_output on m st) pasts t
+
+  -- nothing goes out, and of each end that lives the same is told
+  kept_on : (on : ℕ) (t : Tables) → ((p : Pair) → gone_by st pasts sound p (slot_at st.slots on) on ≡ []) → ((p : Pair) → is_live (get st.peer.ends p) ≡ true → text_named (record { at = a; peer = b; pair = p }) t ≡ text_named (record { at = a; peer = b; pair = p }) f.tables) → After on t
+  kept_on on t none stays at =
+      still_told a b st (after_output on m st) pasts pasts f.tables t (λ p. []) (λ p. false) lives (λ p x y. stays p x) (λ p x y. let nay : false ≡ true = (lives p).begins x y in absurd (cc nay)) at
+    where
+      lives : (p : Pair) → HostLives p st (after_output on m st) pasts pasts [] [] [] false
+      lives p = subst (λ (xs : List Bool). HostLives p st (after_output on m st) pasts pasts [] [] xs false) (none p) (out_lives st pasts sound p on m)
+
+  -- a host that is not up has no end
+  down_on : (on : ℕ) (t : Tables) → up st.peer.phase ≡ false → After on t
+  down_on on t d at = none_lives a b (after_output on m st) pasts t (λ p. dead p (is_live (get (after_output on m st).peer.ends p)) refl)
+    where
+      none : (p : Pair) → is_live (get st.peer.ends p) ≡ false
+      none p = ap (λ (x : Ends). is_live (get x p)) (seen.stands.down d) ∙ ap is_live (get-empty pair_cmp p)
+
+      dead : (p : Pair) (x : Bool) → is_live (get (after_output on m st).peer.ends p) ≡ x → is_live (get (after_output on m st).peer.ends p) ≡ false
+      dead p false e = e
+      dead p true e = let nay : false ≡ true = (out_lives st pasts sound p on m).begins (none p) e in absurd (cc nay)
+
+  module _ (on : ℕ) (led : leader_in m ≡ Ok (leader_to b on)) (ready : output_by (slot_at st.slots on) b on st.peer ≡ Some m) where
+    abbrev fresh : Bool
+    fresh = fresh_out (sees u a) a b on m
+
+    is_fresh : fresh ≡ is_empty (slot_at st.slots on)
+    is_fresh =
+        OwnOut.is_fresh_out a b on m (slot_at st.slots on) st.peer u (b_a w u k unfull room number f beside) k.0.joined.stand.fits_a k.0.joined.stand.fits_b k.0.ways.sound.long led ready seen.stands.phased.told seen.stands.phased.known
+        (λ g. (k.0.at_a.watched.follows g).agrees w.number_b st (Both.there w u k.0) on) full
+
+    tables_now : now ≡ (if fresh then (follower_after_said saying (message_in m) (sent_on on)).tables else f.tables)
+    tables_now =
+        tables_out number a b k.0.joined.stand.fits_a k.0.joined.stand.fits_b roomy roomy_out on m u f beside.this (b_a w u k unfull room number f beside) k.0.ways.sound.long seen.stands.phased.known (waits w u k unfull room number f beside) (λ e. few_room a b f.sessions beside.few) led full room
+        after_room unfound
+
+    abbrev Gone : Tables → Type 0
+    Gone t = AtHost a b st pasts f.tables → AtHost a b (after_output on m st) pasts t
+
+    sent_again : (r : List Bool) → slot_at st.slots on ≡ Slot.Ready r → Gone now
+    sent_again r e =
+        subst Gone (sym (tables_now ∙ ap (λ (x : Bool). (if x then (follower_after_said saying (message_in m) (sent_on on)).tables else f.tables)) (is_fresh ∙ ap is_empty e)))
+        (kept_on on f.tables (λ p. ap (λ (x : LinkSlot). gone_by st pasts sound p x on) e) (λ p x. refl))
+
+    -- it is read
+    read_now : (x : Message) → slot_at st.slots on ≡ Slot.Empty → message_in m ≡ Ok x → now ≡ read_tables (followed_reading x) saying x σ f.tables
+    read_now x e reads =
+        tables_now ∙ ap (λ (y : Bool). (if y then (follower_after_said saying (message_in m) (sent_on on)).tables else f.tables)) (is_fresh ∙ ap is_empty e)
+        ∙ ap (λ (r : Result Message MessageFault). (follower_after_said saying r (sent_on on)).tables) reads ∙ ap (λ (p : Bool). read_tables (followed_reading x) saying x (session_of p f.sessions a b) f.tables) beside.this.part
+
+    module _ (u_up : up st.peer.phase ≡ true) where
+      tells : Tells a b st.peer.ends st.peer.echoes.awaited st.peer.phase.waiting u.books
+      tells = (k.1.talks_a.spoken unfull room b st (Both.there w u k.0)).tells rests u_up
+
+      no_resets : rsts st.peer.phase.waiting ≡ 0
+      no_resets = go (awaits_reply (view_in u.views a b).host.wait) refl
+        where
+          zero_of : (x y : ℕ) → x ≤ y → y ≡ 0 → x ≡ 0
+          zero_of x y e g = omega arith
+
+          unwaiting : st.peer.phase.wait ≡ false
+          unwaiting = go_up st.peer.phase.down st.peer.phase.want st.peer.phase.owe st.peer.phase.wait u_up
+            where
+              go_up : (d x o y : Bool) → not (d || x || o || y) ≡ true → y ≡ false
+              go_up false false false false e = refl
+              go_up false false false true e = absurd (cc e)
+              go_up false false true y e = absurd (cc e)
+              go_up false true o y e = absurd (cc e)
+              go_up true x o y e = absurd (cc e)
+
+          go : (x : Bool) → awaits_reply (view_in u.views a b).host.wait ≡ x → rsts st.peer.phase.waiting ≡ 0
+          go true e = seen.stands.phased.none_waits e
+          go false e = zero_of (rsts st.peer.phase.waiting) (bit st.peer.phase.wait) (seen.stands.phased.even e (seen.stands.phased.sure rests)) (ap bit unwaiting)
+
+      over : (p : Pair) (life : Life) → is_live (get st.peer.ends p) ≡ true → named (record { at = a; peer = b; pair = p }) f.tables.lives ≡ Some life → life.peer_left ≡ true → leaves_in (about (p.local, p.remote) (all_says st.peer.phase.waiting)) ≡ true → ⊥
+      over p life live there left waiting = go (get st.peer.ends p) refl live
+        where
+          go : (o : Option End) → get st.peer.ends p ≡ o → is_live o ≡ true → ⊥
+          go None e i = absurd (cc i)
+          go (Some x) e i =
+              none_over a b st.peer.ends st.peer.echoes.awaited st.peer.phase.waiting u.books f.tables tells beside.this.same p x life e (live_heard p x (subst (SoundAt p) e (sound p)) i) there left waiting
+
+      -- commands
+      commands_go : on ≡ 0 → slot_at st.slots on ≡ Slot.Empty → Gone now
+      commands_go z e =
+          subst Gone (sym is)
+          (kept_on on (tables_after_all saying (map Ok cs) σ f.tables) (λ p. ap (λ (x : LinkSlot). gone_by st pasts sound p x on) e ∙ ap (λ (j : ℕ). gone_by st pasts sound p Slot.Empty j) z) (λ p x. gone.texts p x))
+        where
+          cs : List Command
+          cs = next_commands st.peer.phase.waiting
+
+          ready_at : control_message b cs ≡ Some m
+          ready_at = sym (ap (λ (x : LinkSlot). output_by x b on st.peer) e ∙ ap (λ (j : ℕ). output_by Slot.Empty b j st.peer) z) ∙ ready
+
+          each : All IsCommand cs
+          each = fitting_all MAX_CONTROL st.peer.phase.waiting (Both.is_ready w u k.0).fine.well.waiting
+
+          fits : AreCommands cs
+          fits = (each, weighs MAX_CONTROL st.peer.phase.waiting)
+
+          reads : message_in m ≡ Ok (control_of b cs)
+          reads = ap message_in (control_said b cs m ready_at).0 ∙ read b 0 8 (bits_of_bytes (spellings cs)) k.0.joined.stand.fits_b (omega arith) (control_text cs fits)
+
+          is : now ≡ tables_after_all saying (map Ok cs) σ f.tables
+          is = read_now (control_of b cs) e reads ∙ ap (λ (xs : List (Result Command CommandFault)). tables_after_all saying xs σ f.tables) (items cs each ∙ items_ok cs)
+
+          rest : (rest : List Command) × (st.peer.phase.waiting ≡ cs ++ rest)
+          rest = front MAX_CONTROL st.peer.phase.waiting
+
+          gone : GoneOut number a b st.peer.ends st.peer.phase.waiting f.tables (tables_after_all saying (map Ok cs) σ f.tables)
+          gone =
+              all_go number a b st.peer.ends st.peer.phase.waiting f.tables over (λ y p. absurd (none_said st.peer.phase.waiting no_resets y)) cs rest.0 f.tables σ [] rest.1 (gone_begins number a b st.peer.ends st.peer.phase.waiting f.tables placed)
+
+      -- a text
+      text_go : (on == 0) ≡ false → is_wrong_link on ≡ false → slot_at st.slots on ≡ Slot.Empty → Gone now
+      text_go z right e = by_text (answer (cut_in on st.peer.ends)) refl said
+        where
+          said : text_message b on (answer (cut_in on st.peer.ends)) ≡ Some m
+          said = sym (ap (λ (x : Bool). if x then control_message b (next_commands st.peer.phase.waiting) else text_message b on (answer (cut_in on st.peer.ends))) z) ∙ ap (λ (x : LinkSlot). output_by x b on st.peer) (sym e) ∙ ready
+
+          by_text : (o : Option (ℕ × List Bool)) → answer (cut_in on st.peer.ends) ≡ o → text_message b on o ≡ Some m → Gone now
+          by_text None g r = absurd (cc r)
+          by_text (Some t) g r =
+              subst Gone (sym is)
+              (text_goes_told number a b st pasts sound (Both.is_ready w u k.0).fine.good u.books f.tables beside.this.same (k.1.talks_a.tidy room) room placed all st.peer.echoes.awaited st.peer.phase.waiting tells on x m t g refl refl covered e z)
+            where
+              x : Message
+              x = message_with (leader_to b on) t.0 t.1
+
+              fits : IsText t.0 t.1
+              fits = cut-written on st.peer.ends t (Both.is_ready w u k.0).fine.good (Both.is_ready w u k.0).fine.well.ends g
+
+              written : message_to b on t.0 t.1 ≡ m
+              written = cc r
+
+              reads : message_in m ≡ Ok x
+              reads = ap message_in (sym written) ∙ read b on t.0 t.1 k.0.joined.stand.fits_b (small on right) fits
+
+              is_text : judged_reading x ≡ Reading.Text
+              is_text = ap (λ (y : Bool). if y then Reading.Stop else if not (on == 0) then Reading.Text else if t.0 == 8 then Reading.Control else Reading.Stop) right ∙ ap (λ (y : Bool). if not y then Reading.Text else if t.0 == 8 then Reading.Control else Reading.Stop) z
+
+              heard : is_heard σ true ≡ true
+              heard =
+                  heard_out number a b k.0.joined.stand.fits_a k.0.joined.stand.fits_b roomy roomy_out on m u f beside.this (b_a w u k unfull room number f beside) k.0.ways.sound.long seen.stands.phased.known (waits w u k unfull room number f beside) (λ e. few_room a b f.sessions beside.few) led
+                  full room after_room unfound (is_fresh ∙ ap is_empty e) x reads is_text
+
+              is : now ≡ after_text saying on t.0 t.1 f.tables
+              is =
+                  read_now x e reads ∙ ap (λ (y : followed_kind.Reading). read_tables y saying x σ f.tables) (reading_is x ∙ ap reading_as is_text)
+                  ∙ ap (λ (y : Bool). if y then after_text saying on t.0 t.1 f.tables else f.tables) heard
+
+    gone_on : is_wrong_link on ≡ false → Gone now
+    gone_on right = by_up (up st.peer.phase) refl
+      where
+        by_slot : up st.peer.phase ≡ true → (slot : LinkSlot) → slot_at st.slots on ≡ slot → (z : Bool) → (on == 0) ≡ z → Gone now
+        by_slot g Slot.Empty e true z = commands_go g (eqb-true on 0 z) e
+        by_slot g Slot.Empty e false z = text_go g z right e
+        by_slot g (Slot.Ready r) e z y = sent_again r e
+        by_slot g (Slot.Travelling r) e z y = let nay : None ≡ Some m = ap (λ (x : LinkSlot). output_by x b on st.peer) (sym e) ∙ ready in absurd (cc nay)
+        by_slot g (Slot.Held r) e z y = let nay : None ≡ Some m = ap (λ (x : LinkSlot). output_by x b on st.peer) (sym e) ∙ ready in absurd (cc nay)
+
+        by_up : (g : Bool) → up st.peer.phase ≡ g → Gone now
+        by_up true g = by_slot g (slot_at st.slots on) refl (on == 0) refl
+        by_up false g = down_on on now g
+
+  -- the message that goes out
+  pub goes_told : AtHost a b st pasts f.tables → AtHost a b (had_for b (after_next_output w.a)) pasts now
+  goes_told at = subst (λ (x : PeerState). AtHost a b x pasts now) (sym state) (gone_on l.on l.led l.ready l.right at)
+    where
+      state : had_for b (after_next_output w.a) ≡ after_output l.on m st
+      state = had-sent b w.a k.0.joined.stand.a ∙ ap (λ (o : Option (ℕ × List Bool)). after_next o st) l.next

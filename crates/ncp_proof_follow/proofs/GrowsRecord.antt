@@ -1,0 +1,422 @@
+-- What one record adds to what is known of a file, where no rule is found broken by it: to each list of the books no more than
+-- the commands of one control text do, and one message that is kept; and between others nothing.
+use Rattle.std.proofs.Common.{◌≡◌, ℕ, zero, suc, ◌+◌, ◌*◌, ◌<◌, ◌≤◌, ◌==◌, Bool, true, false, not, ◌&&◌, ◌||◌, if◌then◌else◌, List, [], ◌∷◌, ◌++◌, length, get_or, Option, None, Some, ◌⊎◌, inl, inr, eq-eqb, refl, sym, ap, ◌∙◌, subst, arith}
+use Rattle.std.specs.Prelude.{map, drop, nat_lt, slice_set, option_map, Result, Ok}
+use Rattle.std.specs.List.{remove}
+use Rattle.std.specs.Option.{option_to_list, option_map_or}
+use Rattle.std.proofs.lemmas.Bool.{eqb-true}
+use Rattle.std.proofs.lemmas.Bool.Decides.{nat_tests}
+use Rattle.ncp_numbers.specs.Bytes.{bytes_of}
+use Rattle.ncp_leader.specs.declared.fault.MessageFault.{MessageFault}
+use Rattle.ncp_leader.specs.declared.leader.Leader.{Leader}
+use Rattle.ncp_leader.specs.declared.leader.Short.{Short}
+use Rattle.ncp_leader.specs.declared.regular.TheConstants.{MAX_TEXT_BITS}
+use Rattle.ncp_leader.specs.declared.leader.TheConstants.{LEADER_BITS}
+use Rattle.ncp_leader.specs.Leader.{leader_at, leader_in}
+use Rattle.ncp_leader.specs.Message.{Message, message_in}
+use Rattle.ncp_leader.proofs.Leaders.{IsLeader-at}
+use Rattle.ncp_terms.specs.declared.command.Command.{Command}
+use Rattle.ncp_terms.specs.declared.fault.CommandFault.{CommandFault}
+use Rattle.ncp_terms.specs.Spelling.{spelling}
+use Rattle.ncp_control.proofs.Text.{length-bytes_of}
+use Rattle.ncp_control.specs.Reading.{command_at, commands_within, commands_in, fault_in}
+use Rattle.ncp_umpire.specs.declared.event.Event.{Event}
+use Rattle.ncp_umpire.specs.declared.finding.Rule.{Rule}
+use Rattle.ncp_umpire.specs.declared.finding.Thing.{Thing}
+use Rattle.ncp_umpire.specs.declared.kept.Kept.{Kept}
+use Rattle.ncp_umpire.specs.declared.kept.Slot.{Slot}
+use Rattle.ncp_umpire.specs.declared.message.Reading.{Reading}
+use Rattle.ncp_umpire.specs.declared.message.Reading.TheVariants.{Stop, Text, Control}
+use Rattle.ncp_umpire.specs.declared.outbox.TheConstants.{MAX_KEPT}
+use Rattle.ncp_umpire.specs.declared.phase.Turn.{Turn}
+use Rattle.ncp_umpire.specs.declared.talk.Talk.{Talk}
+use Rattle.ncp_umpire.specs.declared.umpire.Umpire.{Umpire}
+use Rattle.ncp_umpire.specs.declared.view.View.{View}
+use Rattle.ncp_umpire.specs.declared.way.Way.{Way}
+use Rattle.ncp_umpire.specs.Acts.{act_of}
+use Rattle.ncp_umpire.specs.Events.{event_of}
+use Rattle.ncp_umpire.specs.Lives.{SeenBooks, books_cleared}
+use Rattle.ncp_umpire.specs.Messages.{is_unused, most_bits, bits_after_text, has_extras, extras_of, rule_of_regular, rule_of_message, judged_reading}
+use Rattle.ncp_umpire.specs.Phases.{broken_by, after_item, after_items}
+use Rattle.ncp_umpire.specs.Slots.{place_of, kept_at, has_room, with_out, with_kept_slot, gone_out, nothing_kept}
+use Rattle.ncp_umpire.specs.Speaking.{after_spoken, after_all_said}
+use Rattle.ncp_umpire.specs.Tables.{view_in, with_view}
+use Rattle.ncp_umpire.specs.Talked.{talk_of, reaches, act_reaches, clears, after_talk, after_talked, tells_left_out, after_left_out}
+use Rattle.ncp_umpire.specs.Texts.{books_after_text}
+use Rattle.ncp_umpire.specs.Judged.{view_of, slot_of_link, same_of, is_slot_out, fresh_out, view_after_out, umpire_after_out, with_answer, umpire_after_answer, judges_coming, with_coming, after_in, is_roomy, items_said, turn_at, books_after_read, after_said, out_finding, unsent_finding, said_findings, message_findings, event_findings, record_findings, after_event, after_record, sees}
+use Rattle.ncp_proof_umpire_seen.proofs.Elsewhere.{Alike, alike_same}
+use Rattle.ncp_proof_umpire_counts.proofs.BooksRead.{said_alikes}
+use Rattle.ncp_proof_follow.proofs.GrowsBooks.{Grows, grows_none, grows_both, grows_more, item_grows, text_grows, cleared_grows, said_grows}
+
+-- ---- how many commands a control text has
+
+within_few : (fuel : ℕ) (bytes : List ℕ) → length (commands_within fuel bytes) ≤ fuel
+unfolding commands_within
+within_few zero bytes = omega arith
+within_few (suc more) bytes = go (command_at bytes) (within_few more)
+  where
+    go : (o : Option Command) → ((rest : List ℕ) → length (commands_within more rest) ≤ more) → length (option_map_or (λ command. command ∷ commands_within more (drop (length (spelling command)) bytes)) o []) ≤ suc more
+    go None few = omega arith
+    go (Some command) few = let e = few (drop (length (spelling command)) bytes) in omega (arith, e)
+
+append_length : {A : Type 0} (xs ys : List A) → length (xs ++ ys) ≡ length xs + length ys
+append_length [] ys = omega arith
+append_length (x ∷ xs) ys = let e = append_length xs ys in omega (arith, e)
+
+map_length : {A B : Type 0} (f : A → B) (xs : List A) → length (map f xs) ≡ length xs
+map_length f [] = refl
+map_length f (x ∷ xs) = ap suc (map_length f xs)
+
+one_at_most : {A : Type 0} (o : Option A) → length (option_to_list o) ≤ 1
+one_at_most None = omega arith
+one_at_most (Some x) = omega arith
+
+items_few : (text : List Bool) → length text ≤ 960 → length (items_said text) ≤ 121
+items_few text short =
+    let bytes = bytes_of text in
+    let a : length (items_said text) ≡ length (commands_in bytes) + length (option_to_list (fault_in bytes)) = append_length (map (λ (c : Command). said c) (commands_in bytes)) (map (λ (f : CommandFault). faulty f) (option_to_list (fault_in bytes)))
+    ∙ ap (λ (n : ℕ). n + length (map (λ (f : CommandFault). faulty f) (option_to_list (fault_in bytes)))) (map_length (λ (c : Command). said c) (commands_in bytes))
+    ∙ ap (λ (n : ℕ). length (commands_in bytes) + n) (map_length (λ (f : CommandFault). faulty f) (option_to_list (fault_in bytes))) in
+    let b = within_few (length bytes) bytes in
+    let c = one_at_most (fault_in bytes) in
+    let d = length-bytes_of text in
+    omega (arith, a, b, c, d, short)
+  where
+    said : Command → Result Command CommandFault
+    said c = Ok c
+
+    faulty : CommandFault → Result Command CommandFault
+    faulty f = Result.Err f
+
+-- ---- what is read of a message
+
+grows_if : (k : ℕ) (x : Bool) (b now : SeenBooks) → Grows k b now → Grows k b (if x then now else b)
+grows_if k true b now g = g
+grows_if k false b now g = grows_none k b
+
+module _ (at peer : ℕ) (turn : Turn) (kept : List Kept) where
+  abbrev talk : Talk
+  talk = talk_of at peer turn
+
+  pub talk_grows : (item : Result Command CommandFault) (v : View) (b : SeenBooks) → Grows 3 b (after_talk turn talk kept item v b)
+  talk_grows item v b = go (clears turn (act_of item) v) (act_reaches turn (act_of item) v)
+    where
+      go : (x y : Bool) → Grows 3 b (if x then books_cleared at peer b else if y then after_spoken talk kept item b else b)
+      go true y = grows_more 0 3 (omega arith) b (books_cleared at peer b) (cleared_grows at peer b)
+      go false true = item_grows at peer turn.sent kept item b
+      go false false = grows_none 3 b
+
+  items_grow : (items : List (Result Command CommandFault)) (v : View) (b : SeenBooks) (most : ℕ) → length items ≤ most → Grows (3 * most) b (after_talked turn talk kept items v b)
+  items_grow [] v b most few = grows_none (3 * most) b
+  items_grow (item ∷ items) v b zero few = absurd (omega (arith, few))
+  items_grow (item ∷ items) v b (suc most) few =
+      let now = after_talk turn talk kept item v b in
+      grows_both 3 (3 * most) (3 * suc most) (omega arith) b now (after_talked turn talk kept items (after_item turn item v) now) (talk_grows item v b) (items_grow items (after_item turn item v) now most (omega (arith, few)))
+
+  read_grows : (reading : Reading) (message : Message) (v : View) (b : SeenBooks) → (reading ≡ Control → length message.text ≤ 960) → Grows 363 b (books_after_read turn talk kept message v b reading)
+  read_grows Stop message v b short = grows_none 363 b
+  read_grows Text message v b short =
+      grows_if 363 (reaches turn Thing.Text v) b (books_after_text talk message.leader.link message b)
+      (grows_more 2 363 (omega arith) b (books_after_text talk message.leader.link message b) (text_grows at peer turn.sent message.leader.link message b))
+  read_grows Control message v b short =
+      let text = message.text in
+      let items = items_said text in
+      let now = after_talked turn talk kept items v b in
+      grows_both 363 0 363 (omega arith) b now (after_left_out turn talk (is_roomy text) (after_items turn items v) now) (items_grow items v b 121 (items_few text (short refl)))
+      (grows_if 0 (tells_left_out turn (is_roomy text) (after_items turn items v) now) now (after_all_said at peer now) (said_grows at peer now))
+
+-- ---- a message that breaks no rule by itself
+
+control_short : (message : Message) (len : ℕ) → rule_of_regular message len ≡ None → judged_reading message ≡ Control → length message.text ≤ 960
+control_short message len v e = go (is_unused message.leader.link) (message.leader.link == 0) refl (message.size == 8) (has_extras message len) refl v e
+  where
+    no_more : (most x : ℕ) → nat_lt most x ≡ false → x ≤ most
+    no_more most x f = grind (arith, nat_tests)
+
+    last : (a b c d f : Bool) → (a || b || c || d || f) ≡ false → f ≡ false
+    last true b c d f k = absurd (cc k)
+    last false true c d f k = absurd (cc k)
+    last false false true d f k = absurd (cc k)
+    last false false false true f k = absurd (cc k)
+    last false false false false f k = k
+
+    fits : (message.leader.link == 0) ≡ true → has_extras message len ≡ false → length message.text ≤ 960
+    fits z k =
+        no_more 960 (length message.text)
+        (ap (λ (b : Bool). nat_lt (if b then 960 else MAX_TEXT_BITS) (length message.text)) (sym z)
+        ∙ last (not (message.leader.flags == 0)) (not (message.leader.low == 0)) (not (bits_after_text message len == 0)) (length message.text == 0) (nat_lt (most_bits message.leader.link) (length message.text)) k)
+
+    go : (a b : Bool) → (message.leader.link == 0) ≡ b → (c d : Bool) → has_extras message len ≡ d
+        → (if a then Some (Rule.WrongLink message.leader.link) else if b && not c then Some (Rule.WrongSize message.size) else if d then Some (extras_of message len) else None) ≡ None
+        → (if a then Stop else if not b then Text else if c then Control else Stop) ≡ Control → length message.text ≤ 960
+    go true b z c d x v e = absurd (cc v)
+    go false true z true false x v e = fits z x
+    go false true z true true x v e = absurd (cc v)
+    go false true z false d x v e = absurd (cc v)
+    go false false z c d x v e = absurd (cc e)
+
+said_grow : (A : Umpire) (at peer by link len : ℕ) (sent fresh : Bool) (r : Result Message MessageFault) → rule_of_message r link len ≡ None → Grows 363 A.books (after_said A at peer (turn_at A at peer by sent) fresh r).books
+said_grow A at peer by link len sent true (Ok m) v = read_grows at peer (turn_at A at peer by sent) A.kept (judged_reading m) m (view_of A at peer) A.books (control_short m len v)
+said_grow A at peer by link len sent false (Ok m) v = grows_none 363 A.books
+said_grow A at peer by link len sent fresh (Result.Err fault) v = absurd (cc v)
+
+-- what is kept of messages it leaves
+said_keeps : (A : Umpire) (at peer : ℕ) (turn : Turn) (fresh : Bool) (r : Result Message MessageFault) → ((after_said A at peer turn fresh r).full ≡ A.full) × ((after_said A at peer turn fresh r).kept ≡ A.kept)
+said_keeps A at peer turn true (Ok m) = (refl, refl)
+said_keeps A at peer turn false (Ok m) = (refl, refl)
+said_keeps A at peer turn fresh (Result.Err fault) = (refl, refl)
+
+-- ---- messages that are kept
+
+pub set_length : {A : Type 0} (xs : List A) (i : ℕ) (y : A) → length (slice_set xs i y) ≤ length xs
+set_length [] i y = omega arith
+set_length (x ∷ xs) zero y = omega arith
+set_length (x ∷ xs) (suc i) y = let e = set_length xs i y in omega (arith, e)
+
+remove_length : {A : Type 0} (xs : List A) (i : ℕ) → length (remove xs i) ≤ length xs
+remove_length [] zero = omega arith
+remove_length [] (suc i) = omega arith
+remove_length (x ∷ xs) zero = omega arith
+remove_length (x ∷ xs) (suc i) = let e = remove_length xs i in omega (arith, e)
+
+abbrev pub EachKept : (Kept → Type 0) → List Kept → Type 0
+EachKept P [] = Unit {0}
+EachKept P (k ∷ kept) = P k × EachKept P kept
+
+-- it is a message of these two, on some link
+abbrev pub IsOfTwo : ℕ → ℕ → Kept → Type 0
+IsOfTwo a b k = (((k.from ≡ a) × (k.to ≡ b)) ⊎ ((k.from ≡ b) × (k.to ≡ a))) × (k.link < 256)
+
+module _ (a b : ℕ) where
+  each_set : (kept : List Kept) (i : ℕ) (k : Kept) → IsOfTwo a b k → EachKept (IsOfTwo a b) kept → EachKept (IsOfTwo a b) (slice_set kept i k)
+  each_set [] i k h e = tt
+  each_set (x ∷ kept) zero k h (p, e) = (h, e)
+  each_set (x ∷ kept) (suc i) k h (p, e) = (p, each_set kept i k h e)
+
+  each_slot : (kept : List Kept) (i : ℕ) (slot : Slot) (d : Kept) → EachKept (IsOfTwo a b) kept → EachKept (IsOfTwo a b) (slice_set kept i (record (get_or kept i d) { slot = slot }))
+  each_slot [] i slot d e = tt
+  each_slot (x ∷ kept) zero slot d (p, e) = (p, e)
+  each_slot (x ∷ kept) (suc i) slot d (p, e) = (p, each_slot kept i slot d e)
+
+  each_removed : (kept : List Kept) (i : ℕ) → EachKept (IsOfTwo a b) kept → EachKept (IsOfTwo a b) (remove kept i)
+  each_removed [] zero e = tt
+  each_removed [] (suc i) e = tt
+  each_removed (x ∷ kept) zero (p, e) = e
+  each_removed (x ∷ kept) (suc i) (p, e) = (p, each_removed kept i e)
+
+  each_behind : (kept : List Kept) (k : Kept) → IsOfTwo a b k → EachKept (IsOfTwo a b) kept → EachKept (IsOfTwo a b) (kept ++ k ∷ [])
+  each_behind [] k h e = (h, tt)
+  each_behind (x ∷ kept) k h (p, e) = (p, each_behind kept k h e)
+
+  record Keeps (kept now : List Kept) (more : ℕ) (one : Type 0) : Type 0 where
+    pub long : length now ≤ length kept + more
+    pub each : one → EachKept (IsOfTwo a b) kept → EachKept (IsOfTwo a b) now
+
+  out_keeps : (kept : List Kept) (o : Option ℕ) (k : Kept) → Keeps kept (with_out kept o k) 1 (IsOfTwo a b k)
+  out_keeps kept (Some place) k = let l = set_length kept place k in record { long = omega (arith, l); each = λ h e. each_set kept place k h e }
+  out_keeps kept None k = go (nat_lt (length kept) MAX_KEPT)
+    where
+      go : (x : Bool) → Keeps kept (if x then kept ++ k ∷ [] else kept) 1 (IsOfTwo a b k)
+      go true = let l = append_length kept (k ∷ []) in record { long = omega (arith, l); each = λ h e. each_behind kept k h e }
+      go false = record { long = omega arith; each = λ h e. e }
+
+  slot_keeps : (kept : List Kept) (place : ℕ) (slot : Slot) → Keeps kept (with_kept_slot kept place slot) 0 (Unit {0})
+  slot_keeps kept place slot =
+      let l = set_length kept place (record (kept_at kept place) { slot = slot }) in record { long = omega (arith, l); each = λ h e. each_slot kept place slot nothing_kept e }
+
+  came_keeps : (kept : List Kept) (o : Option ℕ) → Keeps kept (with_coming kept o) 0 (Unit {0})
+  came_keeps kept None = record { long = omega arith; each = λ h e. e }
+  came_keeps kept (Some place) = go (is_slot_out (kept_at kept place).slot)
+    where
+      go : (x : Bool) → Keeps kept (if x then with_kept_slot kept place Slot.Came else kept) 0 (Unit {0})
+      go true = slot_keeps kept place Slot.Came
+      go false = record { long = omega arith; each = λ h e. e }
+
+  answer_keeps : (known : Bool) (kind : ℕ) (kept : List Kept) (o : Option ℕ) → Keeps kept (with_answer known kind kept o) 0 (Unit {0})
+  answer_keeps known kind kept None = record { long = omega arith; each = λ h e. e }
+  answer_keeps known kind kept (Some place) = go (not (is_slot_out (kept_at kept place).slot)) (kind == 5) known
+    where
+      go : (x y z : Bool) → Keeps kept (if x then kept else if y then (if z then remove kept place else with_kept_slot kept place Slot.Empty) else with_kept_slot kept place Slot.Again) 0 (Unit {0})
+      go true y z = record { long = omega arith; each = λ h e. e }
+      go false true true = let l = remove_length kept place in record { long = omega (arith, l); each = λ h e. each_removed kept place e }
+      go false true false = slot_keeps kept place Slot.Empty
+      go false false z = slot_keeps kept place Slot.Again
+
+-- ---- a record
+
+-- what an event is about: another host, and a link
+abbrev pub IsBetween : ℕ → ℕ → ℕ → Event → Type 0
+IsBetween a b at Event.Short = Unit {0}
+IsBetween a b at Event.Nothing = Unit {0}
+IsBetween a b at (Event.Own kind link) = Unit {0}
+IsBetween a b at (Event.Other kind) = Unit {0}
+IsBetween a b at (Event.Out peer link) = (((at ≡ a) × (peer ≡ b)) ⊎ ((at ≡ b) × (peer ≡ a))) × (link < 256)
+IsBetween a b at (Event.Answer kind peer link) = (((at ≡ a) × (peer ≡ b)) ⊎ ((at ≡ b) × (peer ≡ a))) × (link < 256)
+IsBetween a b at (Event.In peer link) = (((at ≡ a) × (peer ≡ b)) ⊎ ((at ≡ b) × (peer ≡ a))) × (link < 256)
+
+pub record Widens (a b : ℕ) (umpire now : Umpire) : Type 0 where
+  pub books : Grows 363 umpire.books now.books
+  pub kept : length now.kept ≤ length umpire.kept + 1
+  pub each : EachKept (IsOfTwo a b) umpire.kept → EachKept (IsOfTwo a b) now.kept
+  pub unfilled : umpire.full ≡ false → length umpire.kept + 1 ≤ MAX_KEPT → now.full ≡ false
+  pub others : (me n : ℕ) → (me == a && n == b) ≡ false → (me == b && n == a) ≡ false → Alike me n umpire.books now.books
+
+widens_none : (a b : ℕ) (umpire : Umpire) → Widens a b umpire umpire
+widens_none a b umpire = record { books = grows_none 363 umpire.books; kept = omega arith; each = λ e. e; unfilled = λ f l. f; others = λ me n d o. alike_same me n umpire.books }
+
+pub append_none : {A : Type 0} (xs ys : List A) → xs ++ ys ≡ [] → ys ≡ []
+append_none [] ys e = e
+append_none (x ∷ xs) ys e = absurd (cc e)
+
+pub no_option : {A B : Type 0} (f : A → B) (o : Option A) (ys : List B) → option_to_list (option_map f o) ++ ys ≡ [] → o ≡ None
+no_option f None ys e = refl
+no_option f (Some x) ys e = absurd (cc e)
+
+-- not between these two
+apart_of : (a b at peer me n : ℕ) → ((at ≡ a) × (peer ≡ b)) ⊎ ((at ≡ b) × (peer ≡ a)) → (me == a && n == b) ≡ false → (me == b && n == a) ≡ false → (at == me && peer == n) ≡ false
+apart_of a b at peer me n (inl k) d o = turned (at == me) refl (peer == n) refl
+  where
+    turned : (x : Bool) → (at == me) ≡ x → (y : Bool) → (peer == n) ≡ y → (at == me && peer == n) ≡ false
+    turned false e y f = ap (λ (z : Bool). z && (peer == n)) e
+    turned true e false f = ap (λ (z : Bool). (at == me) && z) f ∙ and_no (at == me)
+      where
+        and_no : (z : Bool) → (z && false) ≡ false
+        and_no true = refl
+        and_no false = refl
+    turned true e true f =
+        let nay : true ≡ false =
+        sym (ap (λ (z : Bool). z && (n == b)) (eq-eqb me a (sym (eqb-true at me e) ∙ k.0)) ∙ ap (λ (z : Bool). true && z) (eq-eqb n b (sym (eqb-true peer n f) ∙ k.1))) ∙ d in absurd (cc nay)
+apart_of a b at peer me n (inr k) d o = turned (at == me) refl (peer == n) refl
+  where
+    turned : (x : Bool) → (at == me) ≡ x → (y : Bool) → (peer == n) ≡ y → (at == me && peer == n) ≡ false
+    turned false e y f = ap (λ (z : Bool). z && (peer == n)) e
+    turned true e false f = ap (λ (z : Bool). (at == me) && z) f ∙ and_no (at == me)
+      where
+        and_no : (z : Bool) → (z && false) ≡ false
+        and_no true = refl
+        and_no false = refl
+    turned true e true f =
+        let nay : true ≡ false =
+        sym (ap (λ (z : Bool). z && (n == a)) (eq-eqb me b (sym (eqb-true at me e) ∙ k.0)) ∙ ap (λ (z : Bool). true && z) (eq-eqb n a (sym (eqb-true peer n f) ∙ k.1))) ∙ o in absurd (cc nay)
+
+room_is : (kept : List Kept) (o : Option ℕ) → length kept + 1 ≤ MAX_KEPT → not (has_room kept o) ≡ false
+room_is kept (Some place) l = refl
+room_is kept None l = ap not (less (length kept) MAX_KEPT l)
+  where
+    less : (x y : ℕ) → x + 1 ≤ y → nat_lt x y ≡ true
+    less x y e = grind (arith, nat_tests)
+
+-- a message goes out, before it is read
+record OutWidens (a b : ℕ) (umpire A : Umpire) : Type 0 where
+  pub books : A.books ≡ umpire.books
+  pub kept : length A.kept ≤ length umpire.kept + 1
+  pub each : EachKept (IsOfTwo a b) umpire.kept → EachKept (IsOfTwo a b) A.kept
+  pub unfilled : umpire.full ≡ false → length umpire.kept + 1 ≤ MAX_KEPT → A.full ≡ false
+
+out_widens : (a b : ℕ) (umpire : Umpire) (at peer link : ℕ) (bits : List Bool) → IsOfTwo a b (gone_out at peer link bits) → OutWidens a b umpire (umpire_after_out umpire at peer link bits)
+out_widens a b umpire at peer link bits h = go umpire.full refl
+  where
+    place : Option ℕ
+    place = place_of at peer link umpire.kept
+
+    now : Umpire
+    now = record umpire {
+      full = not (has_room umpire.kept place);
+      views = with_view umpire.views at peer (view_after_out (view_in umpire.views at peer) (slot_of_link umpire at peer link) (same_of umpire at peer link bits));
+      kept = with_out umpire.kept place (gone_out at peer link bits);
+    }
+
+    go : (x : Bool) → umpire.full ≡ x → OutWidens a b umpire (if x then umpire else now)
+    go true e = record { books = refl; kept = omega arith; each = λ k. k; unfilled = λ f l. f }
+    go false e =
+        let k = out_keeps a b umpire.kept place (gone_out at peer link bits) in
+        record { books = refl; kept = k.long; each = λ j. k.each h j; unfilled = λ f l. room_is umpire.kept place l }
+
+in_widens : (a b : ℕ) (umpire : Umpire) (at peer link : ℕ) → OutWidens a b umpire (after_in umpire at peer link)
+in_widens a b umpire at peer link = go (judges_coming umpire at peer)
+  where
+    go : (x : Bool) → OutWidens a b umpire (if x then record umpire { kept = with_coming umpire.kept (place_of peer at link umpire.kept) } else umpire)
+    go true =
+        let k = came_keeps a b umpire.kept (place_of peer at link umpire.kept) in
+        let l = k.long in record { books = refl; kept = omega (arith, l); each = λ j. k.each tt j; unfilled = λ f l. f }
+    go false = record { books = refl; kept = omega arith; each = λ k. k; unfilled = λ f l. f }
+
+answer_widens : (a b : ℕ) (umpire : Umpire) (kind at peer link : ℕ) → OutWidens a b umpire (umpire_after_answer umpire kind at peer link)
+answer_widens a b umpire kind at peer link = go umpire.full
+  where
+    go : (x : Bool) → OutWidens a b umpire (if x then umpire else record umpire { kept = with_answer (view_in umpire.views at peer).known kind umpire.kept (place_of at peer link umpire.kept) })
+    go true = record { books = refl; kept = omega arith; each = λ k. k; unfilled = λ f l. f }
+    go false =
+        let k = answer_keeps a b (view_in umpire.views at peer).known kind umpire.kept (place_of at peer link umpire.kept) in
+        let l = k.long in record { books = refl; kept = omega (arith, l); each = λ j. k.each tt j; unfilled = λ f l. f }
+
+-- and read
+then_said : (a b : ℕ) (umpire A : Umpire) (at peer by link len : ℕ) (sent fresh : Bool) (r : Result Message MessageFault) → OutWidens a b umpire A → rule_of_message r link len ≡ None → ((at ≡ a) × (peer ≡ b)) ⊎ ((at ≡ b) × (peer ≡ a))
+    → Widens a b umpire (after_said A at peer (turn_at A at peer by sent) fresh r)
+then_said a b umpire A at peer by link len sent fresh r w v two =
+    let k = said_keeps A at peer (turn_at A at peer by sent) fresh r in
+    record {
+      books = subst (λ (x : SeenBooks). Grows 363 x (after_said A at peer (turn_at A at peer by sent) fresh r).books) w.books (said_grow A at peer by link len sent fresh r v);
+      kept = subst (λ (x : List Kept). length x ≤ length umpire.kept + 1) (sym k.1) w.kept;
+      each = λ e. subst (EachKept (IsOfTwo a b)) (sym k.1) (w.each e);
+      unfilled = λ f l. k.0 ∙ w.unfilled f l;
+      others = λ me n d o.
+          subst (λ (x : SeenBooks). Alike me n x (after_said A at peer (turn_at A at peer by sent) fresh r).books) w.books (said_alikes A at peer by sent fresh r me n (apart_of a b at peer me n two d o));
+    }
+
+event_widens : (a b : ℕ) (umpire : Umpire) (way : Way) (at : ℕ) (bits : List Bool) (e : Event) → IsBetween a b at e → event_findings umpire way at bits e ≡ [] → Widens a b umpire (after_event umpire at bits e)
+event_widens a b umpire way at bits Event.Short i v = widens_none a b umpire
+event_widens a b umpire way at bits Event.Nothing i v = widens_none a b umpire
+event_widens a b umpire way at bits (Event.Own kind link) i v = widens_none a b umpire
+event_widens a b umpire way at bits (Event.Other kind) i v = widens_none a b umpire
+event_widens a b umpire way at bits (Event.Out peer link) i v =
+    let A = umpire_after_out umpire at peer link bits in
+    let fresh = fresh_out umpire at peer link bits in
+    then_said a b umpire A at peer at link (length bits) true fresh (message_in bits) (out_widens a b umpire at peer link bits i)
+    (no_option (broken_by (turn_at A at peer at true)) (rule_of_message (message_in bits) link (length bits)) (said_findings A at peer (turn_at A at peer at true) fresh (message_in bits))
+    (append_none (option_to_list (out_finding umpire at peer link bits)) (message_findings A at peer (turn_at A at peer at true) fresh link bits) v)) i.0
+event_widens a b umpire way at bits (Event.Answer kind peer link) i v =
+    let A = umpire_after_answer umpire kind at peer link in
+    let w = answer_widens a b umpire kind at peer link in
+    record {
+      books = subst (λ (x : SeenBooks). Grows 363 umpire.books x) (sym w.books) (grows_none 363 umpire.books);
+      kept = w.kept;
+      each = w.each;
+      unfilled = w.unfilled;
+      others = λ me n d o. subst (λ (x : SeenBooks). Alike me n umpire.books x) (sym w.books) (alike_same me n umpire.books);
+    }
+event_widens a b umpire way at bits (Event.In peer link) i v =
+    let A = after_in umpire at peer link in
+    then_said a b umpire A at peer peer link (length bits) false true (message_in bits) (in_widens a b umpire at peer link)
+    (no_option (broken_by (turn_at A at peer peer false)) (rule_of_message (message_in bits) link (length bits)) (said_findings A at peer (turn_at A at peer peer false) true (message_in bits))
+    (append_none (option_to_list (unsent_finding umpire at peer link bits)) (message_findings A at peer (turn_at A at peer peer false) true link bits) v)) i.0
+
+-- of a record by which no rule is found broken
+pub record_widens : (a b : ℕ) (umpire : Umpire) (way : Way) (at : ℕ) (bits : List Bool) → IsBetween a b at (event_of way at bits) → record_findings umpire way at bits ≡ [] → Widens a b umpire (after_record umpire way at bits)
+record_widens a b umpire way at bits i v = record { books = grown; kept = w.kept; each = w.each; unfilled = w.unfilled; others = others }
+  where
+    w : Widens a b (sees umpire at) (after_record umpire way at bits)
+    w = event_widens a b (sees umpire at) way at bits (event_of way at bits) i v
+
+    grown : Grows 363 umpire.books (after_record umpire way at bits).books
+    grown =
+        let l = w.books.lives in let m = w.books.marks in let d = w.books.dues in
+        record {
+          lives = l;
+          marks = m;
+          dues = d;
+          unfilled = λ h. w.books.unfilled (record { lives = h.lives; marks = h.marks; dues = h.dues; unfilled = h.unfilled });
+          once = w.books.once;
+        }
+
+    others : (me n : ℕ) → (me == a && n == b) ≡ false → (me == b && n == a) ≡ false → Alike me n umpire.books (after_record umpire way at bits).books
+    others me n d o = let k = w.others me n d o in record { lives = k.lives; marks = k.marks; dues = k.dues }
+
+-- ---- the link in a leader is one of 256
+
+pub leader_link : (bits : List Bool) (leader : Leader) → leader_in bits ≡ Ok leader → leader.link < 256
+leader_link bits leader e = go (nat_lt (length bits) LEADER_BITS) e
+  where
+    go : (x : Bool) → ◌≡◌ {A = Result Leader Short} (if x then Result.Err (record {}) else Ok (leader_at bits)) (Ok leader) → leader.link < 256
+    go true e = absurd (cc e)
+    go false e = let is : leader_at bits ≡ leader = cc e in subst (λ (l : Leader). l.link < 256) is (IsLeader-at bits).link

@@ -1,0 +1,204 @@
+-- Between two hosts nothing is ever full: only what is between the two stands in the books, an ECO is marked once, and of each
+-- link one message is kept; so where little stands between the two, there is room for what one record adds.
+use Rattle.std.proofs.Common.{◌≡◌, ℕ, zero, suc, ◌+◌, ◌<◌, ◌≤◌, ◌==◌, Bool, true, false, ◌&&◌, if◌then◌else◌, List, [], ◌∷◌, length, ◌⊎◌, inl, inr, eq-eqb, refl, sym, ap, ◌∙◌, arith}
+use Rattle.std.specs.Prelude.{nat_lt}
+use Rattle.std.specs.List.{filter}
+use Rattle.std.proofs.lemmas.Bool.{and_parts}
+use Rattle.std.proofs.lemmas.Bool.Decides.{nat_tests}
+use Rattle.ncp_subnet.specs.Ways.{OnLink}
+use Rattle.ncp_umpire.specs.declared.due.Due.{Due}
+use Rattle.ncp_umpire.specs.declared.kept.Kept.{Kept}
+use Rattle.ncp_umpire.specs.declared.life.Life.{Life}
+use Rattle.ncp_umpire.specs.declared.life.Mark.{Mark}
+use Rattle.ncp_umpire.specs.declared.outbox.TheConstants.{MAX_KEPT}
+use Rattle.ncp_umpire.specs.declared.umpire.Umpire.{Umpire}
+use Rattle.ncp_umpire.specs.declared.way.Way.{Way}
+use Rattle.ncp_umpire.specs.Events.{event_of}
+use Rattle.ncp_umpire.specs.Lives.{SeenBooks, is_life_between, is_mark_between, is_due_between}
+use Rattle.ncp_umpire.specs.Slots.{is_of}
+use Rattle.ncp_umpire.specs.Judged.{new_umpire, record_findings, after_record}
+use Rattle.ncp_proof_umpire_talk.proofs.Spoken.{Clear}
+use Rattle.ncp_proof_umpire_many.proofs.Tells.{Tells}
+use Rattle.ncp_proof_follow.proofs.GrowsBooks.{HasPlaces, AskedOnce}
+use Rattle.ncp_proof_follow.proofs.GrowsRecord.{EachKept, IsOfTwo, IsBetween, Widens, record_widens}
+
+-- ---- counts of what passes a test
+
+-- what passes the one passes one of two others
+either_length : {A : Type 0} (p q r : A → Bool) → ((x : A) → p x ≡ true → (q x ≡ true) ⊎ (r x ≡ true)) → (xs : List A) → length (filter p xs) ≤ length (filter q xs) + length (filter r xs)
+either_length p q r f [] = omega arith
+either_length {A} p q r f (x ∷ xs) = go (p x) refl (q x) refl (r x) refl (either_length p q r f xs)
+  where
+    a : ℕ
+    a = length (filter p xs)
+
+    go : (b : Bool) → p x ≡ b → (c : Bool) → q x ≡ c → (d : Bool) → r x ≡ d → length (filter p xs) ≤ length (filter q xs) + length (filter r xs)
+        → length (if b then x ∷ filter p xs else filter p xs) ≤ length (if c then x ∷ filter q xs else filter q xs) + length (if d then x ∷ filter r xs else filter r xs)
+    go true i true j true k e = omega (arith, e)
+    go true i true j false k e = omega (arith, e)
+    go true i false j true k e = omega (arith, e)
+    go true i false j false k e = absurd (none (f x i))
+      where
+        none : (q x ≡ true) ⊎ (r x ≡ true) → ⊥
+        none (inl y) = let no : true ≡ false = sym y ∙ j in cc no
+        none (inr y) = let no : true ≡ false = sym y ∙ k in cc no
+    go false i true j true k e = omega (arith, e)
+    go false i true j false k e = omega (arith, e)
+    go false i false j true k e = omega (arith, e)
+    go false i false j false k e = e
+
+-- where nothing is between others, all is between the two
+pub two_length : {A : Type 0} (at peer : A → ℕ) (a b : ℕ) (xs : List A) → ((me n : ℕ) → (me == a && n == b) ≡ false → (me == b && n == a) ≡ false → filter (λ x. at x == me && peer x == n) xs ≡ [])
+    → length xs ≤ length (filter (λ x. at x == a && peer x == b) xs) + length (filter (λ x. at x == b && peer x == a) xs)
+two_length at peer a b [] none = omega arith
+two_length {A} at peer a b (x ∷ xs) none = go (at x == a && peer x == b) refl (at x == b && peer x == a) refl (two_length at peer a b xs fewer)
+  where
+    between : ℕ → ℕ → A → Bool
+    between me n y = at y == me && peer y == n
+
+    fewer : (me n : ℕ) → (me == a && n == b) ≡ false → (me == b && n == a) ≡ false → filter (λ y. at y == me && peer y == n) xs ≡ []
+    fewer me n d o = by (between me n x) (none me n d o)
+      where
+        by : (y : Bool) → (if y then x ∷ filter (λ y. at y == me && peer y == n) xs else filter (λ y. at y == me && peer y == n) xs) ≡ [] → filter (λ y. at y == me && peer y == n) xs ≡ []
+        by true e = absurd (cc e)
+        by false e = e
+
+    itself : between (at x) (peer x) x ≡ true
+    itself = ap (λ (y : Bool). y && (peer x == peer x)) (eq-eqb (at x) (at x) refl) ∙ eq-eqb (peer x) (peer x) refl
+
+    go : (c : Bool) → (at x == a && peer x == b) ≡ c → (d : Bool) → (at x == b && peer x == a) ≡ d
+        → length xs ≤ length (filter (λ x. at x == a && peer x == b) xs) + length (filter (λ x. at x == b && peer x == a) xs)
+        → suc (length xs) ≤ length (if c then x ∷ filter (λ x. at x == a && peer x == b) xs else filter (λ x. at x == a && peer x == b) xs) + length (if d then x ∷ filter (λ x. at x == b && peer x == a) xs else filter (λ x. at x == b && peer x == a) xs)
+    go true i true j e = omega (arith, e)
+    go true i false j e = omega (arith, e)
+    go false i true j e = omega (arith, e)
+    go false i false j e =
+        let found : (if between (at x) (peer x) x then x ∷ filter (λ y. at y == at x && peer y == peer x) xs else filter (λ y. at y == at x && peer y == peer x) xs) ≡ [] = none (at x) (peer x) i j in
+        let nay : x ∷ filter (λ y. at y == at x && peer y == peer x) xs ≡ [] =
+        sym (ap (λ (y : Bool). if y then x ∷ filter (λ y. at y == at x && peer y == peer x) xs else filter (λ y. at y == at x && peer y == peer x) xs) itself) ∙ found in absurd (cc nay)
+
+-- ---- messages that are kept
+
+-- one of each of so many links
+few_links : (from to : ℕ) (kept : List Kept) → ((on : ℕ) → length (filter (is_of from to on) kept) ≤ 1) → (n : ℕ) → length (filter (λ k. k.from == from && k.to == to && nat_lt k.link n) kept) ≤ n
+few_links from to kept one zero = none kept
+  where
+    below : (x : ℕ) → nat_lt x 0 ≡ false
+    below x = grind (arith, nat_tests)
+
+    none : (kept : List Kept) → length (filter (λ k. k.from == from && k.to == to && nat_lt k.link 0) kept) ≤ 0
+    none [] = omega arith
+    none (k ∷ kept) = go (k.from == from && k.to == to) (nat_lt k.link 0) (below k.link) (none kept)
+      where
+        go : (x y : Bool) → y ≡ false → length (filter (λ k. k.from == from && k.to == to && nat_lt k.link 0) kept) ≤ 0
+            → length (if x && y then k ∷ filter (λ k. k.from == from && k.to == to && nat_lt k.link 0) kept else filter (λ k. k.from == from && k.to == to && nat_lt k.link 0) kept) ≤ 0
+        go true true e l = absurd (cc e)
+        go true false e l = l
+        go false y e l = l
+few_links from to kept one (suc n) =
+    let rest = few_links from to kept one n in
+    let last = one n in
+    let all = either_length (λ k. k.from == from && k.to == to && nat_lt k.link (suc n)) (λ k. k.from == from && k.to == to && nat_lt k.link n) (is_of from to n) which kept in
+    omega (arith, rest, last, all)
+  where
+    or_last : (x : ℕ) → nat_lt x (suc n) ≡ true → nat_lt x n ≡ false → (x == n) ≡ true
+    or_last x e f = grind (arith, nat_tests)
+
+    which : (k : Kept) → (k.from == from && k.to == to && nat_lt k.link (suc n)) ≡ true → ((k.from == from && k.to == to && nat_lt k.link n) ≡ true) ⊎ (is_of from to n k ≡ true)
+    which k e = go (nat_lt k.link n) refl
+      where
+        parts : ((k.from == from && k.to == to) ≡ true) × (nat_lt k.link (suc n) ≡ true)
+        parts = and_parts (k.from == from && k.to == to) (nat_lt k.link (suc n)) e
+
+        go : (y : Bool) → nat_lt k.link n ≡ y → ((k.from == from && k.to == to && nat_lt k.link n) ≡ true) ⊎ (is_of from to n k ≡ true)
+        go true f = inl (ap (λ (z : Bool). z && nat_lt k.link n) parts.0 ∙ f)
+        go false f = inr (ap (λ (z : Bool). z && (k.link == n)) parts.0 ∙ or_last k.link parts.1 f)
+
+-- all are of the two
+all_of_two : (a b : ℕ) (kept : List Kept) → EachKept (IsOfTwo a b) kept
+    → length kept ≤ length (filter (λ k. k.from == a && k.to == b && nat_lt k.link 256) kept) + length (filter (λ k. k.from == b && k.to == a && nat_lt k.link 256) kept)
+all_of_two a b [] e = omega arith
+all_of_two a b (k ∷ kept) (h, e) =
+    go (k.from == a && k.to == b && nat_lt k.link 256) refl (k.from == b && k.to == a && nat_lt k.link 256) refl (all_of_two a b kept e)
+  where
+    under : (x : ℕ) → x < 256 → nat_lt x 256 ≡ true
+    under x l = grind (arith, nat_tests)
+
+    so : (from to : ℕ) → k.from ≡ from → k.to ≡ to → (k.from == from && k.to == to && nat_lt k.link 256) ≡ true
+    so from to i j =
+        ap (λ (x : Bool). x && (k.to == to) && nat_lt k.link 256) (eq-eqb k.from from i) ∙ ap (λ (x : Bool). x && nat_lt k.link 256) (eq-eqb k.to to j) ∙ under k.link h.1
+
+    go : (c : Bool) → (k.from == a && k.to == b && nat_lt k.link 256) ≡ c → (d : Bool) → (k.from == b && k.to == a && nat_lt k.link 256) ≡ d
+        → length kept ≤ length (filter (λ k. k.from == a && k.to == b && nat_lt k.link 256) kept) + length (filter (λ k. k.from == b && k.to == a && nat_lt k.link 256) kept)
+        → suc (length kept) ≤ length (if c then k ∷ filter (λ k. k.from == a && k.to == b && nat_lt k.link 256) kept else filter (λ k. k.from == a && k.to == b && nat_lt k.link 256) kept)
+        + length (if d then k ∷ filter (λ k. k.from == b && k.to == a && nat_lt k.link 256) kept else filter (λ k. k.from == b && k.to == a && nat_lt k.link 256) kept)
+    go true i true j l = omega (arith, l)
+    go true i false j l = omega (arith, l)
+    go false i true j l = omega (arith, l)
+    go false i false j l = absurd (none h.0)
+      where
+        none : ((k.from ≡ a) × (k.to ≡ b)) ⊎ ((k.from ≡ b) × (k.to ≡ a)) → ⊥
+        none (inl y) = let no : true ≡ false = sym (so a b y.0 y.1) ∙ i in cc no
+        none (inr y) = let no : true ≡ false = sym (so b a y.0 y.1) ∙ j in cc no
+
+told_one : (t : OnLink) (kept : List Kept) → Tells t kept → length kept ≤ 1
+told_one t [] h = omega arith
+told_one t (k ∷ []) h = omega arith
+told_one t (k ∷ other ∷ more) h = absurd h
+
+-- where of each link the subnet is told, no more than two a link are kept
+pub kept_few : (a b : ℕ) (going coming : ℕ → OnLink) (umpire : Umpire) → ((on : ℕ) → Tells (going on) (filter (is_of a b on) umpire.kept)) → ((on : ℕ) → Tells (coming on) (filter (is_of b a on) umpire.kept))
+    → EachKept (IsOfTwo a b) umpire.kept → length umpire.kept ≤ 512
+kept_few a b going coming umpire g c e =
+    let x = few_links a b umpire.kept (λ on. told_one (going on) (filter (is_of a b on) umpire.kept) (g on)) 256 in
+    let y = few_links b a umpire.kept (λ on. told_one (coming on) (filter (is_of b a on) umpire.kept) (c on)) 256 in
+    let z = all_of_two a b umpire.kept e in
+    omega (arith, x, y, z)
+
+-- ---- what is known of all records, beside what is known of the two hosts
+
+pub record Tame (a b : ℕ) (umpire : Umpire) : Type 0 where
+  pub once : AskedOnce umpire.books
+  pub others : (me n : ℕ) → (me == a && n == b) ≡ false → (me == b && n == a) ≡ false → Clear me n umpire.books
+  pub each : EachKept (IsOfTwo a b) umpire.kept
+
+pub tame_new : (a b : ℕ) → Tame a b (new_umpire false)
+tame_new a b = record { once = λ at peer host. tt; others = λ me n d o. (refl, (refl, refl)); each = tt }
+
+pub tame_widens : (a b : ℕ) (umpire now : Umpire) → Widens a b umpire now → Tame a b umpire → Tame a b now
+tame_widens a b umpire now w t = record {
+  once = w.books.once t.once;
+  others = λ me n d o. let k = w.others me n d o in let c = t.others me n d o in (k.lives ∙ c.0, (k.marks ∙ c.1.0, k.dues ∙ c.1.1));
+  each = w.each t.each;
+}
+
+-- ---- where little is between the two, there is room
+
+-- between two hosts
+pub record FewBetween (me n : ℕ) (b : SeenBooks) : Type 0 where
+  pub lives : length (filter (is_life_between me n) b.lives) ≤ 1800
+  pub marks : length (filter (is_mark_between me n) b.marks) ≤ 1800
+  pub dues : length (filter (is_due_between me n) b.dues) ≤ 1800
+
+pub record Roomy (umpire : Umpire) : Type 0 where
+  pub books : HasPlaces 363 umpire.books
+  pub kept : length umpire.kept + 1 ≤ MAX_KEPT
+  pub unfilled : umpire.full ≡ false
+
+pub has_room_now : (a b : ℕ) (umpire : Umpire) → Tame a b umpire → FewBetween a b umpire.books → FewBetween b a umpire.books → length umpire.kept ≤ 512 → umpire.full ≡ false → umpire.books.full ≡ false → Roomy umpire
+has_room_now a b umpire t x y k f g =
+    let books = umpire.books in
+    let l = two_length (λ (life : Life). life.at) (λ (life : Life). life.peer) a b books.lives (λ me n d o. (t.others me n d o).0) in
+    let m = two_length (λ (mark : Mark). mark.at) (λ (mark : Mark). mark.peer) a b books.marks (λ me n d o. (t.others me n d o).1.0) in
+    let d = two_length (λ (due : Due). due.at) (λ (due : Due). due.peer) a b books.dues (λ me n d o. (t.others me n d o).1.1) in
+    let xl = x.lives in let xm = x.marks in let xd = x.dues in let yl = y.lives in let ym = y.marks in let yd = y.dues in
+    record {
+      books = record { lives = omega (arith, l, xl, yl); marks = omega (arith, m, xm, ym); dues = omega (arith, d, xd, yd); unfilled = g };
+      kept = omega (arith, k);
+      unfilled = f;
+    }
+
+-- and after one record nothing is full
+pub stays_open : (a b : ℕ) (umpire : Umpire) (way : Way) (at : ℕ) (bits : List Bool) → IsBetween a b at (event_of way at bits) → record_findings umpire way at bits ≡ [] → Roomy umpire
+    → ((after_record umpire way at bits).full ≡ false) × ((after_record umpire way at bits).books.full ≡ false)
+stays_open a b umpire way at bits i v r = let w = record_widens a b umpire way at bits i v in (w.unfilled r.unfilled r.kept, w.books.unfilled r.books)

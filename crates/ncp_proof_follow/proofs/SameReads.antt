@@ -1,0 +1,189 @@
+-- What is read of a message in which nothing is found does the same to what is judged and to what is followed.
+use Rattle.std.proofs.Common.{◌≡◌, ℕ, ◌==◌, Bool, true, false, not, ◌&&◌, nat_le, if◌then◌else◌, List, [], ◌++◌, map, length, Option, Result, option_to_list, refl, sym, ap, ◌∙◌, subst, arith}
+use Rattle.std.specs.Prelude.{nat_lt}
+use Rattle.std.proofs.lemmas.Bool.{eqb-true}
+use Rattle.std.proofs.lemmas.Bool.Decides.{nat_tests}
+use Rattle.ncp_leader.specs.Message.{Message}
+use Rattle.ncp_terms.specs.declared.command.Command.{Command}
+use Rattle.ncp_terms.specs.declared.fault.CommandFault.{CommandFault}
+use Rattle.ncp_umpire.specs.declared.books.TheConstants.{MAX_BOOKS}
+use Rattle.ncp_umpire.specs.declared.finding.Finding.{Finding}
+use Rattle.ncp_umpire.specs.declared.finding.Thing.{Thing}
+use Rattle.ncp_umpire.specs.declared.kept.Kept.{Kept}
+use Rattle.ncp_umpire.specs.declared.message.Reading.{Reading}
+use Rattle.ncp_umpire.specs.declared.message.Reading.TheVariants.{Stop, Text, Control}
+use Rattle.ncp_umpire.specs.declared.phase.Turn.{Turn}
+use Rattle.ncp_umpire.specs.declared.view.View.{View}
+use Rattle.ncp_umpire.specs.Lives.{SeenBooks}
+use Rattle.ncp_umpire.specs.Messages.{is_unused, judged_reading}
+use Rattle.ncp_umpire.specs.Phases.{broken_by, is_early, early_finding, after_items, missing_finding}
+use Rattle.ncp_umpire.specs.Texts.{text_rules, books_after_text}
+use Rattle.ncp_umpire.specs.Speaking.{is_admission, after_all_said}
+use Rattle.ncp_umpire.specs.Talked.{reaches, talked_findings, after_talked, tells_left_out, left_out_findings, after_left_out, text_findings}
+use Rattle.ncp_umpire.specs.Judged.{is_roomy, items_said, control_findings, after_control, read_findings, after_read, books_after_read}
+use Rattle.ncp_follow.specs.declared.lives.TheConstants.{MAX_LIVES}
+use Rattle.ncp_follow.specs.declared.saying.Reading as followed
+use Rattle.ncp_follow.specs.declared.saying.Reading.TheVariants as read
+use Rattle.ncp_follow.specs.declared.session.Session.{Session}
+use Rattle.ncp_follow.specs.declared.tables.Tables.{Tables}
+use Rattle.ncp_follow.specs.Sessions.{is_heard, with_stray}
+use Rattle.ncp_follow.specs.Tables.{after_text}
+use Rattle.ncp_follow.specs.Followed.{is_text_told, text_session, followed_reading, read_session, read_tables}
+use Rattle.ncp_proof_umpire_whole.proofs.NeverRests.{none_early, thing_leaves, room_leaves}
+use Rattle.ncp_proof_follow.proofs.Besides.{front_none, rest_none, map_none}
+use Rattle.ncp_proof_follow.proofs.Calmly.{Calmly, calmly, none_rests, any_fewer}
+use Rattle.ncp_proof_follow.proofs.SameCommands.{Same, calmly_same, talk, turn}
+use Rattle.ncp_proof_follow.proofs.SameItems.{InTouch, Followed, heard_is, Judges, items_followed}
+use Rattle.ncp_proof_follow.proofs.SameTexts.{TextLed, text_led, text_same}
+
+-- ---- what is read: control on link 0, texts on the links of connections
+
+abbrev pub reading_as : Reading → followed.Reading
+reading_as Stop = read.Nothing
+reading_as Text = read.Text
+reading_as Control = read.Control
+
+pub reading_is : (message : Message) → followed_reading message ≡ reading_as (judged_reading message)
+reading_is message = go (message.leader.link == 0) refl (message.size == 8)
+  where
+    link : ℕ
+    link = message.leader.link
+
+    -- a link that is not 0 carries a connection unless it is unused
+    ranged : (link == 0) ≡ false → (nat_le 2 link && nat_le link 71) ≡ not (is_unused link)
+    ranged z = grind (arith, nat_tests)
+
+    unused_zero : (link == 0) ≡ true → is_unused link ≡ false
+    unused_zero z = ap is_unused (eqb-true link 0 z)
+
+    by : (x : Bool) → (if not x then read.Text else read.Nothing) ≡ reading_as (if x then Stop else Text)
+    by true = refl
+    by false = refl
+
+    go : (z : Bool) → (link == 0) ≡ z → (e : Bool)
+        → (if z then if e then read.Control else read.Nothing else if nat_le 2 link && nat_le link 71 then read.Text else read.Nothing)
+        ≡ reading_as (if is_unused link then Stop else if not z then Text else if e then Control else Stop)
+    go true z true = sym (ap (λ (x : Bool). reading_as (if x then Stop else Control)) (unused_zero z))
+    go true z false = sym (ap (λ (x : Bool). reading_as (if x then Stop else Stop)) (unused_zero z))
+    go false z e = ap (λ (x : Bool). if x then read.Text else read.Nothing) (ranged z) ∙ by (is_unused link)
+
+-- ---- a session in which a text is heard or not
+
+stray_touch : (v : View) (s : Session) (sent : Bool) (bits : ℕ) → InTouch v s → InTouch v (with_stray s sent bits)
+stray_touch v s true bits k = record { awake = k.awake; host_began = k.host_began; peer_began = k.peer_began; host_waits = k.host_waits; peer_waits = k.peer_waits }
+stray_touch v s false bits k = record { awake = k.awake; host_began = k.host_began; peer_began = k.peer_began; host_waits = k.host_waits; peer_waits = k.peer_waits }
+
+left_calmly : (at peer : ℕ) (turn : Turn) (room : Bool) (v : View) (b : SeenBooks) → Calmly b (after_left_out turn (record { at = at; peer = peer; sent = turn.sent }) room v b)
+left_calmly at peer turn room v b = go (tells_left_out turn room v b)
+  where
+    go : (x : Bool) → Calmly b (if x then after_all_said at peer b else b)
+    go true = record { lives = refl; calm = λ e. any_fewer (λ one. not (is_admission at peer one)) b.marks e }
+    go false = calmly b
+
+left_room : (at peer : ℕ) (turn : Turn) (room : Bool) (v : View) (b : SeenBooks) → (after_left_out turn (record { at = at; peer = peer; sent = turn.sent }) room v b).full ≡ b.full
+left_room at peer turn room v b = go (tells_left_out turn room v b)
+  where
+    go : (x : Bool) → (if x then after_all_said at peer b else b).full ≡ b.full
+    go true = refl
+    go false = refl
+
+module _ (number at peer by : ℕ) (busy : Option ℕ) (zero : Bool) (kept : List Kept) (roomy : (n : ℕ) → nat_lt n MAX_BOOKS ≡ true → nat_lt n MAX_LIVES ≡ true) (sent : Bool) where
+  abbrev pub Reader : Turn
+  Reader = Judges number at peer by busy zero kept roomy sent
+
+  module _ (v : View) (b : SeenBooks) (s : Session) (t : Tables) (k : Followed at peer v b s t) where
+    -- what is known after it
+    abbrev pub ReadSo : Message → Reading → Type 0
+    ReadSo message reading =
+        InTouch (after_read reading Reader message.text v) (read_session (reading_as reading) (turn number at peer sent kept roomy) message s t)
+        × Same (books_after_read Reader (talk number at peer sent kept roomy) kept message v b reading) (read_tables (reading_as reading) (turn number at peer sent kept roomy) message s t)
+
+    control_so : (message : Message) → control_findings Reader (talk number at peer sent kept roomy) kept message.text v b ≡ []
+        → (after_control Reader (talk number at peer sent kept roomy) kept message.text v b).full ≡ false → ReadSo message Control
+    control_so message none full = (subst (λ (w : View). InTouch w done) (sym (room_leaves Reader room next all.touch.awake.told)) all.touch, calmly_same mid (after_left_out Reader (talk number at peer sent kept roomy) room next mid) after (left_calmly at peer Reader room next mid) all.same)
+      where
+        items : List (Result Command CommandFault)
+        items = items_said message.text
+
+        room : Bool
+        room = is_roomy message.text
+
+        next : View
+        next = after_items Reader items v
+
+        mid : SeenBooks
+        mid = after_talked Reader (talk number at peer sent kept roomy) kept items v b
+
+        done : Session
+        done = read_session read.Control (turn number at peer sent kept roomy) message s t
+
+        after : Tables
+        after = read_tables read.Control (turn number at peer sent kept roomy) message s t
+
+        found : List Finding
+        found = talked_findings Reader (talk number at peer sent kept roomy) kept items v b
+
+        all : Followed at peer next mid done after
+        all =
+            items_followed number at peer by busy zero kept roomy sent items v b s t k
+            (front_none found (option_to_list (missing_finding Reader room next)) (front_none (found ++ option_to_list (missing_finding Reader room next)) (left_out_findings Reader (talk number at peer sent kept roomy) kept room next mid) none))
+            (sym (left_room at peer Reader room next mid) ∙ full)
+
+    -- what a text is, where it is heard
+    pub record HeardText (message : Message) : Type 0 where
+      pub early : is_early Reader Thing.Text v ≡ false
+      pub heard : is_heard s sent ≡ reaches Reader Thing.Text v
+      pub led : is_heard s sent ≡ true → TextLed (talk number at peer sent kept roomy) message.leader.link message b
+
+    pub text_heard : (message : Message) → b.full ≡ false → read_findings Reader (talk number at peer sent kept roomy) kept message v b Text ≡ [] → HeardText message
+    text_heard message full none = record { early = early; heard = heard; led = λ h. if_so (reaches Reader Thing.Text v) (sym heard ∙ h) (rest_none early_found found none) }
+      where
+        link : ℕ
+        link = message.leader.link
+
+        early_found : List Finding
+        early_found = option_to_list (early_finding Reader Thing.Text v)
+
+        found : List Finding
+        found = text_findings Reader (talk number at peer sent kept roomy) link message v b
+
+        early : is_early Reader Thing.Text v ≡ false
+        early = none_early Reader Thing.Text v k.touch.awake.told (front_none early_found found none)
+
+        heard : is_heard s sent ≡ reaches Reader Thing.Text v
+        heard = heard_is number at peer by sent busy zero kept roomy Thing.Text v s k.touch early
+
+        if_so : (x : Bool) → x ≡ true → (if x then map (broken_by Reader) (text_rules (talk number at peer sent kept roomy) link message b) else []) ≡ [] → TextLed (talk number at peer sent kept roomy) link message b
+        if_so true e none =
+            text_led (talk number at peer sent kept roomy) link message b (λ host on. none_rests at peer host on b k.same.calm) full
+            (map_none (broken_by Reader) (text_rules (talk number at peer sent kept roomy) link message b) none)
+        if_so false e none = absurd (cc e)
+
+    text_so : (message : Message) → b.full ≡ false → read_findings Reader (talk number at peer sent kept roomy) kept message v b Text ≡ [] → ReadSo message Text
+    text_so message full none = (subst (λ (w : View). InTouch w (text_session (turn number at peer sent kept roomy) link message.text s t)) (sym (thing_leaves Reader Thing.Text v h.early)) (touch (is_text_told (turn number at peer sent kept roomy) link s t)), same (is_heard s sent) refl)
+      where
+        link : ℕ
+        link = message.leader.link
+
+        h : HeardText message
+        h = text_heard message full none
+
+        touch : (x : Bool) → InTouch v (if x then s else with_stray s sent (length message.text))
+        touch true = k.touch
+        touch false = stray_touch v s sent (length message.text) k.touch
+
+        same : (x : Bool) → is_heard s sent ≡ x
+            → Same (if reaches Reader Thing.Text v then books_after_text (talk number at peer sent kept roomy) link message b else b) (if is_heard s sent then after_text (turn number at peer sent kept roomy) link message.size message.text t else t)
+        same true e =
+            subst (λ (x : Bool). Same (if x then books_after_text (talk number at peer sent kept roomy) link message b else b) (if is_heard s sent then after_text (turn number at peer sent kept roomy) link message.size message.text t else t)) (h.heard)
+            (subst (λ (x : Bool). Same (if x then books_after_text (talk number at peer sent kept roomy) link message b else b) (if x then after_text (turn number at peer sent kept roomy) link message.size message.text t else t)) (sym e)
+            (text_same (talk number at peer sent kept roomy) link message b number t k.same (h.led e)))
+        same false e =
+            subst (λ (x : Bool). Same (if x then books_after_text (talk number at peer sent kept roomy) link message b else b) (if is_heard s sent then after_text (turn number at peer sent kept roomy) link message.size message.text t else t)) (h.heard)
+            (subst (λ (x : Bool). Same (if x then books_after_text (talk number at peer sent kept roomy) link message b else b) (if x then after_text (turn number at peer sent kept roomy) link message.size message.text t else t)) (sym e) k.same)
+
+    pub read_so : (message : Message) (reading : Reading) → b.full ≡ false → read_findings Reader (talk number at peer sent kept roomy) kept message v b reading ≡ []
+        → (books_after_read Reader (talk number at peer sent kept roomy) kept message v b reading).full ≡ false → ReadSo message reading
+    read_so message Stop room none full = (k.touch, k.same)
+    read_so message Text room none full = text_so message room none
+    read_so message Control room none full = control_so message none full

@@ -1,0 +1,188 @@
+-- A text that goes out is told of the connection that has its link, and it is from the front of what was stored there.
+use Rattle.std.proofs.Common.{◌≡◌, ◌<◌, ◌≤◌, inr, ℕ, ◌*◌, ◌==◌, Bool, true, false, ◌&&◌, if◌then◌else◌, List, [], length, take, Option, None, Some, is_some, refl, sym, ap, ◌∙◌, subst, arith}
+use Rattle.std.specs.FinMap.{get}
+use Rattle.std.proofs.lemmas.List.{length-take-le}
+use Rattle.std.proofs.lemmas.List.Quantifiers.{position-Some}
+use Rattle.ncp_leader.specs.Message.{Message}
+use Rattle.ncp_terms.specs.declared.command.Command.{Command}
+use Rattle.ncp_slot.specs.declared.slot.Slot.{Slot}
+use Rattle.ncp_slot.specs.Slots.{LinkSlot, slot_at}
+use Rattle.ncp_model.specs.declared.pair.Pair.{Pair}
+use Rattle.ncp_model.specs.Act.{answer, Stays}
+use Rattle.ncp_model.specs.End.{End, is_live}
+use Rattle.ncp_model.specs.Ends.{Ends, pair_of, sender_on, cut_at, cut_in}
+use Rattle.ncp_model.specs.Pairs.{sends, receives}
+use Rattle.ncp_model.specs.Texts.{bytes_to_send, may_send, cut_bits}
+use Rattle.ncp_proof_watch.specs.Sound.{SoundEnd, SoundAt}
+use Rattle.ncp_proof_machine.specs.Hosts.{past_of, Pasts}
+use Rattle.ncp_proof_machine.proofs.EndsGood.{Good}
+use Rattle.ncp_host.specs.PeerState.{PeerState}
+use Rattle.ncp_host.specs.Output.{after_output}
+use Rattle.ncp_umpire.specs.declared.life.Life.{Life}
+use Rattle.ncp_umpire.specs.declared.life.Topic.{Topic}
+use Rattle.ncp_umpire.specs.Lives.{SeenBooks, unasked_life, life_in_place, is_marked}
+use Rattle.ncp_umpire.specs.Texts.{text_lead}
+use Rattle.ncp_umpire.proofs.BooksAt.{HasSockets}
+use Rattle.ncp_follow.specs.declared.life.Life as followed
+use Rattle.ncp_follow.specs.declared.tables.Tables.{Tables}
+use Rattle.ncp_follow.specs.declared.turn.Turn.{Turn}
+use Rattle.ncp_follow.specs.Lives.{new_life, is_used, takes_bits, life_at}
+use Rattle.ncp_follow.specs.Tables.{link_place, said_at, after_text}
+use Rattle.ncp_proof_umpire_seen.proofs.LinksReach.{Led, led_sender}
+use Rattle.ncp_proof_umpire_seen.proofs.OwnMoves.{sockets_of}
+use Rattle.ncp_proof_umpire_seen.proofs.TidyBooks.{Tidy}
+use Rattle.ncp_proof_umpire_counts.proofs.LinkPlaces.{OpensAt}
+use Rattle.ncp_proof_umpire_counts.proofs.LinksGo.{own_talk}
+use Rattle.ncp_proof_umpire_counts.proofs.TextGoes.{MaySend, may_send_is, SentOf, sent_of, opens, open_rules_none}
+use Rattle.ncp_proof_umpire_talk.proofs.Spoken.{Tells}
+use Rattle.ncp_proof_follow.proofs.Besides.{besides_length, besides_at}
+use Rattle.ncp_proof_follow.proofs.SameLives.{SameLife}
+use Rattle.ncp_proof_follow.proofs.Calmly.{none_rests}
+use Rattle.ncp_proof_follow.proofs.SameCommands.{Same}
+use Rattle.ncp_proof_follow.proofs.SameTexts.{TextLed, text_led, text_place}
+use Rattle.ncp_proof_follow.proofs.OtherAt.{first_here}
+use Rattle.ncp_proof_follow.proofs.OpensSo.{AllOpened}
+use Rattle.ncp_proof_follow.proofs.Placed.{Name, has_name, text_named, Placed}
+use Rattle.ncp_proof_follow.proofs.PlacedSteps.{SaidSo, said_so}
+use Rattle.ncp_proof_follow.proofs.PeerLives.{SoundAll, mine, text_cut}
+use Rattle.ncp_proof_follow.proofs.HostLives.{HostLives, gone_by, out_lives}
+use Rattle.ncp_proof_follow.proofs.HostAsks.{out_steady}
+use Rattle.ncp_proof_follow.proofs.Telling.{got_step, given_step, with_none}
+use Rattle.ncp_proof_follow.proofs.ControlComes.{AtHost}
+use Rattle.ncp_proof_follow.proofs.TextsTold.{one_way, named_so, grown, others, begins, takes_it, covers_it}
+
+-- what is cut: of the end that the link leads to, as it may send
+record CutFrom (on : ℕ) (m : Ends) (t : ℕ × List Bool) : Type 0 where
+  pub pair : Pair
+  pub e : End
+  pub led : sender_on on m ≡ Some (pair, e)
+  pub may : may_send pair e ≡ true
+  pub size : t.0 ≡ e.size
+  pub text : t.1 ≡ take (bytes_to_send e * e.size) e.stored
+
+cut_from : (on : ℕ) (m : Ends) (t : ℕ × List Bool) → answer (cut_in on m) ≡ Some t → CutFrom on m t
+cut_from on m t a = go (sender_on on m) refl a
+  where
+    go : (o : Option (Pair × End)) → sender_on on m ≡ o → answer (cut_at o) ≡ Some t → CutFrom on m t
+    go None l a = absurd (cc a)
+    go (Some (pair, e)) l a = by (may_send pair e) refl a
+      where
+        by : (x : Bool) → may_send pair e ≡ x → answer (if x then cut_bits (bytes_to_send e * e.size) e else Stays None) ≡ Some t → CutFrom on m t
+        by false k a = absurd (cc a)
+        by true k a =
+            let is : (e.size, take (bytes_to_send e * e.size) e.stored) ≡ t = cc a in
+            record { pair = pair; e = e; led = l; may = k; size = ap (λ (x : ℕ × List Bool). x.0) (sym is); text = ap (λ (x : ℕ × List Bool). x.1) (sym is) }
+
+stored_enough : (e : End) → bytes_to_send e * e.size ≤ length e.stored
+stored_enough e = grind arith
+
+module _ (number me n : ℕ) (s : PeerState) (pasts : Pasts) (sound : SoundAll s.peer.ends) (good : Good s.peer.ends) (b : SeenBooks) (t : Tables) (same : Same b t) (tidy : Tidy b) (room : b.full ≡ false) (placed : Placed t) (all : AllOpened t.lives)
+    (awaited : Bool) (w : List Command) (tells : Tells me n s.peer.ends awaited w b) (on : ℕ) (message : Message) (out : List Bool) (cut : ℕ × List Bool) (made : answer (cut_in on s.peer.ends) ≡ Some cut)
+    (sized : message.size ≡ cut.0) (worded : message.text ≡ cut.1)
+    (covered : (p : ℕ) → is_some (life_at t.lives p).place ≡ true → ((life_in_place b.lives p).messages ≤ (life_at t.lives p).left.messages) × ((life_in_place b.lives p).bits ≤ (life_at t.lives p).left.bits)) where
+  abbrev sent : Turn
+  sent = record { number = number; at = me; peer = n; sent = true }
+
+  abbrev now : Tables
+  now = after_text sent on message.size message.text t
+
+  abbrev name : Pair → Name
+  name q = record { at = me; peer = n; pair = q }
+
+  c : CutFrom on s.peer.ends cut
+  c = cut_from on s.peer.ends cut made
+
+  l : Led s.peer.ends on (sends c.pair) c.e.heard c.pair c.e
+  l = led_sender s.peer.ends on c.pair c.e c.led
+
+  may : MaySend c.pair c.e
+  may = may_send_is c.pair c.e c.may
+
+  end_sound : SoundEnd c.pair c.e
+  end_sound = subst (SoundAt c.pair) l.there (good.sound c.pair)
+
+  long : length message.text ≡ bytes_to_send c.e * c.e.size
+  long = ap length (worded ∙ c.text) ∙ length-take-le (bytes_to_send c.e * c.e.size) c.e.stored (stored_enough c.e)
+
+  unmarked : is_marked me n (Topic.LinkRests false on) b ≡ false
+  unmarked = none_rests me n false on b same.calm
+
+  of_it : SentOf me n on b (sockets_of c.pair) c.e
+  of_it = sent_of me n on s.peer.ends w b c.pair c.e l.there l.its_link may end_sound tells.held tells.meets.tally.pairs tells.counted unmarked
+
+  open_at : OpensAt me n false on b (text_lead (own_talk me n) on b) (sockets_of c.pair)
+  open_at = opens me n on s.peer.ends w b c.pair c.e l.there l.its_link may end_sound tells.held tells.meets.tally.pairs tells.counted message (sized ∙ c.size) long tidy tells.meets.unique unmarked
+
+  k : TextLed (own_talk me n) on message b
+  k =
+      text_led (own_talk me n) on message b (λ host link. none_rests me n host link b same.calm) room
+      (open_rules_none me n on s.peer.ends w b c.pair c.e l.there l.its_link may end_sound tells.held tells.meets.tally.pairs tells.counted message (sized ∙ c.size) long tidy tells.meets.unique unmarked)
+
+  abbrev judged : Life
+  judged = life_in_place b.lives k.place
+
+  abbrev told : followed.Life
+  told = life_at t.lives k.place
+
+  is_place : open_at.user.place ≡ k.place
+  is_place = cc (sym open_at.leads ∙ k.lead)
+
+  judged_is : judged ≡ of_it.life
+  judged_is = ap (life_in_place b.lives) (sym is_place) ∙ same_life
+    where
+      same_life : life_in_place b.lives open_at.user.place ≡ of_it.life
+      same_life = cc (sym open_at.user.seen ∙ of_it.seen)
+
+  found : link_place me n true on t.lives ≡ Some k.place
+  found = text_place (own_talk me n) on message b t k same.lives
+
+  within : k.place < length t.lives
+  within = (position-Some (is_used me n true on) t.lives k.place (new_life 0 0 0 0) found).0
+
+  one : SameLife judged told
+  one = besides_at SameLife b.lives t.lives k.place (unasked_life 0 0 0 0) (new_life 0 0 0 0) (subst (λ (x : ℕ). k.place < x) (besides_length SameLife b.lives t.lives same.lives) within) same.lives
+
+  so : SaidSo sent t placed told message.size message.text now
+  so = subst (λ (o : Option ℕ). SaidSo sent t placed told message.size message.text (said_at message.size message.text t o)) (sym found) (said_so sent t placed true on message.size message.text k.place found)
+
+  is_its : has_name (name c.pair) told ≡ true
+  is_its = named_so me n c.pair.local c.pair.remote told (one.at ∙ here.at) (one.peer ∙ here.peer) (one.local ∙ here.local) (one.remote ∙ here.remote)
+    where
+      here : HasSockets me n c.pair.local c.pair.remote judged
+      here = subst (λ (p : ℕ). HasSockets me n c.pair.local c.pair.remote (life_in_place b.lives p)) is_place open_at.user.sockets
+
+  taken : (is_some told.place && takes_bits told message.size (length message.text)) ≡ true
+  taken =
+      takes_it told message.size (length message.text) (ap (λ (o : Option ℕ). is_some o) (one.link ∙ ap (λ (x : Life). x.link) judged_is ∙ of_it.given))
+      (one.size ∙ ap (λ (x : Life). x.size) judged_is ∙ of_it.sized ∙ ap (λ (x : ℕ). Some x) (sym (sized ∙ c.size))) (one.host_left ∙ ap (λ (x : Life). x.host_left) judged_is ∙ of_it.left)
+      (one.peer_left ∙ ap (λ (x : Life). x.peer_left) judged_is ∙ of_it.cls)
+      (all (name c.pair) told (first_here (has_name (name c.pair)) t.lives k.place (new_life 0 0 0 0) within (placed.unique (name c.pair)) is_its))
+      (λ e. let d = covered k.place e in covers_it judged told (length message.text) k.enough d.0 d.1)
+
+  module _ (slot : slot_at s.slots on ≡ Slot.Empty) (z : (on == 0) ≡ false) where
+    lives : (q : Pair) → HostLives q s (after_output on out s) pasts pasts [] [] (mine q (Some c.pair) message.text) false
+    lives q =
+        subst (λ (xs : List Bool). HostLives q s (after_output on out s) pasts pasts [] [] xs false)
+        (ap (λ (x : LinkSlot). gone_by s pasts sound q x on) slot ∙ ap (λ (x : Bool). if x then [] else mine q (pair_of (sender_on on s.peer.ends)) (text_cut (answer (cut_in on s.peer.ends)))) z
+        ∙ ap (λ (o : Option (Pair × End)). mine q (pair_of o) (text_cut (answer (cut_in on s.peer.ends)))) c.led ∙ ap (λ (o : Option (ℕ × List Bool)). mine q (Some c.pair) (text_cut o)) made
+        ∙ ap (mine q (Some c.pair)) (sym worded))
+        (out_lives s pasts sound q on out)
+
+    pub text_goes_told : AtHost me n s pasts t → AtHost me n (after_output on out s) pasts now
+    text_goes_told at = record {
+      got = λ q r.
+          got_step q (get s.peer.ends q) (get (after_output on out s).peer.ends q) (past_of pasts q) (past_of pasts q) [] [] (mine q (Some c.pair) message.text) false (lives q) (text q t) (text q now)
+          (λ a i g. others me n sent t now placed c.pair told message.size message.text so is_its q (apart q r) ∙ sym (with_none (text q t))) (λ a i. begins me n sent t now placed c.pair told message.size message.text so is_its q) (anew q) (at.got q r);
+      given = λ q r.
+          given_step q (get s.peer.ends q) (get (after_output on out s).peer.ends q) (past_of pasts q) (past_of pasts q) [] [] (mine q (Some c.pair) message.text) false (lives q) (text q t) (text q now) r (inr (out_steady s sound q on out))
+          (λ a i. grown me n sent t now placed c.pair told message.size message.text so is_its taken q) (anew q) (at.given q r);
+    }
+      where
+        text : Pair → Tables → List Bool
+        text q x = text_named (name q) x
+
+        anew : (q : Pair) → is_live (get s.peer.ends q) ≡ false → is_live (get (after_output on out s).peer.ends q) ≡ true → text q now ≡ []
+        anew q a i = let nay : false ≡ true = (lives q).begins a i in absurd (cc nay)
+
+        apart : (q : Pair) → receives q ≡ true → (q ≡ c.pair) → ⊥
+        apart q r d = one_way c.pair may.sends (ap receives (sym d) ∙ r)

@@ -1,0 +1,3 @@
+pub mod TextTold
+pub mod ToldTexts
+pub mod Examples

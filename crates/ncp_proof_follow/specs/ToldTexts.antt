@@ -1,0 +1,77 @@
+-- What the text is that is told of a connection, in the file of what passes the interfaces of two hosts.
+use Rattle.std.specs.Prelude.{◌≡◌, ◌≢◌, ◌<◌, ℕ, ◌+◌, ◌-◌, ◌^◌, min, Bool, true, false, List, [], ◌∷◌, ◌++◌, length, take}
+use Rattle.std.specs.FinMap.{get}
+use Rattle.ncp_bits.specs.declared.bits.TheConstants.{MAX_BITS}
+use Rattle.ncp_model.specs.declared.pair.Pair.{Pair}
+use Rattle.ncp_model.specs.Pairs.{sends, turned}
+use Rattle.ncp_model.specs.End.{is_live, is_open, is_going}
+use Rattle.ncp_proof_watch.specs.Histories.{IsBeginning}
+use Rattle.ncp_proof_machine.specs.Hosts.{past_of}
+use Rattle.ncp_transcript_two.specs.World.{World, swap}
+use Rattle.ncp_transcript_two.specs.Watch.{Both, turn}
+use Rattle.ncp_transcript_two.specs.Underway.{sender_at, receiver_at}
+use Rattle.ncp_transcript_two.specs.declared.event.Event.{Event}
+use Rattle.ncp_transcript_two.specs.Between.{new_hosts}
+use Rattle.ncp_transcript_two.specs.Transcript.{Noted_world, new_world, AreSteps}
+use Rattle.ncp_transcript_two.specs.Seen.{seen}
+use Rattle.ncp_transcript_two.specs.OfRules.{histories_of}
+use Rattle.ncp_umpire.specs.declared.way.Way.{Way}
+use Rattle.ncp_umpire.specs.declared.way.Way.TheVariants.{ToImp, FromImp}
+use Rattle.ncp_proof_umpire.specs.Worlds.{world_file}
+use Rattle.ncp_follow.specs.declared.told.TheConstants.{MAX_TOLD}
+use Rattle.ncp_follow.specs.declared.follower.Follower.{Follower}
+use Rattle.ncp_follow.specs.Followed.{follower_after_record, new_follower}
+use Rattle.ncp_proof_follow.specs.TextTold.{text_told}
+
+-- ---- a file is followed
+
+abbrev pub is_to_imp : Way → Bool
+is_to_imp ToImp = true
+is_to_imp FromImp = false
+
+-- its records have numbers from this one on; a number stays at the largest
+abbrev pub followed_from : ℕ → List (ℕ × Way × List Bool) → Follower → Follower
+followed_from number [] follower = follower
+followed_from number (one ∷ more) follower =
+    followed_from (min (number + 1) (2 ^ 32 - 1)) more (follower_after_record number (is_to_imp one.1) one.0 one.2 follower)
+
+-- ---- what it is, of a pair from this host to that one
+
+-- at the receiver's interface, until the receiver closes: what it got
+abbrev pub ToldIsGot : Pair → World → Both → Follower → Type 0
+ToldIsGot pair v p follower =
+    is_live (get v.that.peer.ends (turned pair)) ≡ true → is_going (receiver_at pair v) ≡ false
+    → text_told v.there v.here (turned pair) follower.tables ≡ take MAX_BITS (past_of p.that (turned pair)).got
+
+-- after it closed, texts that come before its CLS goes out are told, and were not got
+abbrev pub GotIsTold : Pair → World → Both → Follower → Type 0
+GotIsTold pair v p follower =
+    is_live (get v.that.peer.ends (turned pair)) ≡ true
+    → IsBeginning (take MAX_BITS (past_of p.that (turned pair)).got) (text_told v.there v.here (turned pair) follower.tables)
+
+-- at the sender's interface: what was given, but for what is left of it; until the sender closes, that is what waits
+abbrev pub ToldIsGiven : Pair → World → Both → Follower → Type 0
+ToldIsGiven pair v p follower =
+    is_live (get v.this.peer.ends pair) ≡ true
+    → (sent : List Bool) × (rest : List Bool) × ((past_of p.this pair).given ≡ sent ++ rest)
+    × (text_told v.here v.there pair follower.tables ≡ take MAX_BITS sent) × (is_open (sender_at pair v) ≡ true → rest ≡ (sender_at pair v).stored)
+
+-- what is told at the receiver's interface is a beginning of what is told at the sender's
+abbrev pub ToldTwice : Pair → World → Follower → Type 0
+ToldTwice pair v follower =
+    is_open (sender_at pair v) ≡ true → is_open (receiver_at pair v) ≡ true
+    → IsBeginning (text_told v.there v.here (turned pair) follower.tables) (text_told v.here v.there pair follower.tables)
+
+abbrev pub IsTold : Pair → World → Both → Follower → Type 0
+IsTold pair v p follower = ToldIsGot pair v p follower × GotIsTold pair v p follower × ToldIsGiven pair v p follower × ToldTwice pair v follower
+
+-- Of two hosts with the subnet between them, whatever calls are made and whatever the subnet does in whatever order, so it is
+-- with what is followed of the file of what passes both interfaces, while fewer connections were opened than are told; of
+-- each pair that sends, either way.
+abbrev pub FollowTellsWhatWasGot : Type 0
+FollowTellsWhatWasGot =
+    (a b : ℕ) (happened : List Event) (now : Noted_world) (pair : Pair)
+    → a ≢ b → a < 256 → b < 256 → AreSteps happened (new_world a b) now → sends pair ≡ true
+    → let follower : Follower = followed_from 1 (world_file happened now.notes (new_hosts a b)) (new_follower false) in
+    length follower.tables.told < MAX_TOLD
+    → IsTold pair (seen now.hosts) (histories_of now.notes now.hosts) follower × IsTold pair (swap (seen now.hosts)) (turn (histories_of now.notes now.hosts)) follower
