@@ -5,3 +5,5 @@ pub mod LinksLead
 pub mod Lookups
 pub mod Makes
 pub mod ResetLists
+pub mod AmountParts
+pub mod Refusals

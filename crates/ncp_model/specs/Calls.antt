@@ -14,51 +14,54 @@ use Rattle.ncp_model.specs.Pairs.{sends, receives}
 use Rattle.ncp_model.specs.End.{End, or_new, is_going}
 use Rattle.ncp_model.specs.Act.{Act, Stays, Becomes, met, leaves, closing, is_room}
 
+-- A call is refused for the first reason that holds, and else does its act.
+
+abbrev pub refuse : CallFault → Bool → Result (Unit {0}) CallFault
+refuse fault holds = if holds then Err fault else Ok tt
+
+infixl 10 ◌>>◌
+abbrev pub ◌>>◌ : {A : Type 0} → Result (Unit {0}) CallFault → Result A CallFault → Result A CallFault
+(Ok _) >> next = next
+(Err fault) >> next = Err fault
+
+abbrev pub unless_refused : {A : Type 0} → Result (Unit {0}) CallFault → Act (Result A CallFault) → Act (Result A CallFault)
+unless_refused (Ok _) act = act
+unless_refused (Err fault) act = Stays (Err fault)
+
+-- a call on a pair that has an end
+abbrev pub at_entry : {A : Type 0} → (End → Act (Result A CallFault)) → Option End → Act (Result A CallFault)
+at_entry act None = Stays (Err NoEntry)
+at_entry act (Some e) = act e
+
 -- own: how many ends have an own request; full: the commands that wait leave no place for a call's
 
--- Whether an own request may be made: the reasons to refuse it, in order. Each test is told what
--- follows a refusal, and what follows where there is none.
+-- Whether an own request may be made: as far as the end goes, then the table and the queue, and whole.
 
--- the end was asked for, or is on its way out
-abbrev pub if_end_may_ask : {A : Type 0} → End → (CallFault → A) → A → A
-if_end_may_ask e refused accepted =
-    if e.asked && not (is_going e) then refused AlreadyAsked
-    else if is_going e then refused Closing
-    else accepted
-
--- or there is no place for another request, or for its command
-abbrev pub if_may_ask : {A : Type 0} → ℕ → Bool → Option End → (CallFault → A) → A → A
-if_may_ask own full before refused accepted =
-    if_end_may_ask (or_new before) refused
-    (if nat_le MAX_OWN own then refused TableFull
-    else if full then refused QueueFull
-    else accepted)
-
-abbrev pub if_may_ask_send : {A : Type 0} → Pair → ℕ → ℕ → ℕ → Bool → Option End → (CallFault → A) → A → A
-if_may_ask_send pair of_size with_room own full before refused accepted =
-    if not (sends pair) then refused BadSex
-    else if of_size == 0 then refused BadSize
-    else if not (is_room with_room) then refused BadRoom
-    else if_may_ask own full before refused accepted
-
-abbrev pub if_may_ask_receive : {A : Type 0} → Pair → ℕ → ℕ → Bool → Option End → (CallFault → A) → A → A
-if_may_ask_receive pair with_room own full before refused accepted =
-    if not (receives pair) then refused BadSex
-    else if not (is_room with_room) then refused BadRoom
-    else if_may_ask own full before refused accepted
-
--- what a request is answered before memory is asked for: as far as the end goes, with the table, and whole
+-- the end was not asked for, and is not on its way out
 abbrev pub end_to_ask : End → Result (Unit {0}) CallFault
-end_to_ask e = if_end_may_ask e Err (Ok tt)
+end_to_ask e = do
+  refuse AlreadyAsked (e.asked && not (is_going e))
+  refuse Closing (is_going e)
 
+-- there is a place for another request, and for its command
 abbrev pub may_ask : ℕ → Bool → Option End → Result (Unit {0}) CallFault
-may_ask own full before = if_may_ask own full before Err (Ok tt)
+may_ask own full before = do
+  end_to_ask (or_new before)
+  refuse TableFull (nat_le MAX_OWN own)
+  refuse QueueFull full
 
 abbrev pub may_ask_send : Pair → ℕ → ℕ → ℕ → Bool → Option End → Result (Unit {0}) CallFault
-may_ask_send pair of_size with_room own full before = if_may_ask_send pair of_size with_room own full before Err (Ok tt)
+may_ask_send pair of_size with_room own full before = do
+  refuse BadSex (not (sends pair))
+  refuse BadSize (of_size == 0)
+  refuse BadRoom (not (is_room with_room))
+  may_ask own full before
 
 abbrev pub may_ask_receive : Pair → ℕ → ℕ → Bool → Option End → Result (Unit {0}) CallFault
-may_ask_receive pair with_room own full before = if_may_ask_receive pair with_room own full before Err (Ok tt)
+may_ask_receive pair with_room own full before = do
+  refuse BadSex (not (receives pair))
+  refuse BadRoom (not (is_room with_room))
+  may_ask own full before
 
 -- The request to send: STR with the sender's byte size (NIC 8246, STR).
 
@@ -67,7 +70,7 @@ asked_to_send of_size with_room e = met (record e { asked = true; size = of_size
 
 abbrev pub ask_send : Pair → ℕ → ℕ → ℕ → Bool → Option End → Act (Result Command CallFault)
 ask_send pair of_size with_room own full before =
-    if_may_ask_send pair of_size with_room own full before (λ fault. Stays (Err fault))
+    unless_refused (may_ask_send pair of_size with_room own full before)
     (Becomes (asked_to_send of_size with_room (or_new before)) (Ok (Str pair.local pair.remote of_size)))
 
 -- The request to receive: RTS with the link that the receiver chooses (NIC 8246, RTS).
@@ -78,21 +81,42 @@ asked_to_receive on with_room e = met (record e { asked = true; link = on; room 
 -- on: the lowest link that no receiving end uses
 abbrev pub ask_receive : Pair → ℕ → ℕ → ℕ → Bool → Option End → Act (Result Command CallFault)
 ask_receive pair with_room on own full before =
-    if_may_ask_receive pair with_room own full before (λ fault. Stays (Err fault))
+    unless_refused (may_ask_receive pair with_room own full before)
     (Becomes (asked_to_receive on with_room (or_new before)) (Ok (Rts pair.local pair.remote on)))
 
 -- Closing (NIC 8246, CLS). With a text out the sender's CLS is only due: this profile's rule.
 
+abbrev pub may_close : Pair → Bool → End → Result (Unit {0}) CallFault
+may_close pair full e = do
+  refuse Closing (e.left || (e.leaving && sends pair))
+  refuse QueueFull full
+
 abbrev pub close_end : Pair → Bool → End → Act (Result (Option Command) CallFault)
 close_end pair full e =
-    if e.left || (e.leaving && sends pair) then Stays (Err Closing)
-    else if full then Stays (Err QueueFull)
-    else if sends pair && e.busy then Becomes (record e { leaving = true; stored = [] }) (Ok None)
-    else Becomes (leaves e) (Ok (Some (closing pair)))
+    unless_refused (may_close pair full e)
+    (if sends pair && e.busy then Becomes (record e { leaving = true; stored = [] }) (Ok None)
+    else Becomes (leaves e) (Ok (Some (closing pair))))
 
 abbrev pub close : Pair → Bool → Option End → Act (Result (Option Command) CallFault)
-close pair full None = Stays (Err NoEntry)
-close pair full (Some e) = close_end pair full e
+close pair full = at_entry (close_end pair full)
+
+-- Text to give, an allocation, a GVB and an interrupt want an open connection: both requests are there, and it is
+-- not on its way out.
+
+abbrev pub may_use : End → Result (Unit {0}) CallFault
+may_use e = do
+  refuse Closing (is_going e)
+  refuse NotOpen (not (e.asked && e.heard))
+
+abbrev pub may_send_on : Pair → End → Result (Unit {0}) CallFault
+may_send_on pair e = do
+  may_use e
+  refuse WrongEnd (not (sends pair))
+
+abbrev pub may_receive_on : Pair → End → Result (Unit {0}) CallFault
+may_receive_on pair e = do
+  may_use e
+  refuse WrongEnd (not (receives pair))
 
 -- Text to send joins what waits. It is a whole number of bytes: this profile's rule.
 
@@ -100,23 +124,29 @@ close pair full (Some e) = close_end pair full e
 abbrev pub fits : List Bool → End → Bool
 fits text e = nat_le (length e.stored + length text) e.room
 
+abbrev pub may_give : Pair → List Bool → End → Result (Unit {0}) CallFault
+may_give pair text e = do
+  may_send_on pair e
+  refuse NotWhole (not (length text % e.size == 0))
+  refuse NoRoom (not (fits text e))
+
 abbrev pub give_end : Pair → List Bool → End → Act (Result (Unit {0}) CallFault)
-give_end pair text e =
-    if is_going e then Stays (Err Closing)
-    else if not (e.asked && e.heard) then Stays (Err NotOpen)
-    else if not (sends pair) then Stays (Err WrongEnd)
-    else if not (length text % e.size == 0) then Stays (Err NotWhole)
-    else if not (fits text e) then Stays (Err NoRoom)
-    else Becomes (record e { stored = e.stored ++ text }) (Ok tt)
+give_end pair text e = unless_refused (may_give pair text e) (Becomes (record e { stored = e.stored ++ text }) (Ok tt))
 
 abbrev pub give : Pair → List Bool → Option End → Act (Result (Unit {0}) CallFault)
-give pair text None = Stays (Err NoEntry)
-give pair text (Some e) = give_end pair text e
+give pair text = at_entry (give_end pair text)
 
 -- Text that is held is taken from its front, in whole bytes: as many as are asked for, are held,
--- and fit one message. A leaving receiver that is emptied makes its CLS: this profile's rule.
+-- and fit one message. A leaving receiver still gives it out, and once it is emptied makes its CLS: this
+-- profile's rule.
 
--- how many bits of so many bytes: this profile's rule, as are the two that follow
+abbrev pub may_take : Pair → End → Result (Unit {0}) CallFault
+may_take pair e = do
+  refuse Closing e.left
+  refuse NotOpen (not e.opened)
+  refuse WrongEnd (not (receives pair))
+
+-- how many bits of so many bytes
 abbrev pub bits_to_take : ℕ → End → ℕ
 bits_to_take bytes e = min bytes (min (length e.stored / e.size) (MAX_TEXT / e.size)) * e.size
 
@@ -130,15 +160,10 @@ take_bits pair count e =
     else Becomes (record e { stored = drop count e.stored }) (Ok (take count e.stored, None))
 
 abbrev pub take_end : Pair → ℕ → End → Act (Result (List Bool × Option Command) CallFault)
-take_end pair bytes e =
-    if e.left then Stays (Err Closing)
-    else if not e.opened then Stays (Err NotOpen)
-    else if not (receives pair) then Stays (Err WrongEnd)
-    else take_bits pair (bits_to_take bytes e) e
+take_end pair bytes e = unless_refused (may_take pair e) (take_bits pair (bits_to_take bytes e) e)
 
 abbrev pub take_held : Pair → ℕ → Option End → Act (Result (List Bool × Option Command) CallFault)
-take_held pair bytes None = Stays (Err NoEntry)
-take_held pair bytes (Some e) = take_end pair bytes e
+take_held pair bytes = at_entry (take_end pair bytes)
 
 -- Allocation: ALL adds to what is outstanding (NIC 8246, ALL). It is made on an open connection
 -- only, so no text goes out before both requests have come.
@@ -148,47 +173,49 @@ abbrev pub is_too_much : ℕ → ℕ → End → Bool
 is_too_much more_messages more_bits e =
     nat_lt e.room (e.bits + length e.stored + more_bits) || nat_lt MAX_MESSAGES (e.messages + more_messages)
 
+abbrev pub may_allocate : Pair → ℕ → ℕ → Bool → End → Result (Unit {0}) CallFault
+may_allocate pair more_messages more_bits full e = do
+  may_receive_on pair e
+  refuse TooMuch (is_too_much more_messages more_bits e)
+  refuse QueueFull full
+
 abbrev pub allocate_end : Pair → ℕ → ℕ → Bool → End → Act (Result Command CallFault)
 allocate_end pair more_messages more_bits full e =
-    if is_going e then Stays (Err Closing)
-    else if not (e.asked && e.heard) then Stays (Err NotOpen)
-    else if not (receives pair) then Stays (Err WrongEnd)
-    else if is_too_much more_messages more_bits e then Stays (Err TooMuch)
-    else if full then Stays (Err QueueFull)
-    else Becomes (record e { messages = e.messages + more_messages; bits = e.bits + more_bits }) (Ok (All e.link more_messages more_bits))
+    unless_refused (may_allocate pair more_messages more_bits full e)
+    (Becomes (record e { messages = e.messages + more_messages; bits = e.bits + more_bits }) (Ok (All e.link more_messages more_bits)))
 
 abbrev pub allocate : Pair → ℕ → ℕ → Bool → Option End → Act (Result Command CallFault)
-allocate pair more_messages more_bits full None = Stays (Err NoEntry)
-allocate pair more_messages more_bits full (Some e) = allocate_end pair more_messages more_bits full e
+allocate pair more_messages more_bits full = at_entry (allocate_end pair more_messages more_bits full)
 
 -- Calling back: GVB asks for parts of the counters, and RET answers it (NIC 8246, GVB). One at a
 -- time: this profile's rule.
 
+abbrev pub may_call_back : Pair → Bool → End → Result (Unit {0}) CallFault
+may_call_back pair full e = do
+  may_receive_on pair e
+  refuse Busy e.recall
+  refuse QueueFull full
+
 abbrev pub call_back_end : Pair → ℕ → ℕ → Bool → End → Act (Result Command CallFault)
 call_back_end pair of_messages of_bits full e =
-    if is_going e then Stays (Err Closing)
-    else if not (e.asked && e.heard) then Stays (Err NotOpen)
-    else if not (receives pair) then Stays (Err WrongEnd)
-    else if e.recall then Stays (Err Busy)
-    else if full then Stays (Err QueueFull)
-    else Becomes (record e { recall = true }) (Ok (Gvb e.link of_messages of_bits))
+    unless_refused (may_call_back pair full e)
+    (Becomes (record e { recall = true }) (Ok (Gvb e.link of_messages of_bits)))
 
 abbrev pub call_back : Pair → ℕ → ℕ → Bool → Option End → Act (Result Command CallFault)
-call_back pair of_messages of_bits full None = Stays (Err NoEntry)
-call_back pair of_messages of_bits full (Some e) = call_back_end pair of_messages of_bits full e
+call_back pair of_messages of_bits full = at_entry (call_back_end pair of_messages of_bits full)
 
 -- Interrupts: INS from a sender, INR from a receiver (NIC 8246, INR and INS).
+
+abbrev pub may_interrupt : Bool → End → Result (Unit {0}) CallFault
+may_interrupt full e = do
+  may_use e
+  refuse QueueFull full
 
 abbrev pub interrupting : Pair → End → Command
 interrupting pair e = if sends pair then Ins e.link else Inr e.link
 
 abbrev pub interrupt_end : Pair → Bool → End → Act (Result Command CallFault)
-interrupt_end pair full e =
-    if is_going e then Stays (Err Closing)
-    else if not (e.asked && e.heard) then Stays (Err NotOpen)
-    else if full then Stays (Err QueueFull)
-    else Becomes e (Ok (interrupting pair e))
+interrupt_end pair full e = unless_refused (may_interrupt full e) (Becomes e (Ok (interrupting pair e)))
 
 abbrev pub interrupt : Pair → Bool → Option End → Act (Result Command CallFault)
-interrupt pair full None = Stays (Err NoEntry)
-interrupt pair full (Some e) = interrupt_end pair full e
+interrupt pair full = at_entry (interrupt_end pair full)

@@ -1,7 +1,6 @@
 -- One end of a connection: what one host knows of it (NIC 8246, connections). Its words opened,
 -- leaving and live, and that it ends with both CLSs, are this profile's.
-use Rattle.std.specs.Prelude.{ℕ, Bool, false, not, ◌&&◌, ◌||◌, List, [], Option, None, Some, refl}
-use Rattle.std.specs.Coded.{Coded, code_by, coded×, coded_ℕ, coded_bool, coded_list}
+use Rattle.std.specs.Prelude.{ℕ, Bool, false, not, ◌&&◌, ◌||◌, List, [], Option, None, Some}
 
 -- Whether it sends or receives is said by its pair of sockets. Each mark counts since the end began.
 pub record End : Type 0 where
@@ -62,29 +61,3 @@ is_live (Some e) = e.opened
 -- its CLS was made, and one came: the connection is over here (NIC 8246, termination)
 abbrev pub is_over : End → Bool
 is_over e = e.left && e.cls
-
--- an end as a tuple of its fields
-abbrev pub coded_end : Coded End
-coded_end =
-    code_by
-    (Bool × (Bool × (Bool × (Bool × (Bool × (Bool × (ℕ × (ℕ × (ℕ × (ℕ × (List Bool × (ℕ × (Bool × (Bool × ℕ))))))))))))))
-    (coded× coded_bool (coded× coded_bool (coded× coded_bool (coded× coded_bool (coded× coded_bool (coded× coded_bool (coded× coded_ℕ (coded× coded_ℕ (coded× coded_ℕ (coded× coded_ℕ (coded× (coded_list coded_bool) (coded× coded_ℕ (coded× coded_bool (coded× coded_bool coded_ℕ))))))))))))))
-    (λ e. (e.asked, (e.heard, (e.opened, (e.leaving, (e.left, (e.cls, (e.link, (e.size, (e.messages, (e.bits, (e.stored, (e.room, (e.busy, (e.recall, e.interrupts)))))))))))))))
-    (λ p. record {
-      asked = p.0;
-      heard = p.1.0;
-      opened = p.1.1.0;
-      leaving = p.1.1.1.0;
-      left = p.1.1.1.1.0;
-      cls = p.1.1.1.1.1.0;
-      link = p.1.1.1.1.1.1.0;
-      size = p.1.1.1.1.1.1.1.0;
-      messages = p.1.1.1.1.1.1.1.1.0;
-      bits = p.1.1.1.1.1.1.1.1.1.0;
-      stored = p.1.1.1.1.1.1.1.1.1.1.0;
-      room = p.1.1.1.1.1.1.1.1.1.1.1.0;
-      busy = p.1.1.1.1.1.1.1.1.1.1.1.1.0;
-      recall = p.1.1.1.1.1.1.1.1.1.1.1.1.1.0;
-      interrupts = p.1.1.1.1.1.1.1.1.1.1.1.1.1.1;
-    })
-    (λ _. refl)

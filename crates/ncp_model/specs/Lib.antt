@@ -20,3 +20,4 @@ pub mod OnlyEnds
 pub mod InUse
 pub mod InTables
 pub mod PhaseRows
+pub mod Codings

@@ -1,9 +1,8 @@
 -- Pairs of sockets (NIC 8246, sockets: an even one receives, an odd one sends, and a connection joins
 -- one of each). That each pair is judged by itself is this profile's rule.
-use Rattle.std.specs.Prelude.{ℕ, ◌%◌, ◌==◌, Bool, ◌&&◌, ◌||◌, refl}
+use Rattle.std.specs.Prelude.{ℕ, ◌%◌, ◌==◌, Bool, ◌&&◌, ◌||◌}
 use Rattle.std.specs.declared.cmp.Ordering.{Ordering}
 use Rattle.std.specs.Ordering.{nat_cmp, ordering_then}
-use Rattle.std.specs.Coded.{Coded, code_by, coded×, coded_ℕ}
 use Rattle.ncp_model.specs.declared.pair.Pair.{Pair}
 
 -- a receive socket is even, a send socket odd
@@ -32,9 +31,6 @@ same a b = a.local == b.local && a.remote == b.remote
 -- by the socket here, and then by the socket there
 abbrev pub pair_cmp : Pair → Pair → Ordering
 pair_cmp a b = ordering_then (nat_cmp a.local b.local) (nat_cmp a.remote b.remote)
-
-abbrev pub coded_pair : Coded Pair
-coded_pair = code_by (ℕ × ℕ) (coded× coded_ℕ coded_ℕ) (λ p. (p.local, p.remote)) (λ n. record { local = n.0; remote = n.1 }) (λ _. refl)
 
 -- the pair as the peer names it
 abbrev pub turned : Pair → Pair

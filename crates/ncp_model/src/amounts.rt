@@ -1,8 +1,15 @@
-//! The amounts of GVB.
+//! `Amount`, and what a GVB takes of one.
 ghost use Rattle.std.specs.Prelude.{◌≡◌};
 ghost use Rattle.ncp_model.specs.Amounts.{back};
 
 use crate::limits::GIVE_BACK_PARTS;
+
+/// So many messages, and so many bits.
+#[derive(Clone, Copy, Debug, Drop, PartialEq, Eq)]
+pub struct Amount {
+    pub messages: u64,
+    pub bits: u64,
+}
 
 /// How much of a counter is given back where so many 128ths of it are called back: rounded up,
 /// and never more than there is.

@@ -28,7 +28,7 @@ pub mod phases;
 pub mod profile;
 pub mod rows;
 
-pub use amounts::give_back;
+pub use amounts::{Amount, give_back};
 pub use call_fault::CallFault;
 pub use limits::{
     GIVE_BACK_PARTS, MAX_AMOUNT, MAX_BY_PEER, MAX_CALLED, MAX_CONTROL, MAX_COUNT, MAX_ERRORS,

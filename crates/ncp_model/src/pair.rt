@@ -1,6 +1,6 @@
 //! `Pair`.
 ghost use Rattle.std.specs.Prelude.{◌≡◌};
-ghost use Rattle.ncp_model.specs.Pairs.{sends, receives, is_proper};
+ghost use Rattle.ncp_model.specs.Pairs.{sends, receives, is_proper, turned};
 
 /// A connection, as one host names it. An even socket receives, an odd one sends.
 #[derive(Clone, Copy, Debug, Drop, PartialEq, Eq)]
@@ -39,5 +39,15 @@ impl Pair {
         ensures { result ≡ is_proper self.now }
     {
         self.sends() || self.receives()
+    }
+
+    /// The connection as the peer names it.
+    pub const fn turned(&self) -> Self
+        ensures { result ≡ turned self.now }
+    {
+        Pair {
+            local: self.remote,
+            remote: self.local,
+        }
     }
 }

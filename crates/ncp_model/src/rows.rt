@@ -1,7 +1,7 @@
 //! The worked rows on one end, computed from the definitions: each refusal, before all that are
 //! judged after it, and each effect, at its limits.
 ghost use Rattle.std.specs.Prelude.{◌≡◌, Bool, true, false, ◌*◌, length, ◌++◌, ◌∷◌, [], List, None, Some, Ok, Err};
-ghost use Rattle.ncp_model.specs.Amounts.{back};
+ghost use Rattle.ncp_model.specs.Amounts.{amount, no_amount, ◌⊕◌, ◌⊑◌, allowance, granted, returned, back};
 ghost use Rattle.ncp_model.specs.End.{End, new_end, or_new, is_open, is_live, is_over};
 ghost use Rattle.ncp_model.specs.Act.{Stays, Becomes, end_after, met, text_error};
 ghost use Rattle.ncp_model.specs.Calls.{bits_to_take, ask_send, ask_receive, close, give, take_held, allocate, call_back, interrupt};
@@ -51,6 +51,20 @@ pub fn asking_to_send()
     ensures size_before_room { ask_send outward 0 65537 0 false None ≡ refusal BadSize }
     ensures size_before_table { ask_send outward 0 64 64 true None ≡ refusal BadSize }
     ensures empty { ask_send outward 8 64 0 false (Some (loaded link_heard)) ≡ Becomes opened_end (Ok (Str 3 2 8)) }
+{}
+
+/// Amounts: of messages and of bits, each by itself. ALL grants what it carries, RET gives back, and no other command
+/// does either.
+pub fn amounts()
+    ensures sum { amount 1 20 ⊕ amount 3 400 ≡ amount 4 420 }
+    ensures none { amount 1 20 ⊕ no_amount ≡ amount 1 20 }
+    ensures within { amount 1 20 ⊑ amount 1 20 }
+    ensures over_messages { amount 2 20 ⊑ amount 1 400 → ⊥ }
+    ensures over_bits { amount 1 21 ⊑ amount 3 20 → ⊥ }
+    ensures of_an_end { allowance (record new_end { messages = 2; bits = 30 }) ≡ amount 2 30 }
+    ensures all { (granted (All 2 3 40) ≡ amount 3 40) × (returned (All 2 3 40) ≡ no_amount) }
+    ensures ret { (returned (Ret 2 3 40) ≡ amount 3 40) × (granted (Ret 2 3 40) ≡ no_amount) }
+    ensures gvb { (granted (Gvb 2 3 40) ≡ no_amount) × (returned (Gvb 2 3 40) ≡ no_amount) }
 {}
 
 /// Asking to receive, on the link that is given.

@@ -119,13 +119,13 @@ reasons pair (Happening.Interrupts full) before =
 reasons pair what before = []
 
 -- what a call was refused for
-abbrev pub refusal_of : Outcome → Option CallFault
-refusal_of (Outcome.Refused fault) = Some fault
-refusal_of outcome = None
+abbrev pub refused_with : Outcome → Option CallFault
+refused_with (Outcome.Refused fault) = Some fault
+refused_with outcome = None
 
 -- a call is refused for the first of its reasons that holds, and accepted where none does
 abbrev pub IsRefusedFirst : Happening → Type 0
-IsRefusedFirst call = (pair : Pair) (before : Option End) → refusal_of (happens pair call before).outcome ≡ first_refusal (reasons pair call before)
+IsRefusedFirst call = (pair : Pair) (before : Option End) → refused_with (happens pair call before).outcome ≡ first_refusal (reasons pair call before)
 
 -- whether the numbers of the refusals rise
 abbrev pub rises : ℕ → List ℕ → Bool
