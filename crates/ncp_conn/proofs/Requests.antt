@@ -1,5 +1,5 @@
 -- Requests: what a table is after them, and what their acts are by their tests.
-use Rattle.std.proofs.Common.{◌≡◌, ℕ, ◌+◌, ◌<◌, ◌≤◌, inl, inr, Bool, true, false, cond, not, ◌&&◌, ◌||◌, ◌==◌, nat_le, Option, Some, None, is_none, Result, Ok, Err, refl, sym, ap, ◌∙◌, subst, arith}
+use Rattle.std.proofs.Common.{◌≡◌, ℕ, ◌+◌, ◌<◌, ◌≤◌, inl, inr, Bool, true, false, cond, not, ◌&&◌, ◌||◌, ◌==◌, nat_le, Option, Some, None, is_none, Ok, Err, refl, sym, ap, ◌∙◌, subst, arith}
 use Rattle.std.specs.List.{count_by}
 use Rattle.std.specs.FinMap as map
 use Rattle.std.specs.FinMap.{insert, remove}
@@ -9,12 +9,13 @@ use Rattle.std.proofs.lemmas.Bool.Decides.{nat_tests}
 use Rattle.ncp_terms.specs.declared.command.Command.TheVariants.{Rts, Str}
 use Rattle.ncp_model.specs.declared.pair.Pair.{Pair}
 use Rattle.ncp_model.specs.declared.call_fault.CallFault.{CallFault}
-use Rattle.ncp_model.specs.declared.call_fault.CallFault.TheVariants.{AlreadyAsked, Closing, TableFull, QueueFull}
+use Rattle.ncp_model.specs.declared.call_fault.CallFault.TheVariants.{BadSex, BadSize, BadRoom, AlreadyAsked, Closing, TableFull, QueueFull}
 use Rattle.ncp_model.specs.declared.outcomes.Heard.TheVariants.{Nothing, Full}
 use Rattle.ncp_model.specs.Pairs.{sends, receives}
-use Rattle.ncp_model.specs.End.{End, new_end, or_new, is_going, is_over}
-use Rattle.ncp_model.specs.Act.{Act, Stays, Becomes, is_room, is_data_link, wrong_parameters}
-use Rattle.ncp_model.specs.Calls.{asked_to_send, asked_to_receive, end_to_ask}
+use Rattle.ncp_model.specs.End.{End, new_end, or_new, is_over}
+use Rattle.ncp_model.specs.Act.{Stays, Becomes, is_room, is_data_link, wrong_parameters}
+use Rattle.ncp_model.specs.Calls.{refuse, ◌>>◌, asked_to_send, asked_to_receive, end_to_ask, may_ask_send, may_ask_receive}
+use Rattle.ncp_model.proofs.Refusals.{not_refused, first_err, first_ok, stays_by, acts_by}
 use Rattle.ncp_model.specs.Commands.{errs, heard_link, heard_size}
 use Rattle.ncp_model.specs.Ends.{Ends, count, any, has_asked, is_by_peer, hears_link, uses_link, free_link, ask_send_in, ask_receive_in, map_after, hear_rts_in, hear_str_in, may_ask_in, wrong_rts_in, wrong_str_in}
 use Rattle.ncp_conn.specs.Entries.{IsKept, Led}
@@ -204,65 +205,35 @@ module _ (k : Pair) (of_size : ℕ) (m : Ends) (right : wrong_str_in k of_size m
 
 -- the own requests: what the tests of the pair give is what the act gives
 
-chain_err : {A : Type 0} (a b c d : Bool) (f : CallFault) (w : Act (Result A CallFault)) → cond a (Err AlreadyAsked) (cond b (Err Closing) (cond c (Err TableFull) (cond d (Err QueueFull) (Ok (tt {0}))))) ≡ Err f → cond a (Stays (Err AlreadyAsked)) (cond b (Stays (Err Closing)) (cond c (Stays (Err TableFull)) (cond d (Stays (Err QueueFull)) w))) ≡ Stays (Err f)
-chain_err true b c d f w h = let g : AlreadyAsked ≡ f = cc in ap (λ (x : CallFault). Stays (Err x)) g
-chain_err false true c d f w h = let g : Closing ≡ f = cc in ap (λ (x : CallFault). Stays (Err x)) g
-chain_err false false true d f w h = let g : TableFull ≡ f = cc in ap (λ (x : CallFault). Stays (Err x)) g
-chain_err false false false true f w h = let g : QueueFull ≡ f = cc in ap (λ (x : CallFault). Stays (Err x)) g
-chain_err false false false false f w h = absurd (cc)
-
-chain_ok : {A : Type 0} (a b c d : Bool) (w : Act (Result A CallFault)) → cond a (Err AlreadyAsked) (cond b (Err Closing) (cond c (Err TableFull) (cond d (Err QueueFull) (Ok (tt {0}))))) ≡ Ok (tt {0}) → cond a (Stays (Err AlreadyAsked)) (cond b (Stays (Err Closing)) (cond c (Stays (Err TableFull)) (cond d (Stays (Err QueueFull)) w))) ≡ w
-chain_ok true b c d w h = absurd (cc)
-chain_ok false true c d w h = absurd (cc)
-chain_ok false false true d w h = absurd (cc)
-chain_ok false false false true w h = absurd (cc)
-chain_ok false false false false w h = refl
-
-abbrev going : Ends → Pair → Bool
-going m k = is_going (or_new (map.get m k))
-
-abbrev again : Ends → Pair → Bool
-again m k = (or_new (map.get m k)).asked && not (going m k)
-
 module _ (k : Pair) (of_size room : ℕ) (full : Bool) (m : Ends) (ps : sends k ≡ true) (pz : (of_size == 0) ≡ false) (pr : is_room room ≡ true) where
-  send_tested : ask_send_in k of_size room full m ≡ cond (again m k) (Stays (Err AlreadyAsked)) (cond (going m k) (Stays (Err Closing)) (cond (nat_le 64 (count has_asked m)) (Stays (Err TableFull)) (cond full (Stays (Err QueueFull)) (Becomes (asked_to_send of_size room (or_new (map.get m k))) (Ok (Str k.local k.remote of_size))))))
-  send_tested = unless (not (sends k)) _ _ (ap not ps) ∙ unless (of_size == 0) _ _ pz ∙ unless (not (is_room room)) _ _ (ap not pr)
+  send_asked : may_ask_send k of_size room (count has_asked m) full (map.get m k) ≡ may_ask_in k full m
+  send_asked = not_refused BadSex (not (sends k)) _ (ap not ps) ∙ not_refused BadSize (of_size == 0) _ pz ∙ not_refused BadRoom (not (is_room room)) _ (ap not pr)
 
   pub send_err : (f : CallFault) → may_ask_in k full m ≡ Err f → ask_send_in k of_size room full m ≡ Stays (Err f)
-  send_err f h = send_tested ∙ chain_err (again m k) (going m k) (nat_le 64 (count has_asked m)) full f _ h
+  send_err f h = stays_by _ f _ (send_asked ∙ h)
 
   pub send_ok : may_ask_in k full m ≡ Ok tt → ask_send_in k of_size room full m ≡ Becomes (asked_to_send of_size room (or_new (map.get m k))) (Ok (Str k.local k.remote of_size))
-  send_ok h = send_tested ∙ chain_ok (again m k) (going m k) (nat_le 64 (count has_asked m)) full _ h
+  send_ok h = acts_by _ _ (send_asked ∙ h)
 
 module _ (k : Pair) (room : ℕ) (full : Bool) (m : Ends) (ps : receives k ≡ true) (pr : is_room room ≡ true) where
-  receive_tested : ask_receive_in k room full m ≡ cond (again m k) (Stays (Err AlreadyAsked)) (cond (going m k) (Stays (Err Closing)) (cond (nat_le 64 (count has_asked m)) (Stays (Err TableFull)) (cond full (Stays (Err QueueFull)) (Becomes (asked_to_receive (free_link m) room (or_new (map.get m k))) (Ok (Rts k.local k.remote (free_link m)))))))
-  receive_tested = unless (not (receives k)) _ _ (ap not ps) ∙ unless (not (is_room room)) _ _ (ap not pr)
+  receive_asked : may_ask_receive k room (count has_asked m) full (map.get m k) ≡ may_ask_in k full m
+  receive_asked = not_refused BadSex (not (receives k)) _ (ap not ps) ∙ not_refused BadRoom (not (is_room room)) _ (ap not pr)
 
   pub receive_err : (f : CallFault) → may_ask_in k full m ≡ Err f → ask_receive_in k room full m ≡ Stays (Err f)
-  receive_err f h = receive_tested ∙ chain_err (again m k) (going m k) (nat_le 64 (count has_asked m)) full f _ h
+  receive_err f h = stays_by _ f _ (receive_asked ∙ h)
 
   pub receive_ok : may_ask_in k full m ≡ Ok tt → ask_receive_in k room full m ≡ Becomes (asked_to_receive (free_link m) room (or_new (map.get m k))) (Ok (Rts k.local k.remote (free_link m)))
-  receive_ok h = receive_tested ∙ chain_ok (again m k) (going m k) (nat_le 64 (count has_asked m)) full _ h
+  receive_ok h = acts_by _ _ (receive_asked ∙ h)
 
 -- and whether a pair may ask, by its end, the table and the queue
 
-ask_chain_err : (a b c d : Bool) (f : CallFault) → cond a (Err AlreadyAsked) (cond b (Err Closing) (Ok (tt {0}))) ≡ Err f → cond a (Err AlreadyAsked) (cond b (Err Closing) (cond c (Err TableFull) (cond d (Err QueueFull) (Ok (tt {0}))))) ≡ Err f
-ask_chain_err true b c d f h = h
-ask_chain_err false true c d f h = h
-ask_chain_err false false c d f h = absurd (cc)
-
-ask_chain_ok : (a b c d : Bool) → cond a (Err AlreadyAsked) (cond b (Err Closing) (Ok (tt {0}))) ≡ Ok (tt {0}) → cond a (Err AlreadyAsked) (cond b (Err Closing) (cond c (Err TableFull) (cond d (Err QueueFull) (Ok (tt {0}))))) ≡ cond c (Err TableFull) (cond d (Err QueueFull) (Ok (tt {0})))
-ask_chain_ok true b c d h = absurd (cc)
-ask_chain_ok false true c d h = absurd (cc)
-ask_chain_ok false false c d h = refl
-
 pub may_err : (k : Pair) (full : Bool) (m : Ends) (f : CallFault) → end_to_ask (or_new (map.get m k)) ≡ Err f → may_ask_in k full m ≡ Err f
-may_err k full m f h = ask_chain_err (again m k) (going m k) (nat_le 64 (count has_asked m)) full f h
+may_err k full m f h = first_err (end_to_ask (or_new (map.get m k))) f _ h
 
-pub may_room : (k : Pair) (full : Bool) (m : Ends) → end_to_ask (or_new (map.get m k)) ≡ Ok tt → may_ask_in k full m ≡ cond (nat_le 64 (count has_asked m)) (Err TableFull) (cond full (Err QueueFull) (Ok tt))
-may_room k full m h = ask_chain_ok (again m k) (going m k) (nat_le 64 (count has_asked m)) full h
+pub may_room : (k : Pair) (full : Bool) (m : Ends) → end_to_ask (or_new (map.get m k)) ≡ Ok tt → may_ask_in k full m ≡ (refuse TableFull (nat_le 64 (count has_asked m)) >> refuse QueueFull full)
+may_room k full m h = first_ok (end_to_ask (or_new (map.get m k))) _ h
 
-not_asked : (a b c : Bool) → cond (a && not (b || c)) (Err AlreadyAsked) (cond (b || c) (Err Closing) (Ok (tt {0}))) ≡ Ok (tt {0}) → a ≡ false
+not_asked : (a b c : Bool) → (refuse AlreadyAsked (a && not (b || c)) >> refuse Closing (b || c)) ≡ Ok (tt {0}) → a ≡ false
 not_asked true true c h = absurd (cc)
 not_asked true false true h = absurd (cc)
 not_asked true false false h = absurd (cc)

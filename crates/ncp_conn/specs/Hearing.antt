@@ -1,12 +1,20 @@
 -- What a command does at the end to which its link leads, and what an act there leaves of the ends
 -- (NIC 8246, links).
-use Rattle.std.specs.Prelude.{ℕ}
+use Rattle.std.specs.Prelude.{ℕ, not, if◌then◌else◌, Option, None, Some}
 use Rattle.ncp_terms.specs.declared.command.Command.{Command}
 use Rattle.ncp_model.specs.declared.outcomes.Heard.{Heard}
-use Rattle.ncp_model.specs.End.{End}
-use Rattle.ncp_model.specs.Act.{Act}
+use Rattle.ncp_model.specs.declared.outcomes.Heard.TheVariants.{Reply, Late}
+use Rattle.ncp_model.specs.End.{End, is_going}
+use Rattle.ncp_model.specs.Act.{Act, error_of, not_connected}
 use Rattle.ncp_model.specs.Commands.{at_open}
 use Rattle.ncp_model.specs.Ends.{Ends, sender_on, receiver_on, end_of, pair_of, map_after_at}
+
+-- what `at_open` answers of an end that cannot hear a command; none if it can
+abbrev pub refusal_of : Command → End → Option Heard
+refusal_of command e =
+    if is_going e then Some Late
+    else if not e.opened then Some (Reply (error_of not_connected command))
+    else None
 
 -- the ends after an act at the sending end that heard a link, and at the receiving end that asked with it
 abbrev pub after_sender : {A : Type 0} → ℕ → Act A → Ends → Ends

@@ -15,6 +15,7 @@ mod interrupts;
 mod requests;
 mod restoring;
 mod texts;
+mod using;
 
 use crate::record::{End, Record};
 use ncp_bits::{BitStore, Bits, MAX_BITS};
@@ -46,8 +47,8 @@ pub(crate) struct Entry<S: BitStore> {
 impl<S: BitStore> Model for Entry<S> {
     ghost use Rattle.std.specs.Coded.{coded×};
     ghost use Rattle.ncp_model.specs.declared.pair.Pair.{Pair};
-    ghost use Rattle.ncp_model.specs.Pairs.{coded_pair};
-    ghost use Rattle.ncp_model.specs.End.{End as Ended, coded_end};
+    ghost use Rattle.ncp_model.specs.End.{End as Ended};
+    ghost use Rattle.ncp_model.specs.Codings.{coded_pair, coded_end};
     ghost use Rattle.ncp_conn.specs.Stores.{stored_in, room_in, Fits};
 
     ghost Value = { Pair × Ended };

@@ -39,8 +39,7 @@ pub struct Table<S: BitStore> {
 
 impl<S: BitStore> Model for Table<S> {
     ghost use Rattle.std.specs.FinMap.{code, from_entries};
-    ghost use Rattle.ncp_model.specs.Pairs.{coded_pair};
-    ghost use Rattle.ncp_model.specs.End.{coded_end};
+    ghost use Rattle.ncp_model.specs.Codings.{coded_pair, coded_end};
     ghost use Rattle.ncp_model.specs.Ends.{Ends};
     ghost use Rattle.slab.specs.Slab.{values};
     ghost use Rattle.ncp_conn.specs.Entries.{IsKept};

@@ -10,7 +10,7 @@ ghost use Rattle.ncp_conn.specs.Changes.{after, marks};
 use crate::entry::{Entry, refused};
 use ncp_bits::BitStore;
 use ncp_model::{CallFault, Heard, MAX_AMOUNT, MAX_MESSAGES, give_back};
-use ncp_terms::{Command, ERRONEOUS_PARAMETERS, SOCKET_NOT_CONNECTED};
+use ncp_terms::{Command, ERRONEOUS_PARAMETERS};
 
 // What of a counter is given back: no more than there is.
 fn part_back(counter: u32, fraction: u8) -> u32
@@ -42,15 +42,7 @@ impl<S: BitStore> Entry<S> {
         ensures err { OnErr result (self.new ≡ self.old) }
         ensures marks { marks self.new ≡ marks self.old }
     {
-        if self.is_going() {
-            return Err(CallFault::Closing);
-        }
-        if !(self.asked && self.heard) {
-            return Err(CallFault::NotOpen);
-        }
-        if !self.pair.receives() {
-            return Err(CallFault::WrongEnd);
-        }
+        self.may_receive_on()?;
         if self.is_too_much(messages, bits) {
             return Err(CallFault::TooMuch);
         }
@@ -73,15 +65,7 @@ impl<S: BitStore> Entry<S> {
         ensures err { OnErr result (self.new ≡ self.old) }
         ensures marks { marks self.new ≡ marks self.old }
     {
-        if self.is_going() {
-            return Err(CallFault::Closing);
-        }
-        if !(self.asked && self.heard) {
-            return Err(CallFault::NotOpen);
-        }
-        if !self.pair.receives() {
-            return Err(CallFault::WrongEnd);
-        }
+        self.may_receive_on()?;
         if self.recall {
             return Err(CallFault::Busy);
         }
@@ -110,11 +94,8 @@ impl<S: BitStore> Entry<S> {
         ensures entry { self.new ≡ after self.old (at_open command.now (all_at link messages bits) (Some self.old.1)) }
         ensures marks { marks self.new ≡ marks self.old }
     {
-        if self.is_going() {
-            return Heard::Late;
-        }
-        if !self.opened {
-            return refused(SOCKET_NOT_CONNECTED, command);
+        if let Some(refusal) = self.refusal_of(command) {
+            return refusal;
         }
         if u32::from(self.messages) + u32::from(messages) > u32::from(MAX_MESSAGES)
             || u64::from(self.bits) + u64::from(bits) > u64::from(MAX_AMOUNT)
@@ -132,11 +113,8 @@ impl<S: BitStore> Entry<S> {
         ensures entry { self.new ≡ after self.old (at_open command.now (gvb_at link fm fb) (Some self.old.1)) }
         ensures marks { marks self.new ≡ marks self.old }
     {
-        if self.is_going() {
-            return Heard::Late;
-        }
-        if !self.opened {
-            return refused(SOCKET_NOT_CONNECTED, command);
+        if let Some(refusal) = self.refusal_of(command) {
+            return refusal;
         }
         let messages_back = part_back(u32::from(self.messages), fm) as u16;
         let bits_back = part_back(self.bits, fb);
@@ -162,11 +140,8 @@ impl<S: BitStore> Entry<S> {
         ensures entry { self.new ≡ after self.old (at_open command.now (ret_at link messages bits) (Some self.old.1)) }
         ensures marks { marks self.new ≡ marks self.old }
     {
-        if self.is_going() {
-            return Heard::Late;
-        }
-        if !self.opened {
-            return refused(SOCKET_NOT_CONNECTED, command);
+        if let Some(refusal) = self.refusal_of(command) {
+            return refusal;
         }
         if messages > self.messages || bits > self.bits {
             return refused(ERRONEOUS_PARAMETERS, command);

@@ -5,10 +5,10 @@ ghost use Rattle.ncp_model.specs.Calls.{interrupt_end};
 ghost use Rattle.ncp_model.specs.Commands.{at_open, interrupted};
 ghost use Rattle.ncp_conn.specs.Changes.{after, marks};
 
-use crate::entry::{Entry, refused};
+use crate::entry::Entry;
 use ncp_bits::BitStore;
 use ncp_model::{CallFault, Heard};
-use ncp_terms::{Command, SOCKET_NOT_CONNECTED};
+use ncp_terms::Command;
 
 impl<S: BitStore> Entry<S> {
     /// An interrupt of the other side: INS from a sender, INR from a receiver.
@@ -18,12 +18,7 @@ impl<S: BitStore> Entry<S> {
         ensures err { OnErr result (self.new ≡ self.old) }
         ensures marks { marks self.new ≡ marks self.old }
     {
-        if self.is_going() {
-            return Err(CallFault::Closing);
-        }
-        if !(self.asked && self.heard) {
-            return Err(CallFault::NotOpen);
-        }
+        self.may_use()?;
         if full {
             return Err(CallFault::QueueFull);
         }
@@ -39,11 +34,8 @@ impl<S: BitStore> Entry<S> {
         ensures entry { self.new ≡ after self.old (at_open command.now interrupted (Some self.old.1)) }
         ensures marks { marks self.new ≡ marks self.old }
     {
-        if self.is_going() {
-            return Heard::Late;
-        }
-        if !self.opened {
-            return refused(SOCKET_NOT_CONNECTED, command);
+        if let Some(refusal) = self.refusal_of(command) {
+            return refusal;
         }
         self.interrupts = self.interrupts.saturating_add(1);
         Heard::Nothing

@@ -28,25 +28,17 @@ impl<S: BitStore> Entry<S> {
     }
 
     /// Text to send.
-    pub(crate) fn give(&mut self, text: &Bits) -> Result<(), CallFault>
-        ensures answer { result ≡ answer (give_end self.old.0 text.now self.old.1) }
-        ensures entry { self.new ≡ after self.old (give_end self.old.0 text.now self.old.1) }
+    pub(crate) fn give(&mut self, text: Part<'_>) -> Result<(), CallFault>
+        ensures answer { result ≡ answer (give_end self.old.0 text.entry self.old.1) }
+        ensures entry { self.new ≡ after self.old (give_end self.old.0 text.entry self.old.1) }
         ensures err { OnErr result (self.new ≡ self.old) }
         ensures marks { marks self.new ≡ marks self.old }
     {
-        if self.is_going() {
-            return Err(CallFault::Closing);
-        }
-        if !(self.asked && self.heard) {
-            return Err(CallFault::NotOpen);
-        }
-        if !self.pair.sends() {
-            return Err(CallFault::WrongEnd);
-        }
+        self.may_send_on()?;
         if !is_whole(text.len(), self.size) {
             return Err(CallFault::NotWhole);
         }
-        self.put_stored(text.whole())
+        self.put_stored(text)
     }
 
     // How many bits are taken where so many bytes are asked for.

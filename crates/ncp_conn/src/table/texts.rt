@@ -23,6 +23,15 @@ impl<S: BitStore> Table<S> {
         ensures table { self.new ≡ map_after self.old pair (give pair text.now (get self.old pair)) }
         ensures err { OnErr result (self.new ≡ self.old) }
     {
+        self.give_part(pair, text.whole())
+    }
+
+    /// [`Table::give`] of a text that is lent.
+    pub fn give_part(&mut self, pair: Pair, text: Part<'_>) -> Result<(), CallFault>
+        ensures answer { result ≡ answer (give pair text.entry (get self.old pair)) }
+        ensures table { self.new ≡ map_after self.old pair (give pair text.entry (get self.old pair)) }
+        ensures err { OnErr result (self.new ≡ self.old) }
+    {
         let Some(key) = self.entries.find(pair) else {
             return Err(CallFault::NoEntry);
         };

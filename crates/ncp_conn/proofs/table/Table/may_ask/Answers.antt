@@ -5,25 +5,28 @@ use Rattle.ncp_model.specs.Ends.{count, has_asked}
 use Rattle.ncp_conn.proofs.Asking.{le_yes, le_no}
 use Rattle.ncp_conn.proofs.Tables.{sum_is}
 use Rattle.ncp_conn.proofs.Requests.{may_room, may_first, when, unless}
+use Rattle.ncp_model.specs.declared.call_fault.CallFault.TheVariants.{TableFull, QueueFull}
+use Rattle.ncp_model.specs.Calls.{refuse}
+use Rattle.ncp_model.proofs.Refusals.{refused, not_refused}
 use Rattle.ncp_conn.proofs.table.Table.may_ask.Goals as goal
 
 pub returns-then-own_requests-ge-MAX_OWN-clause-told : goal.returns-then-own_requests-ge-MAX_OWN-clause-told
 returns-then-own_requests-ge-MAX_OWN-clause-told g c =
     let n : count has_asked c.args.self.now ≡ c.own_requests.result = sum_is c.self.inside.entries c.args.self.now c.self.view_is c.self.invariant has_asked ∙ sym c.own_requests.ensures in
     let b : nat_le 64 (count has_asked c.args.self.now) ≡ true = ap (nat_le 64) n ∙ le_yes 64 c.own_requests.result c.if-own_requests-ge-MAX_OWN.true in
-    sym (may_room c.args.pair c.args.full c.args.self.now (sym c.in_ok-end_may_ask.ensures) ∙ when (nat_le 64 (count has_asked c.args.self.now)) _ _ b)
+    sym (may_room c.args.pair c.args.full c.args.self.now (sym c.in_ok-end_may_ask.ensures) ∙ refused TableFull (nat_le 64 (count has_asked c.args.self.now)) (refuse QueueFull c.args.full) b)
 
 pub returns-then-full-clause-told : goal.returns-then-full-clause-told
 returns-then-full-clause-told g c =
     let n : count has_asked c.args.self.now ≡ c.own_requests.result = sum_is c.self.inside.entries c.args.self.now c.self.view_is c.self.invariant has_asked ∙ sym c.own_requests.ensures in
     let b : nat_le 64 (count has_asked c.args.self.now) ≡ false = ap (nat_le 64) n ∙ le_no 64 c.own_requests.result c.if-own_requests-ge-MAX_OWN.false in
-    sym (may_room c.args.pair c.args.full c.args.self.now (sym c.in_ok-end_may_ask.ensures) ∙ unless (nat_le 64 (count has_asked c.args.self.now)) _ _ b ∙ when c.args.full _ _ c.if-full.true)
+    sym (may_room c.args.pair c.args.full c.args.self.now (sym c.in_ok-end_may_ask.ensures) ∙ not_refused TableFull (nat_le 64 (count has_asked c.args.self.now)) (refuse QueueFull c.args.full) b ∙ when c.args.full _ _ c.if-full.true)
 
 pub returns-clause-told : goal.returns-clause-told
 returns-clause-told g c =
     let n : count has_asked c.args.self.now ≡ c.own_requests.result = sum_is c.self.inside.entries c.args.self.now c.self.view_is c.self.invariant has_asked ∙ sym c.own_requests.ensures in
     let b : nat_le 64 (count has_asked c.args.self.now) ≡ false = ap (nat_le 64) n ∙ le_no 64 c.own_requests.result c.if-own_requests-ge-MAX_OWN.false in
-    sym (may_room c.args.pair c.args.full c.args.self.now (sym c.in_ok-end_may_ask.ensures) ∙ unless (nat_le 64 (count has_asked c.args.self.now)) _ _ b ∙ unless c.args.full _ _ c.if-full.false)
+    sym (may_room c.args.pair c.args.full c.args.self.now (sym c.in_ok-end_may_ask.ensures) ∙ not_refused TableFull (nat_le 64 (count has_asked c.args.self.now)) (refuse QueueFull c.args.full) b ∙ unless c.args.full _ _ c.if-full.false)
 
 pub returns-clause-ok : goal.returns-clause-ok
 returns-clause-ok g c =
