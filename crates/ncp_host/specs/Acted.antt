@@ -1,5 +1,5 @@
 -- What comes of a peer, and goes out to it: steps of which private functions speak.
-use Rattle.std.specs.Prelude.{◌≡◌, ℕ, Bool, List, length, slice_get, drop, Option, Some}
+use Rattle.std.specs.Prelude.{ℕ, Bool, List, length, slice_get, drop, Option}
 use Rattle.ncp_terms.specs.declared.command.Command.{Command}
 use Rattle.ncp_control.specs.Reading.{commands_in, fault_in}
 use Rattle.ncp_control.specs.Texts.{items_of}

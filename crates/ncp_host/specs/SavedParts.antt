@@ -1,5 +1,5 @@
 -- Parts of a saved host, of which private functions speak.
-use Rattle.std.specs.Prelude.{◌≡◌, ℕ, Bool, List, [], ◌∷◌, ◌++◌, length, map, Option, Some}
+use Rattle.std.specs.Prelude.{◌≡◌, ℕ, Bool, List, [], ◌∷◌, ◌++◌, length, map, Some}
 use Rattle.ncp_numbers.specs.Bytes.{bytes_of}
 use Rattle.ncp_slot.specs.Slot.{kept_message}
 use Rattle.ncp_slot.specs.Slots.{LinkSlot}

@@ -104,6 +104,7 @@ fn is_judged(local: u32, remote: u32, sends: bool, receives: bool) -> bool {
         && pair.sends() == sends
         && pair.receives() == receives
         && pair.is_proper() == (sends || receives)
+        && pair.turned() == Pair::new(remote, local)
 }
 
 #[test]

@@ -5,7 +5,7 @@ ghost use Rattle.ncp_model.specs.Peers.{calls, comes_of, reply, reply_of_take, r
 ghost use Rattle.ncp_host.specs.Steps.{CalledOrNoMemory};
 
 use crate::association::Association;
-use ncp_bits::{BitStore, Bits};
+use ncp_bits::{BitStore, Bits, Part};
 use ncp_model::{CallFault, Pair};
 use ncp_terms::Command;
 
@@ -50,15 +50,15 @@ impl<S: BitStore> Association<S> {
     }
 
     /// Gives text to send, as `Table::give` has it.
-    pub(crate) fn give(&mut self, pair: Pair, text: &Bits) -> Result<(), CallFault>
-        ensures reply { result ≡ reply (comes_of pair (Give text.now) self.old) }
-        ensures peer { self.new ≡ calls pair (Give text.now) self.old }
+    pub(crate) fn give(&mut self, pair: Pair, text: Part<'_>) -> Result<(), CallFault>
+        ensures reply { result ≡ reply (comes_of pair (Give text.entry) self.old) }
+        ensures peer { self.new ≡ calls pair (Give text.entry) self.old }
         ensures err { OnErr result (self.new ≡ self.old) }
     {
         if !self.phase.is_up() {
             return Err(CallFault::NotUp);
         }
-        self.table.give(pair, text)
+        self.table.give_part(pair, text)
     }
 
     /// Takes held text from its front, as `Table::take` has it. It may make a command where none

@@ -7,7 +7,7 @@ ghost use Rattle.ncp_host.specs.Asked.{AsksOrNoMemory};
 ghost use Rattle.ncp_host.specs.Calls.{sockets, call_reply, after_call_to, take_reply, reset_reply, after_reset, echo_reply, after_echo, wake_reply, after_wake};
 
 use crate::host::{Host, find};
-use ncp_bits::{BitStore, Bits};
+use ncp_bits::{BitStore, Bits, Part};
 use ncp_model::{CallFault, Pair};
 
 impl<S: BitStore> Host<S> {
@@ -73,6 +73,15 @@ impl<S: BitStore> Host<S> {
     pub fn give(&mut self, peer: u8, pair: Pair, text: &Bits) -> Result<(), CallFault>
         ensures reply { result ≡ call_reply peer pair (Give text.now) self.old }
         ensures host { self.new ≡ after_call_to peer pair (Give text.now) self.old }
+        ensures err { OnErr result (self.new ≡ self.old) }
+    {
+        self.give_part(peer, pair, text.whole())
+    }
+
+    /// [`Host::give`] of a text that is lent.
+    pub fn give_part(&mut self, peer: u8, pair: Pair, text: Part<'_>) -> Result<(), CallFault>
+        ensures reply { result ≡ call_reply peer pair (Give text.entry) self.old }
+        ensures host { self.new ≡ after_call_to peer pair (Give text.entry) self.old }
         ensures err { OnErr result (self.new ≡ self.old) }
     {
         let place = find(self.numbers.as_slice(), &self.peers, peer)?;

@@ -16,7 +16,7 @@ use crate::counts::Counts;
 use crate::echoes::Errors;
 use crate::flags::Flags;
 use crate::peer::Peer;
-use ncp_bits::{BitStore, Bits};
+use ncp_bits::{BitStore, Bits, Part};
 use ncp_conn::{End, LinkSet, Record};
 use ncp_model::{CallFault, Pair};
 use ncp_terms::Command;
@@ -49,9 +49,9 @@ impl<S: BitStore> Peer<S> {
     }
 
     /// Gives text to send.
-    pub(crate) fn give(&mut self, pair: Pair, text: &Bits) -> Result<(), CallFault>
-        ensures reply { result ≡ reply (comes_of pair (Give text.now) self.old.peer) }
-        ensures state { self.new ≡ state_calls pair (Give text.now) self.old }
+    pub(crate) fn give(&mut self, pair: Pair, text: Part<'_>) -> Result<(), CallFault>
+        ensures reply { result ≡ reply (comes_of pair (Give text.entry) self.old.peer) }
+        ensures state { self.new ≡ state_calls pair (Give text.entry) self.old }
         ensures err { OnErr result (self.new ≡ self.old) }
     {
         self.association.give(pair, text)

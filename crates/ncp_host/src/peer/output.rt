@@ -84,9 +84,9 @@ impl<S: BitStore> Peer<S> {
         lower_of(again, cut)
     }
 
-    // Whether no message is to go out again, no text may go out, and no command waits: then nothing is ready.
-    // No slot is looked at.
-    fn is_idle(&self) -> bool
+    /// Whether no message is to go out again, no text may go out, and no command waits: then nothing is ready.
+    /// No slot is looked at.
+    pub(crate) fn is_idle(&self) -> bool
         ensures { result ≡ true → SilentFrom control_link None self.now }
     {
         if self.again.first_from(CONTROL_LINK).is_some() {
@@ -108,9 +108,6 @@ impl<S: BitStore> Peer<S> {
         ensures state { self.new ≡ after_next (next_of number self.old) self.old }
         ensures none { IfNone result (self.new ≡ self.old) }
     {
-        if self.is_idle() {
-            return None;
-        }
         if self.may_send_control() {
             if self.send_on(number, CONTROL_LINK) {
                 return Some(CONTROL_LINK);

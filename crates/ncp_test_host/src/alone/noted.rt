@@ -147,7 +147,8 @@ pub(super) fn says(rt: &impl Abort, note: &HostNote, want: &Want<'_>) -> bool {
 }
 
 fn is_text(rt: &impl Abort, message: &Message, bytes: &[u8]) -> bool {
-    message.to_bits() == bits_of(rt, bytes)
+    let wanted = bits_of(rt, bytes);
+    message.to_bits() == wanted && message.whole().to_bits() == wanted
 }
 
 fn says_what_is_done(note: &HostNote, want: &Want<'_>) -> bool {

@@ -1,23 +1,20 @@
-use Rattle.std.proofs.Common.{◌≡◌, ◌⊎◌, inl, inr, ℕ, ◌+◌, ◌<◌, ◌≤◌, ◌==◌, ◌%◌, Bool, true, false, not, ◌&&◌, ◌||◌, nat_le, nat_lt, if◌then◌else◌, length, Result, Ok, Err, refl, arith}
+use Rattle.std.proofs.Common.{◌≡◌, ◌⊎◌, inl, inr, ℕ, ◌+◌, ◌<◌, ◌≤◌, ◌==◌, ◌%◌, Bool, true, false, not, ◌&&◌, ◌||◌, nat_le, nat_lt, length, Result, Ok, Err, refl, arith}
 use Rattle.std.proofs.lemmas.Bool.Decides.{nat_tests}
 use Rattle.ncp_terms.specs.declared.command.Command.{Command}
 use Rattle.ncp_model.specs.declared.call_fault.CallFault.{CallFault}
 use Rattle.ncp_model.specs.declared.call_fault.CallFault.TheVariants.{Closing, NotOpen, WrongEnd, NotWhole, NoRoom, TooMuch, QueueFull}
 use Rattle.ncp_model.specs.Pairs.{sends, receives}
 use Rattle.ncp_model.specs.End.{End, is_going}
-use Rattle.ncp_model.specs.Act.{Act, Stays, Becomes, answer}
-use Rattle.ncp_model.specs.Calls.{fits, is_too_much}
+use Rattle.ncp_model.specs.Act.{Act, Becomes, answer}
+use Rattle.ncp_model.specs.Calls.{refuse, ◌>>◌, unless_refused, fits, is_too_much}
 use Rattle.ncp_host.proofs.laws.what_has_room.Goals as goal
 
 -- what a call answers, by what is judged before the room, by the room and behind it
 abbrev gives : Bool → Bool → Bool → Bool → Bool → End → Act (Result (Unit {0}) CallFault)
 gives going opened sending whole fitting after =
-    if going then Stays (Err Closing)
-    else if not opened then Stays (Err NotOpen)
-    else if not sending then Stays (Err WrongEnd)
-    else if not whole then Stays (Err NotWhole)
-    else if not fitting then Stays (Err NoRoom)
-    else Becomes after (Ok tt)
+    unless_refused
+    (((refuse Closing going >> refuse NotOpen (not opened)) >> refuse WrongEnd (not sending)) >> (refuse NotWhole (not whole) >> refuse NoRoom (not fitting)))
+    (Becomes after (Ok tt))
 
 given : (a b c d f : Bool) (e : End) → answer (gives a b c d f e) ≡ Ok tt → f ≡ true
 given true b c d f e h = absurd (cc)
@@ -37,12 +34,9 @@ not_given false true true true true e h = absurd (cc)
 
 abbrev allows : Bool → Bool → Bool → Bool → Bool → End → Command → Act (Result Command CallFault)
 allows going opened receiving much full after made =
-    if going then Stays (Err Closing)
-    else if not opened then Stays (Err NotOpen)
-    else if not receiving then Stays (Err WrongEnd)
-    else if much then Stays (Err TooMuch)
-    else if full then Stays (Err QueueFull)
-    else Becomes after (Ok made)
+    unless_refused
+    (((refuse Closing going >> refuse NotOpen (not opened)) >> refuse WrongEnd (not receiving)) >> (refuse TooMuch much >> refuse QueueFull full))
+    (Becomes after (Ok made))
 
 allowed : (a b c d f : Bool) (e : End) (made k : Command) → answer (allows a b c d f e made) ≡ Ok k → d ≡ false
 allowed true b c d f e made k h = absurd (cc)

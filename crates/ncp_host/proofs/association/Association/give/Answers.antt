@@ -9,6 +9,6 @@ use Rattle.ncp_host.proofs.association.Association.give.Goals as goal
 pub returns-clause-peer : goal.returns-clause-peer
 returns-clause-peer g c =
     let p : Peer = record { phase = c.self.inside.phase; ends = c.self.inside.table; echoes = c.self.inside.echoes } in
-    sym (made_none (record p { ends = c.give.new.self }) (sym c.is_up.ensures ∙ c.if-not-is_up.false))
-    ∙ called c.args.pair (Give c.args.text.now) p c.args.self.now (λ _. give c.args.pair c.args.text.now (get c.self.inside.table c.args.pair)) (λ _. []) (is_full c.self.inside.phase) c.give.new.self c.give.result
-    c.self.view_is (sym c.is_up.ensures ∙ c.if-not-is_up.false) refl refl refl c.give.ensures.answer c.give.ensures.table
+    sym (made_none (record p { ends = c.give_part.new.self }) (sym c.is_up.ensures ∙ c.if-not-is_up.false))
+    ∙ called c.args.pair (Give c.args.text) p c.args.self.now (λ _. give c.args.pair c.args.text (get c.self.inside.table c.args.pair)) (λ _. []) (is_full c.self.inside.phase) c.give_part.new.self c.give_part.result
+    c.self.view_is (sym c.is_up.ensures ∙ c.if-not-is_up.false) refl refl refl c.give_part.ensures.answer c.give_part.ensures.table

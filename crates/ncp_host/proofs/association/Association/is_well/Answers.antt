@@ -1,4 +1,4 @@
-use Rattle.std.proofs.Common.{true, sym, ap, ◌∙◌}
+use Rattle.std.proofs.Common.{sym, ap, ◌∙◌}
 use Rattle.std.specs.List.{list_all}
 use Rattle.ncp_model.specs.Peers.{Peer}
 use Rattle.ncp_host.specs.Soundness.{has_short_data}

@@ -1,14 +1,8 @@
 use Rattle.std.proofs.Common.{sym, ap, ◌∙◌, arith}
 use Rattle.ncp_host.specs.Output.{output_on, after_output_on}
-use Rattle.ncp_host.proofs.Outputs.{told_first, passed_first, told_here, passed_here, passed_to, passed_all, told_none, told_idle, silent}
+use Rattle.ncp_host.proofs.Outputs.{told_first, passed_first, told_here, passed_here, passed_to, passed_all, told_none, silent}
 use Rattle.ncp_host.proofs.peer.Peer.send_next.Goals.{then-may_send_control+else-send_on, else-may_send_control}
 use Rattle.ncp_host.proofs.peer.Peer.send_next.Goals as goal
-
-pub returns-then-is_idle-clause-link : goal.returns-then-is_idle-clause-link
-returns-then-is_idle-clause-link g c = (told_idle c.args.number c.args.self.now (c.is_idle.ensures c.if-is_idle.true)).link
-
-pub returns-then-is_idle-clause-state : goal.returns-then-is_idle-clause-state
-returns-then-is_idle-clause-state g c = (told_idle c.args.number c.args.self.now (c.is_idle.ensures c.if-is_idle.true)).state
 
 pub returns-then-send_on-clause-link : goal.returns-then-send_on-clause-link
 returns-then-send_on-clause-link g c = (told_first c.args.number c.args.self.now c.send_on.new.self (sym c.if-send_on.true ∙ c.send_on.ensures.sent) c.send_on.ensures.state).link
