@@ -198,7 +198,7 @@ fn convert_next<S: Source, W: Sink>(
     if !take_on(input, turn, message, records)? {
         return Ok(false);
     }
-    match say_message(out, turn.given, message) {
+    match say_message(out, turn.given, &message.whole()) {
         Ok(()) => Ok(true),
         Err(_) => Err(FileFault::WriteFailed),
     }
@@ -276,7 +276,7 @@ fn convert_messages<S: Source, W: Sink>(
     if !found {
         return Ok(());
     }
-    match say_message(out, turn.given, &message) {
+    match say_message(out, turn.given, &message.whole()) {
         Ok(()) => convert_rest(input, &mut message, out, turn),
         Err(_) => Err(FileFault::WriteFailed),
     }

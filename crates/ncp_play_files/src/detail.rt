@@ -9,7 +9,7 @@ ghost use Rattle.ncp_play_stream.specs.Pieces.{lost_pieces};
 
 use crate::control::is_of_control;
 use crate::line::LONGEST_LINE;
-use ncp_bits::{Bits, MAX_BITS, Part};
+use ncp_bits::{MAX_BITS, Part};
 use ncp_control::Commands;
 use ncp_leader::{MessageFault, Regular, read_regular_in};
 use ncp_play_page::{Outlet, PAGE_SIZE, Page, push_field};
@@ -289,27 +289,14 @@ fn say_message<W: Sink>(out: &mut Outlet<'_, W>, message: &Regular<'_>) -> Resul
 
 /// Says the detail lines of a regular message: appends them to the page, and writes it where they do
 /// not fit.
-pub fn say_details<W: Sink>(out: &mut Outlet<'_, W>, bits: &Bits) -> Result<(), Failed>
-    ensures told { SaysOrBreaks W.Sink out.old (message_lines (message_in bits.now)) result out.new }
-    ensures writes { credit W.Sink out.old ≤ credit W.Sink out.new + lost_pieces (is_err result) }
-    ensures mark { write_failed W.Sink out.new ≡ (write_failed W.Sink out.old || is_err result) }
-    ensures same_outlet { SameOutlet out.old out.new }
-{
-    say_details_in(out, &bits.whole())
-}
-
-/// As [`say_details`], of a message that stands in other bits or in bytes.
 #[inline(always)]
-pub(crate) fn say_details_in<W: Sink>(
-    out: &mut Outlet<'_, W>,
-    part: &Part<'_>,
-) -> Result<(), Failed>
-    ensures told { SaysOrBreaks W.Sink out.old (message_lines (message_in part.now)) result out.new }
+pub fn say_details<W: Sink>(out: &mut Outlet<'_, W>, message: &Part<'_>) -> Result<(), Failed>
+    ensures told { SaysOrBreaks W.Sink out.old (message_lines (message_in message.now)) result out.new }
     ensures writes { credit W.Sink out.old ≤ credit W.Sink out.new + lost_pieces (is_err result) }
     ensures mark { write_failed W.Sink out.new ≡ (write_failed W.Sink out.old || is_err result) }
     ensures same_outlet { SameOutlet out.old out.new }
 {
-    match read_regular_in(part) {
+    match read_regular_in(message) {
         Ok(message) => say_message(out, &message),
         Err(fault) => say_fault(out, fault),
     }

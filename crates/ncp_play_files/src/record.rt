@@ -4,7 +4,7 @@ ghost use Rattle.ncp_play_page.specs.Outlets.{SameOutlet, write_failed, credit, 
 ghost use Rattle.ncp_play_files.specs.Lines.{passage_words, summary, is_regular_leader, record_lines};
 ghost use Rattle.ncp_play_stream.specs.Pieces.{lost_pieces};
 
-use crate::detail::say_details_in;
+use crate::detail::say_details;
 use crate::line::{LONGEST_LINE, push_first_line};
 use crate::version::Passage;
 use ncp_bits::Part;
@@ -57,7 +57,7 @@ pub(crate) fn say_record<W: Sink>(
     let leader = read_leader_in(message);
     say_first_line(out, passage, number, &leader)?;
     if has_details(&leader) {
-        return say_details_in(out, message);
+        return say_details(out, message);
     }
     Ok(())
 }

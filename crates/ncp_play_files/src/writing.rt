@@ -9,7 +9,7 @@ ghost use Rattle.ncp_play_files.specs.Versions.{byte_of_direction, header_of, pa
 use crate::file::Direction;
 use crate::version::{HEADER, Passage, Version};
 use byteorder::{BigEndian, ByteOrder};
-use ncp_bits::{Bits, MAX_BITS};
+use ncp_bits::{MAX_BITS, Part};
 use ncp_play_page::{Outlet, PAGE_SIZE, Page};
 use ncp_play_stream::{Failed, Sink};
 
@@ -45,8 +45,10 @@ fn byte_of(direction: Direction) -> u8
     }
 }
 
-// Appends the bytes of a message.
-fn push_bits(page: &mut Page, message: &Bits)
+// Appends the bytes of a message that have to be copied first. It is a function of its own, so that a
+// message whose bytes need no copy does not pay for the room of one.
+#[inline(never)]
+fn push_copied(page: &mut Page, message: &Part<'_>)
     requires { length page.old + LONGEST_MESSAGE ≤ PAGE_SIZE }
     ensures { page.new ≡ page.old ++ bytes_of message.now }
 {
@@ -56,8 +58,19 @@ fn push_bits(page: &mut Page, message: &Bits)
     page.push_text(used);
 }
 
+// Appends the bytes of a message.
+fn push_bits(page: &mut Page, message: &Part<'_>)
+    requires { length page.old + LONGEST_MESSAGE ≤ PAGE_SIZE }
+    ensures { page.new ≡ page.old ++ bytes_of message.now }
+{
+    match message.whole_bytes() {
+        Some(bytes) => page.push_text(bytes),
+        None => push_copied(page, message),
+    }
+}
+
 // Appends how many bits a message has, and its bytes.
-fn push_record(page: &mut Page, message: &Bits)
+fn push_record(page: &mut Page, message: &Part<'_>)
     requires { length page.old + LONGEST_RECORD ≤ PAGE_SIZE }
     ensures { page.new ≡ page.old ++ record_bytes message.now }
 {
@@ -80,7 +93,7 @@ fn push_passage(page: &mut Page, passage: Passage)
 }
 
 // Appends the record of a message: of version 2 where its passage names a host, else of version 1.
-fn push_message(page: &mut Page, passage: Passage, message: &Bits)
+fn push_message(page: &mut Page, passage: Passage, message: &Part<'_>)
     requires { length page.old + LONGEST_PLACED ≤ PAGE_SIZE }
     ensures { page.new ≡ page.old ++ bytes_with_passage passage message.now }
 {
@@ -95,7 +108,7 @@ fn push_message(page: &mut Page, passage: Passage, message: &Bits)
 pub fn say_message<W: Sink>(
     out: &mut Outlet<'_, W>,
     passage: Passage,
-    message: &Bits,
+    message: &Part<'_>,
 ) -> Result<(), Failed>
     ensures told { SaysOrBreaks W.Sink out.old (bytes_with_passage passage message.now) result out.new }
     ensures writes { credit W.Sink out.old ≤ credit W.Sink out.new + lost_pieces (is_err result) }

@@ -9,9 +9,9 @@ use crate::arrived::push_received;
 use crate::heading::{Heading, LONGEST_NAMED, push_front, push_named};
 use crate::naming::name_of_note;
 use crate::results::{LONGEST_RESULT, push_result};
-use ncp_bits::Bits;
+use ncp_bits::Part;
 use ncp_host::{Error, Received};
-use ncp_leader::{Leader, Short, read_leader};
+use ncp_leader::{Leader, Short, read_leader_in};
 use ncp_play_files::{LONGEST_LINE, push_item, say_details};
 use ncp_play_page::{Outlet, PAGE_SIZE, Page, push_field};
 use ncp_play_stream::{Failed, Sink};
@@ -61,13 +61,13 @@ fn push_toward(page: &mut Page, leader: &Result<Leader, Short>)
 }
 
 // Appends the line of a message that goes out.
-fn push_out_line(page: &mut Page, heading: Heading, message: &Bits)
+fn push_out_line(page: &mut Page, heading: Heading, message: &Part<'_>)
     requires { length page.old + LONGEST_FIRST ≤ PAGE_SIZE }
     ensures { page.new ≡ page.old ++ out_line heading message.now }
 {
     push_front(page, heading);
     page.push_text(b" out");
-    push_toward(page, &read_leader(message));
+    push_toward(page, &read_leader_in(message));
     push_field(page, b" bits=", message.len() as u32);
     page.push(b'\n');
 }
@@ -87,7 +87,7 @@ fn push_first_line(page: &mut Page, heading: Heading, note: &HostNote)
     ensures { page.new ≡ page.old ++ first_line heading note.now }
 {
     match note {
-        HostNote::Out { message } => push_out_line(page, heading, &message.to_bits()),
+        HostNote::Out { message } => push_out_line(page, heading, &message.whole()),
         HostNote::Nothing => push_nothing_line(page, heading),
         HostNote::In { received, .. } => push_in_line(page, heading, *received),
         HostNote::Answered { received, .. } => push_in_line(page, heading, *received),
@@ -147,7 +147,7 @@ fn say_behind<W: Sink>(out: &mut Outlet<'_, W>, note: &HostNote) -> Result<(), F
     ensures same_outlet { SameOutlet out.old out.new }
 {
     match note {
-        HostNote::Out { message } => say_details(out, &message.to_bits()),
+        HostNote::Out { message } => say_details(out, &message.whole()),
         HostNote::Errors { errors, .. } => say_errors(out, errors.as_slice()),
         _ => Ok(()),
     }

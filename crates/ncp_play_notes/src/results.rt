@@ -39,9 +39,8 @@ fn push_took(page: &mut Page, text: &Message)
     ensures bytes { page.new ≡ page.old ++ took_words text.now }
     ensures len { length page.new ≤ length page.old + LONGEST_RESULT }
 {
-    let bits = text.to_bits();
-    push_field(page, b" ok bits=", bits.len() as u32);
-    push_text_word(page, &bits.whole());
+    push_field(page, b" ok bits=", text.len() as u32);
+    push_text_word(page, &text.whole());
 }
 
 // Appends which end a connection has here.

@@ -26,8 +26,8 @@ next_round digits rest bytes bytes' high low count before two first second push 
     hex_step rest two ∙ ap (λ h. with_byte h (hex_value (get_or rest 1 0)) (hex_bytes (drop 2 rest))) (sym first) ∙ ap (λ l. with_byte (Some high) l (hex_bytes (drop 2 rest))) (sym second) in
     rw (all_behind rest count e, push) (before ∙ ap (λ o. option_map (λ behind. bytes ++ behind) o) step ∙ joined bytes high low (hex_bytes (drop 2 rest)))
 
-pub room_left : (rest bytes bytes' : List ℕ) (byte count : ℕ) → 2 * length bytes + length rest ≤ 2048 → 2 ≤ length rest → bytes' ≡ bytes ++ byte ∷ [] → count ≡ length rest - 2 → 2 * length bytes' + length (take count (drop 2 rest)) ≤ 2048
-room_left rest bytes bytes' byte count room two push e =
+pub room_left : (rest bytes bytes' : List ℕ) (byte most count : ℕ) → 2 * length bytes + length rest ≤ most → 2 ≤ length rest → bytes' ≡ bytes ++ byte ∷ [] → count ≡ length rest - 2 → 2 * length bytes' + length (take count (drop 2 rest)) ≤ most
+room_left rest bytes bytes' byte most count room two push e =
     let len = length-append bytes (byte ∷ []) in let behind = length-drop 2 rest in rw (all_behind rest count e, push) (omega (arith, len, behind))
 
 -- each byte takes two digits

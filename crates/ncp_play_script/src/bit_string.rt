@@ -1,10 +1,13 @@
 //! Bits in words.
-ghost use Rattle.std.specs.Prelude.{◌≡◌, ◌*◌, ◌≤◌, length, option_map};
+ghost use Rattle.std.specs.Prelude.{◌≡◌, ◌≢◌, ◌*◌, ◌≤◌, [], length, None, option_map, vec_capacity, IfOk, OnErr};
+ghost use Rattle.ncp_numbers.specs.Bytes.{bytes_for};
 ghost use Rattle.ncp_play_script.specs.BitStrings.{hex_value, hex_bytes, bits_in_hex, bits_first};
 
 use crate::line_words::Words;
 use arrayvec::ArrayVec;
 use ncp_bits::{Bits, MAX_BITS};
+use ncp_transcript::Message;
+use std::alloc::{AllocError, Global};
 
 // How many bytes the bits of the longest message take.
 const MAX_BYTES: usize = MAX_BITS / 8;
@@ -48,6 +51,53 @@ fn bits_of(word: &[u8], len: usize) -> Option<Bits>
     Bits::from_bytes(bytes.as_slice(), len).ok()
 }
 
+// The bytes that hexadecimal digits spell, in room for them.
+fn bytes_in(room: Vec<u8>, digits: &[u8]) -> Option<Vec<u8>>
+    requires empty { room.items ≡ [] }
+    requires room { length digits.now ≤ 2 * vec_capacity room }
+    ensures { option_map (λ bytes. bytes.items) result ≡ hex_bytes digits.now }
+{
+    let mut bytes = room;
+    let mut rest = digits;
+    while let [high, low, behind @ ..] = rest {
+        let high = value_of(*high)?;
+        let low = value_of(*low)?;
+        bytes.push_reserved(16 * high + low);
+        rest = behind;
+    }
+    if rest.is_empty() { Some(bytes) } else { None }
+}
+
+// So many bits in hexadecimal, in room for their bytes.
+fn message_in(room: Vec<u8>, word: &[u8], len: usize) -> Option<Message>
+    requires empty { room.items ≡ [] }
+    requires room { length word.now ≤ 2 * vec_capacity room }
+    requires digits { length word.now ≡ 2 * bytes_for len }
+    ensures { result ≡ bits_in_hex len (hex_bytes word.now) }
+{
+    let bytes = bytes_in(room, word)?;
+    Message::from_bytes(bytes, len).ok()
+}
+
+// So many bits in hexadecimal. Memory is wanting only for digits that are such bits.
+fn message_of(alloc: Global, word: &[u8], len: usize) -> Result<Option<Message>, AllocError>
+    requires { len ≤ MAX_BITS }
+    ensures bits { IfOk result (λ message. message ≡ bits_in_hex len (hex_bytes word.now)) }
+    ensures memory { OnErr result (bits_in_hex len (hex_bytes word.now) ≢ None) }
+{
+    let used = len.div_ceil(8);
+    if word.len() != 2 * used {
+        return Ok(None);
+    }
+    match Vec::with_capacity(alloc, used) {
+        Ok(room) => Ok(message_in(room, word, len)),
+        Err(refused) => match bits_of(word, len) {
+            Some(_) => Err(refused),
+            None => Ok(None),
+        },
+    }
+}
+
 impl<'a> Words<'a> {
     /// The bits of the next words: how many they are, at most [`MAX_BITS`], and their bytes in
     /// hexadecimal of either case, the spare bits zero. For 0 bits no second word is read. Where
@@ -61,5 +111,24 @@ impl<'a> Words<'a> {
         }
         let word = self.next_word()?;
         bits_of(word, len)
+    }
+
+    /// As [`Words::next_bits`], in as many bytes of memory as the bits need. It answers `AllocError` only if
+    /// the words are bits.
+    pub fn next_message(&mut self, alloc: Global) -> Result<Option<Message>, AllocError>
+        ensures message { IfOk result (λ message. option_map (λ message. (message, self.new)) message ≡ bits_first self.old) }
+        ensures memory { OnErr result (bits_first self.old ≢ None) }
+    {
+        let Some(len) = self.next_number(MAX_BITS as u32) else {
+            return Ok(None);
+        };
+        let len = len as usize;
+        if len == 0 {
+            return Ok(Some(Message::from_bits(alloc, &Bits::new())?));
+        }
+        let Some(word) = self.next_word() else {
+            return Ok(None);
+        };
+        message_of(alloc, word, len)
     }
 }

@@ -7,7 +7,7 @@ ghost use Rattle.ncp_play_script.specs.Calls.{pair_call, peer_call, verb_call, c
 use crate::line_words::Words;
 use crate::verbs::{Verb, verb_named};
 use ncp_model::Pair;
-use ncp_transcript::{Call, Message};
+use ncp_transcript::Call;
 use std::alloc::{AllocError, Global};
 
 // The arguments of a call that asks to send.
@@ -132,10 +132,9 @@ fn give(alloc: Global, words: &mut Words<'_>, given: Option<u8>) -> Result<Optio
     let Some(pair) = words.next_pair() else {
         return Ok(None);
     };
-    let Some(bits) = words.next_bits() else {
+    let Some(text) = words.next_message(alloc)? else {
         return Ok(None);
     };
-    let text = Message::from_bits(alloc, &bits)?;
     Ok(Some(Call::Give { peer, pair, text }))
 }
 

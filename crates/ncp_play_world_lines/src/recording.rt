@@ -85,7 +85,7 @@ fn say_sent<W: Sink>(out: &mut Outlet<'_, W>, host: u8, note: &HostNote) -> Resu
         HostNote::Out { message } => say_message(
             out,
             passage_at(Direction::ToImp, host),
-            &message.to_bits(),
+            &message.whole(),
         ),
         _ => Ok(()),
     }
@@ -98,17 +98,17 @@ fn say_came<W: Sink>(out: &mut Outlet<'_, W>, host: u8, note: &HostNote) -> Resu
     ensures mark { write_failed W.Sink out.new ≡ (write_failed W.Sink out.old || is_err result) }
     ensures same_outlet { SameOutlet out.old out.new }
 {
-    let message = match note {
-        HostNote::In { message, .. } => message.to_bits(),
+    let passage = passage_at(Direction::FromImp, host);
+    match note {
+        HostNote::In { message, .. } => say_message(out, passage, &message.whole()),
         HostNote::Answered {
             peer,
             link,
             answer,
             ..
-        } => answer_bits(*answer, *peer, *link),
-        _ => return Ok(()),
-    };
-    say_message(out, passage_at(Direction::FromImp, host), &message)
+        } => say_message(out, passage, &answer_bits(*answer, *peer, *link).whole()),
+        _ => Ok(()),
+    }
 }
 
 /// Says what is recorded of a note of these hosts, if anything is: a message that went out, at its

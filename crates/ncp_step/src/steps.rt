@@ -50,7 +50,7 @@ fn pass_on(subnet: &mut Subnet, from: u8, note: &HostNote)
     ensures { subnet.new ≡ subnet_after_out from note.now subnet.old }
 {
     if let HostNote::Out { message } = note {
-        let _taken = subnet.accept(from, &message.to_bits());
+        let _taken = subnet.accept_part(from, message.whole());
     }
 }
 

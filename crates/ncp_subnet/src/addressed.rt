@@ -5,8 +5,8 @@ ghost use Rattle.ncp_leader.specs.Leader.{leader_at};
 ghost use Rattle.ncp_subnet.specs.Messages.{IsRegular, from_host, answer_bits};
 
 use crate::fault::SubnetFault;
-use ncp_bits::Bits;
-use ncp_leader::{Leader, REGULAR, put_leader, read_leader};
+use ncp_bits::{Bits, Part};
+use ncp_leader::{Leader, REGULAR, put_leader, read_leader_in};
 use std::marker::Model;
 
 // Where the host stands in a leader: bits 9 to 16, counted from 0.
@@ -33,12 +33,12 @@ impl Model for Addressed {
 
 impl Addressed {
     /// A copy of a message that has a leader.
-    pub(crate) fn of(message: &Bits) -> Addressed
-        requires { LEADER_BITS ≤ length message.now }
-        ensures { result ≡ message.now }
+    pub(crate) fn of(message: Part<'_>) -> Addressed
+        requires { LEADER_BITS ≤ length message }
+        ensures { result ≡ message.entry }
     {
         Addressed {
-            bits: message.whole().to_bits(),
+            bits: message.to_bits(),
         }
     }
 
@@ -58,12 +58,12 @@ impl Addressed {
 }
 
 /// The leader of a regular message.
-pub(crate) fn regular_leader(message: &Bits) -> Result<Leader, SubnetFault>
+pub(crate) fn regular_leader(message: &Part<'_>) -> Result<Leader, SubnetFault>
     ensures leader { IfOk result (λ leader. leader ≡ leader_at message.now) }
     ensures regular { IfOk result (λ _. IsRegular message.now) }
     ensures err { IfErr result (λ fault. (fault ≡ SubnetFault.NotRegular) × ¬ IsRegular message.now) }
 {
-    match read_leader(message) {
+    match read_leader_in(message) {
         Ok(leader) if leader.kind == REGULAR => Ok(leader),
         _ => Err(SubnetFault::NotRegular),
     }

@@ -13,7 +13,7 @@ ghost use Rattle.ncp_subnet.specs.Subnet.{are_two_of, has_way, transit_at, with_
 use crate::addressed::regular_leader;
 use crate::fault::SubnetFault;
 use crate::way::Way;
-use ncp_bits::Bits;
+use ncp_bits::{Bits, Part};
 use std::alloc::{AllocError, Global};
 use std::boxed::BoxedSlice;
 use std::marker::Model;
@@ -102,7 +102,17 @@ impl Subnet {
         ensures ok { OnOk result (self.new ≡ with_transit self.old from (host_in message.now) (link_in message.now) (Transit.Accepted message.now)) }
         ensures err { OnErr result (self.new ≡ self.old) }
     {
-        let leader = regular_leader(message)?;
+        self.accept_part(from, message.whole())
+    }
+
+    /// [`Subnet::accept`] of a message that is lent.
+    pub fn accept_part(&mut self, from: u8, message: Part<'_>) -> Result<(), SubnetFault>
+        ensures variant { IsOk result ↔ NoneHolds (Refuses self.old from message.entry) refusals }
+        ensures first { IfErr result (λ fault. IsFirst (Refuses self.old from message.entry) refusals fault) }
+        ensures ok { OnOk result (self.new ≡ with_transit self.old from (host_in message.entry) (link_in message.entry) (Transit.Accepted message.entry)) }
+        ensures err { OnErr result (self.new ≡ self.old) }
+    {
+        let leader = regular_leader(&message)?;
         let Some(place) = way_between(&self.ways, from, leader.host) else {
             return Err(SubnetFault::NoHost);
         };

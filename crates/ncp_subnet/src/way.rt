@@ -9,7 +9,7 @@ ghost use Rattle.ncp_leader.specs.declared.leader.TheConstants.{LEADER_BITS};
 
 use crate::addressed::{Addressed, answer_of};
 use crate::transit::Transit;
-use ncp_bits::Bits;
+use ncp_bits::{Bits, Part};
 use std::alloc::{AllocError, Global};
 use std::boxed::BoxedSlice;
 use std::marker::Model;
@@ -94,10 +94,10 @@ impl Way {
     }
 
     /// Takes a copy of a message on a link on which none is in transit.
-    pub(crate) fn accept(&mut self, link: u8, message: &Bits)
+    pub(crate) fn accept(&mut self, link: u8, message: Part<'_>)
         requires free { on_link self.old link ≡ Transit.Free }
-        requires leader { LEADER_BITS ≤ length message.now }
-        ensures { self.new ≡ with_link self.old link (Transit.Accepted message.now) }
+        requires leader { LEADER_BITS ≤ length message }
+        ensures { self.new ≡ with_link self.old link (Transit.Accepted message.entry) }
     {
         self.links[usize::from(link)].accept(Addressed::of(message));
     }

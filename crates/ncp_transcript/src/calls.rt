@@ -28,10 +28,16 @@ fn give<S: BitStore>(
     ensures host { IfOk result (λ note. host.new ≡ after_note note host.old) }
     ensures err { OnErr result (host.new ≡ host.old) }
 {
-    let bits = text.to_bits();
-    let text = Message::from_bits(alloc, &bits)?;
-    let reply = host.give(peer, pair, &bits);
-    Ok(done(Call::Give { peer, pair, text }, reply))
+    let noted = text.copy(alloc)?;
+    let reply = host.give_part(peer, pair, text.whole());
+    Ok(done(
+        Call::Give {
+            peer,
+            pair,
+            text: noted,
+        },
+        reply,
+    ))
 }
 
 // Text is taken: room for as much as any message has is made first.

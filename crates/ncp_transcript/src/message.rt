@@ -1,9 +1,11 @@
 //! `Message`.
-ghost use Rattle.std.specs.Prelude.{◌≡◌, ◌≤◌, ◌↔◌, IsTrue, [], length, IfOk, vec_capacity};
+ghost use Rattle.std.specs.Prelude.{◌≡◌, ◌≤◌, ◌↔◌, IsTrue, [], length, take, Ok, Err, IfOk, IfErr, OnOk, vec_capacity};
 ghost use Rattle.ncp_numbers.specs.Bytes.{bytes_for};
+ghost use Rattle.ncp_bits.specs.Bits.{read_bytes};
+ghost use Rattle.ncp_transcript.specs.Packed.{bits_in, IsExact};
 
 use crate::room::Room;
-use ncp_bits::{Bits, MAX_BITS};
+use ncp_bits::{Bits, BitsFault, MAX_BITS, Part};
 use std::alloc::{AllocError, Global};
 use std::marker::Model;
 
@@ -51,6 +53,16 @@ pub(crate) fn pack_in_room(room: Room, bits: &Bits) -> Message
     pack(room.into_bytes(), bits)
 }
 
+// Whether the first `len` bits of bytes can be read, and why not.
+fn judge(bytes: &[u8], len: usize) -> Result<(), BitsFault>
+    ensures exact { OnOk result (IsExact (take (bytes_for len) bytes.now) len) }
+    ensures read { OnOk result (read_bytes bytes.now len ≡ Ok (bits_in (take (bytes_for len) bytes.now) len)) }
+    ensures err { IfErr result (λ fault. read_bytes bytes.now len ≡ Err fault) }
+{
+    Part::from_bytes(bytes, len)?;
+    Ok(())
+}
+
 impl Message {
     /// A copy of bits. It takes as many bytes of memory as they need.
     pub fn from_bits(alloc: Global, bits: &Bits) -> Result<Message, AllocError>
@@ -58,6 +70,39 @@ impl Message {
     {
         let room = Vec::with_capacity(alloc, bits.len().div_ceil(8))?;
         Ok(pack(room, bits))
+    }
+
+    /// The first `len` bits of bytes, which are taken over: memory that is too much is given back.
+    ///
+    /// Refused as by [`Bits::from_bytes`], in this order: `TooLong` (over [`MAX_BITS`]), `ShortBytes`,
+    /// `SpareNotZero` (a bit after `len` in the last byte used).
+    pub fn from_bytes(bytes: Vec<u8>, len: usize) -> Result<Message, BitsFault>
+        ensures { result ≡ read_bytes bytes.items len }
+    {
+        judge(&bytes, len)?;
+        let mut kept = bytes;
+        kept.truncate(len.div_ceil(8));
+        kept.shrink_to_fit();
+        Ok(Message { bytes: kept, len })
+    }
+
+    /// Another message of the same bits. It takes as many bytes of memory as they need.
+    pub fn copy(&self, alloc: Global) -> Result<Message, AllocError>
+        ensures { IfOk result (λ message. message ≡ self.now) }
+    {
+        let mut bytes = Vec::with_capacity(alloc, self.bytes.len())?;
+        bytes.extend_from_slice(&self.bytes).unwrap();
+        Ok(Message {
+            bytes,
+            len: self.len,
+        })
+    }
+
+    /// The bits, lent as they stand.
+    pub fn whole(&self) -> Part<'_>
+        ensures { result ≡ self.now }
+    {
+        Part::from_bytes(&self.bytes, self.len).unwrap()
     }
 
     /// A copy of the bits.

@@ -27,7 +27,7 @@ pub enum ManyEvent {
 fn copied_text(alloc: Global, text: &Message) -> Result<Message, AllocError>
     ensures { IfOk result (λ copy. copy ≡ text.now) }
 {
-    Message::from_bits(alloc, &text.to_bits())
+    text.copy(alloc)
 }
 
 // A copy of a call; that of a text takes memory.

@@ -43,7 +43,7 @@ use Rattle.ncp_web.specs.declared.handle.held.Held.{Held}
 use Rattle.ncp_web.specs.Bytes.{IsFront}
 use Rattle.ncp_web.specs.Sessions.{note_number, side_at, host_of_stage, code_of_refusal}
 use Rattle.ncp_numbers.specs.Bytes.{bytes_of, bytes_for}
-use Rattle.ncp_transcript_two.specs.declared.ledger.Amount.{Amount}
+use Rattle.ncp_model.specs.declared.amounts.Amount.{Amount}
 use Rattle.ncp_transcript_two.specs.declared.ledger.Ledger.{Ledger}
 use Rattle.ncp_web.specs.declared.readers.Quantity.{Quantity}
 use Rattle.ncp_web.specs.declared.readers.Books.{Books}

@@ -17,7 +17,7 @@ use crate::reading::reading;
 use crate::session::code_of_refusal;
 use crate::stage::{ManyStage, Refusal, Stage, TwoStage, side_of};
 use crate::stepping::number_of;
-use ncp_bits::Bits;
+use ncp_bits::{Bits, Part};
 use ncp_host::Pair;
 use ncp_many::{ManyEvent, ManyNote};
 use ncp_play_files::{LONGEST_LINE, push_item};
@@ -71,7 +71,7 @@ fn books_of(ledger: Ledger) -> Books
 }
 
 // Writes a message over the front of a buffer; how many bits it has is answered.
-fn write_message(message: &Bits, out: &mut [u8]) -> usize
+fn write_message(message: &Part<'_>, out: &mut [u8]) -> usize
     requires { LONGEST_MESSAGE ≤ length out.old }
     ensures bits { result ≡ length message.now }
     ensures out { out.new ≡ message_over message.now out.old }
@@ -400,7 +400,7 @@ pub extern "C" fn ncp_web_kept(
     };
     let told = match kept_at(&held.stage, host, peer, link) {
         Some(message) => {
-            *bits = write_message(message, out);
+            *bits = write_message(&message.whole(), out);
             DONE
         }
         None => NOTHING,
@@ -434,7 +434,7 @@ pub extern "C" fn ncp_web_message(
     };
     let told = match message_of(&held.stage, number) {
         Some(message) => {
-            *bits = write_message(&message.to_bits(), out);
+            *bits = write_message(&message.whole(), out);
             DONE
         }
         None => NOTHING,

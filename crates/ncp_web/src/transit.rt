@@ -7,7 +7,7 @@ ghost use Rattle.ncp_web.specs.Sessions.{side_at};
 
 use crate::stage::{ManyStage, Stage, TwoStage, side_of};
 use ncp_bits::PackedStore;
-use ncp_leader::{Leader, REGULAR, read_leader};
+use ncp_leader::{Leader, REGULAR, read_leader_in};
 use ncp_many::{Many, ManyNote};
 use ncp_proof_promises::taking::what_goes_out_is_taken;
 use ncp_transcript::HostNote;
@@ -51,7 +51,7 @@ fn leader_out(note: &HostNote) -> Option<Leader>
     let HostNote::Out { message } = note else {
         return None;
     };
-    match read_leader(&message.to_bits()) {
+    match read_leader_in(&message.whole()) {
         Ok(leader) => {
             if leader.kind == REGULAR {
                 Some(leader)

@@ -4,6 +4,7 @@ use crate::long_line::{LongLine, MOST_DIGITS, with_long_line};
 use ncp_bits::Bits;
 use ncp_model::Pair;
 use ncp_play_script::Words;
+use std::alloc::{AllocError, Global};
 use std::process::Abort;
 use std::test::Fail;
 
@@ -52,23 +53,53 @@ fn are_bits(line: &[u8], bytes: &[u8], len: usize) -> bool {
     }
 }
 
+// Lines of bits, and such as are none.
+const ROWS: &[(&[u8], &[u8], usize)] = &[
+    (b"0", b"", 0),
+    (b"24 616263", b"abc", 24),
+    (b"032 05aBCd0f", b"\x05\xab\xcd\x0f", 32),
+    (b"4 f0", b"\xf0", 4),
+];
+
+const REFUSED: &[&[u8]] = &[
+    b"", b"8", b"8 ", b"8 6", b"8 6162", b"8 6g", b"16 61", b"4 f1", b"x 00",
+];
+
 #[test]
 fn reads_bits(rt: HostRuntime) {
-    const ROWS: &[(&[u8], &[u8], usize)] = &[
-        (b"0", b"", 0),
-        (b"24 616263", b"abc", 24),
-        (b"032 05aBCd0f", b"\x05\xab\xcd\x0f", 32),
-        (b"4 f0", b"\xf0", 4),
-    ];
-    const REFUSED: &[&[u8]] = &[
-        b"", b"8", b"8 ", b"8 6", b"8 6162", b"8 6g", b"16 61", b"4 f1", b"x 00",
-    ];
     for &(line, bytes, len) in ROWS {
         assert!(rt; are_bits(line, bytes, len));
     }
     for line in REFUSED {
         assert!(rt; Words::new(line).next_bits().is_none());
     }
+}
+
+// Whether the words of a line are a message of these bits.
+fn are_of_message(
+    alloc: Global,
+    line: &[u8],
+    bytes: &[u8],
+    len: usize,
+) -> Result<bool, AllocError> {
+    let Some(read) = Words::new(line).next_message(alloc)? else {
+        return Ok(false);
+    };
+    match Bits::from_bytes(bytes, len) {
+        Ok(wanted) => Ok(read.to_bits() == wanted),
+        Err(_) => Ok(false),
+    }
+}
+
+#[test]
+fn reads_messages(rt: HostRuntime) -> Result<(), Fail> {
+    for &(line, bytes, len) in ROWS {
+        assert!(rt; are_of_message(rt.alloc(), line, bytes, len)?);
+    }
+    for line in REFUSED {
+        assert!(rt; Words::new(line).next_message(rt.alloc())?.is_none());
+    }
+    Ok(())
 }
 
 // The most bits, all zero, and more than these.

@@ -31,7 +31,7 @@ returns-in-Ok-clause-told g c = λ bytes was a f.
     let page : c.push_header.new.page ≡ header_of turn.to = c.push_header.ensures.bytes ∙ ap (λ (page : List ℕ). page ++ header_of turn.to) c.requires in
     let head : SaidSoFar was c.push_header.new.page (g.W.Sink.written c.args.out.now.sink.now) (header_of turn.to) = ([], f ∙ ap Some (sym (append-nil was)), page) in
     turned_more turn.to turn.given (next_at turn.from turn.wanted) (at_front turn.from turn.wanted) was bytes read.0 c.take_on.new.message read.1 1 c.convert_rest.result c.convert_rest.new.out.page.now
-    (g.S.Source.left c.convert_rest.new.input.source.now) (g.W.Sink.written c.convert_rest.new.out.sink.now) (c.convert_rest.ensures.told 1 read.0 was _ read.2 (c.in-Ok.ensures.told was (header_of turn.to) head))
+    (g.S.Source.left c.convert_rest.new.input.source.now) (g.W.Sink.written c.convert_rest.new.out.sink.now) (c.convert_rest.ensures.told 1 read.0 was _ read.2 ((rw c.whole.ensures at c.in-Ok.ensures.told) was (header_of turn.to) head))
 
 pub returns-in-Err-clause-told : goal.returns-in-Err-clause-told
 returns-in-Err-clause-told g c = λ bytes was a f.
@@ -39,7 +39,7 @@ returns-in-Err-clause-told g c = λ bytes was a f.
     let read = rw c.if-not-found.false at (c.in_ok-found.ensures.told bytes a) in
     let page : c.push_header.new.page ≡ header_of turn.to = c.push_header.ensures.bytes ∙ ap (λ (page : List ℕ). page ++ header_of turn.to) c.requires in
     let head : SaidSoFar was c.push_header.new.page (g.W.Sink.written c.args.out.now.sink.now) (header_of turn.to) = ([], f ∙ ap Some (sym (append-nil was)), page) in
-    let broken = c.in-Err.ensures.told in
+    let broken = rw c.whole.ensures at c.in-Err.ensures.told in
     turned_broken turn.to turn.given (next_at turn.from turn.wanted) (at_front turn.from turn.wanted) was bytes read.0 c.take_on.new.message read.1 broken.0 c.say_message.new.out.page.now
     (g.S.Source.left c.take_on.new.input.source.now) (g.W.Sink.written c.say_message.new.out.sink.now) (broken.1 was (header_of turn.to) head)
 

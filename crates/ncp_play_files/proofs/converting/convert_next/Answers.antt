@@ -19,12 +19,12 @@ returns-then-not-branch-clause-told g c = λ number bytes was said a k. (rw c.if
 pub returns-in-Ok-clause-told : goal.returns-in-Ok-clause-told
 returns-in-Ok-clause-told g c = λ number bytes was said a k.
     let read = rw c.if-not-branch.false at (c.in_ok-take_on.ensures.told bytes a) in
-    (c.take_on.new.message, read.0, read.1, read.2, c.in-Ok.ensures.told was said k)
+    (c.take_on.new.message, read.0, read.1, read.2, (rw c.whole.ensures at c.in-Ok.ensures.told) was said k)
 
 pub returns-in-Err-clause-told : goal.returns-in-Err-clause-told
 returns-in-Err-clause-told g c = λ number bytes was said a k.
     let read = rw c.if-not-branch.false at (c.in_ok-take_on.ensures.told bytes a) in
-    let broken = c.in-Err.ensures.told in
+    let broken = rw c.whole.ensures at c.in-Err.ensures.told in
     (c.take_on.new.message, read.0, broken.0, read.1, broken.1 was said k)
 
 pub returns-in_err-take_on-clause-writes : goal.returns-in_err-take_on-clause-writes

@@ -20,13 +20,13 @@ returns-in_err-say_first_line-clause-told g c =
 pub returns-then-has_details-clause-told : goal.returns-then-has_details-clause-told
 returns-then-has_details-clause-told g c =
     let w = g.W.Sink in let message = c.args.message.now in
-    let was = w.written c.args.out.now.sink.now in let mid = w.written c.say_first_line.new.out.sink.now in let now = w.written c.say_details_in.new.out.sink.now in
+    let was = w.written c.args.out.now.sink.now in let mid = w.written c.say_first_line.new.out.sink.now in let now = w.written c.say_details.new.out.sink.now in
     let first : decimal c.args.number.now ++ passage_words c.args.passage ++ summary c.args.passage.direction c.read_leader_in-leader.result ≡ record_first_line c.args.passage c.args.number.now message =
     ap (λ leader. decimal c.args.number.now ++ passage_words c.args.passage ++ summary c.args.passage.direction leader) c.read_leader_in-leader.ensures.exact in
     let same : message_lines (message_in message) ≡ details message = details_of_regular message c.read_leader_in-leader.result c.read_leader_in-leader.ensures.exact (sym c.has_details.ensures ∙ c.if-has_details.true) in
-    answers_after c.args.out.now.page.now (record_first_line c.args.passage c.args.number.now message) c.say_first_line.new.out.page.now (details message) c.say_details_in.new.out.page.now was mid now c.say_details_in.result
+    answers_after c.args.out.now.page.now (record_first_line c.args.passage c.args.number.now message) c.say_first_line.new.out.page.now (details message) c.say_details.new.out.page.now was mid now c.say_details.result
     (subst (λ text. SaysText c.args.out.now.page.now was text c.say_first_line.new.out.page.now mid) first c.in_ok-say_first_line.ensures.told)
-    (subst (λ text. SaysTextOrBeginning c.say_first_line.new.out.page.now mid text c.say_details_in.result c.say_details_in.new.out.page.now now) same c.say_details_in.ensures.told)
+    (subst (λ text. SaysTextOrBeginning c.say_first_line.new.out.page.now mid text c.say_details.result c.say_details.new.out.page.now now) same c.say_details.ensures.told)
 
 pub returns-clause-told : goal.returns-clause-told
 returns-clause-told g c =

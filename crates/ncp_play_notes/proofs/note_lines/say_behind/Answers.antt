@@ -10,7 +10,7 @@ pub returns-in-Out-clause-told : goal.returns-in-Out-clause-told
 returns-in-Out-clause-told g c =
     let w = g.W.Sink in
     subst (λ (lines : List ℕ). SaysTextOrBeginning c.args.out.now.page.now (w.written c.args.out.now.sink.now) lines c.say_details.result c.say_details.new.out.page.now (w.written c.say_details.new.out.sink.now))
-    (ap (λ (message : List Bool). message_lines (message_in message)) c.to_bits.ensures ∙ ap lines_behind (sym c.in-Out.is)) c.say_details.ensures.told
+    (ap (λ (message : List Bool). message_lines (message_in message)) c.whole.ensures ∙ ap lines_behind (sym c.in-Out.is)) c.say_details.ensures.told
 
 pub returns-in-Errors-clause-told : goal.returns-in-Errors-clause-told
 returns-in-Errors-clause-told g c =

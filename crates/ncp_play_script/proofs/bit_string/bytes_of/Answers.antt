@@ -8,5 +8,5 @@ loop-rest-preserved c =
     record {
       bytes = next_round c.args.digits.now rest c.loop-rest.bytes.items c.push.new.self.items c.in_ok-high.high c.in_ok-low.low (length rest - 2) c.loop-rest.invariant.bytes
           c.in-len2-up.len_at_least c.in_ok-high.ensures c.in_ok-low.ensures c.push.ensures.items refl;
-      room = room_left rest c.loop-rest.bytes.items c.push.new.self.items _ (length rest - 2) c.loop-rest.invariant.room c.in-len2-up.len_at_least c.push.ensures.items refl;
+      room = room_left rest c.loop-rest.bytes.items c.push.new.self.items _ 2048 (length rest - 2) c.loop-rest.invariant.room c.in-len2-up.len_at_least c.push.ensures.items refl;
     }

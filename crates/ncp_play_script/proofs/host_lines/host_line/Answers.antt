@@ -1,9 +1,8 @@
-use Rattle.std.proofs.Common.{◌≡◌, ◌∷◌, ℕ, Bool, true, false, List, Option, if◌then◌else◌, codes, refl, sym, ap, ◌∙◌}
+use Rattle.std.proofs.Common.{◌≡◌, ◌∷◌, ℕ, Bool, true, false, List, if◌then◌else◌, codes, refl, sym, ap, ◌∙◌}
 use Rattle.std.proofs.lemmas.Result.{IfOk-weaker}
 use Rattle.std.specs.Str.{bytes_eq}
 use Rattle.std.proofs.lemmas.Slice.Eq.{bytes_eq-Decides}
 use Rattle.ncp_transcript.specs.declared.input.Input.TheVariants as inputs
-use Rattle.ncp_play_script.specs.declared.host_lines.HostLine.{HostLine}
 use Rattle.ncp_play_script.specs.declared.host_lines.HostLine.TheVariants.{Input, Feed}
 use Rattle.ncp_play_script.specs.HostLines.{alone, bits_line, call_of_words, host_line_of}
 use Rattle.ncp_play_script.proofs.host_lines.host_line.Goals as goal
