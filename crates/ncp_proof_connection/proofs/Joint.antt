@@ -15,7 +15,7 @@ use Rattle.ncp_proof_watch.specs.Histories.{Past, IsBeginning}
 use Rattle.ncp_proof_connection.specs.Connections.{Text, No_text, Away, Here}
 use Rattle.ncp_proof_connection.specs.Ledger.{sum_of, text_messages, text_bits, is_text_out}
 use Rattle.ncp_proof_connection.proofs.Lines.{Kind, Request, Close, Data, Alien, Marks, Same, Ahead, Well}
-use Rattle.ncp_model.specs.Amounts.{granted_messages, granted_bits, returned_messages, returned_bits}
+use Rattle.ncp_model.proofs.AmountParts.{granted_messages, granted_bits, returned_messages, returned_bits}
 
 -- Commands, by what they are on their way to the sender, and to the receiver.
 

@@ -1,16 +1,16 @@
 -- What a receiver's user took since the last ask: nothing before the end opens, and then a beginning of what was got.
 -- So it begins what was given, whatever becomes of either end.
-use Rattle.std.proofs.Common.{◌≡◌, ℕ, Bool, true, false, not, ◌&&◌, cond, if◌then◌else◌, List, [], ◌∷◌, ◌++◌, take, drop, Option, None, Some, Ok, Err, refl, ap, sym, ◌∙◌, subst, arith}
+use Rattle.std.proofs.Common.{◌≡◌, ℕ, Bool, true, false, not, ◌&&◌, cond, if◌then◌else◌, List, [], ◌∷◌, ◌++◌, take, drop, Option, None, Some, Result, Ok, Err, refl, ap, sym, ◌∙◌, subst, arith}
 use Rattle.std.proofs.lemmas.Bool.{both_ways}
 use Rattle.std.proofs.lemmas.List.{append-nil, append_assoc, take-append-drop}
 use Rattle.ncp_terms.specs.declared.command.Command.{Command}
 use Rattle.ncp_terms.specs.declared.command.Command.TheVariants.{Rts}
 use Rattle.ncp_model.specs.declared.pair.Pair.{Pair}
-use Rattle.ncp_model.specs.declared.call_fault.CallFault.TheVariants.{Closing, NotOpen, WrongEnd}
-use Rattle.ncp_model.specs.Pairs.{sends, receives}
+use Rattle.ncp_model.specs.declared.call_fault.CallFault.{CallFault}
+use Rattle.ncp_model.specs.Pairs.{sends}
 use Rattle.ncp_model.specs.End.{End, or_new, is_live}
-use Rattle.ncp_model.specs.Act.{Act, Stays, answer, leaves, closing}
-use Rattle.ncp_model.specs.Calls.{bits_to_take, emptied, take_bits}
+use Rattle.ncp_model.specs.Act.{Act, answer, leaves, closing}
+use Rattle.ncp_model.specs.Calls.{unless_refused, may_take, bits_to_take, emptied, take_bits}
 use Rattle.ncp_model.specs.Texts.{Rfnm, Incomplete, Dead}
 use Rattle.ncp_model.specs.Happenings.{Happening, Outcome, of_take, happens}
 use Rattle.ncp_model.specs.Leading.{suits}
@@ -100,14 +100,11 @@ bits-out pair n e P k = go (e.leaving && emptied e n)
 
 take-out : (pair : Pair) (bytes : ℕ) (before : Option End) (P : List Bool → Type 0) → P [] → ((e : End) (n : ℕ) → before ≡ Some e → e.left ≡ false → e.opened ≡ true → P (take n e.stored)) → P (taken_out (happens pair (Happening.Takes bytes) before).outcome)
 take-out pair bytes None P none some = none
-take-out pair bytes (Some e) P none some = go e.left e.opened (receives pair) refl refl
+take-out pair bytes (Some e) P none some = go (may_take pair e) refl
   where
-    go : (l o r : Bool) → e.left ≡ l → e.opened ≡ o
-        → P (taken_out (of_take (answer (if l then Stays (Err Closing) else if not o then Stays (Err NotOpen) else if not r then Stays (Err WrongEnd) else take_bits pair (bits_to_take bytes e) e))))
-    go true o r a b = none
-    go false false r a b = none
-    go false true false a b = none
-    go false true true a b = bits-out pair (bits_to_take bytes e) e P (some e (bits_to_take bytes e) refl a b)
+    go : (may : Result (Unit {0}) CallFault) → may_take pair e ≡ may → P (taken_out (of_take (answer (unless_refused may (take_bits pair (bits_to_take bytes e) e)))))
+    go (Err f) m = none
+    go (Ok _) m = bits-out pair (bits_to_take bytes e) e P (some e (bits_to_take bytes e) refl (grind arith) (grind arith))
 
 take-opens-not : (pair : Pair) (bytes : ℕ) (before : Option End) → opens before (happens pair (Happening.Takes bytes) before).after ≡ false
 take-opens-not pair bytes None = refl

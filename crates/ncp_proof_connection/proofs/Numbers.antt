@@ -6,7 +6,7 @@ use Rattle.ncp_model.specs.End.{End, is_going}
 use Rattle.ncp_proof_connection.specs.Connections.{Text, No_text}
 use Rattle.ncp_proof_connection.specs.Ledger.{sum_of, text_messages, text_bits}
 use Rattle.ncp_proof_connection.proofs.Joint.{Books, begun_empty}
-use Rattle.ncp_model.specs.Amounts.{granted_messages, granted_bits, returned_messages, returned_bits}
+use Rattle.ncp_model.proofs.AmountParts.{granted_messages, granted_bits, returned_messages, returned_bits}
 
 -- commands that count nothing
 pub books_as : (s : End) (g : List Bool) (r : End) (h : List Bool) (p p' q q' : List Command) (t : Text)

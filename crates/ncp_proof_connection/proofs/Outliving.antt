@@ -15,7 +15,7 @@ use Rattle.ncp_model.specs.Happenings.{Happening, happens}
 use Rattle.ncp_proof_watch.specs.Histories.{Watched, no_past, opens, watches, IsBeginning}
 use Rattle.ncp_proof_watch.specs.Books.{BooksAt}
 use Rattle.ncp_proof_connection.specs.Connections.{Text, No_text, Away, Here, Connection, sender_does, receiver_does, is_call, command_comes, ConnectionEvent, Sender_calls, Receiver_calls, Comes_to_sender, Comes_to_receiver, Text_goes_out, Text_comes, Text_is_answered, sender_hears, receiver_hears, comes_to_sender, comes_to_receiver, text_comes, text_is_answered, occurs}
-use Rattle.ncp_proof_connection.specs.Ledger.{BothOpenOnConnection, MessagesAgreeOnConnection, BitsAgreeOnConnection, PartedOnConnection, Held, BeginsOnConnection}
+use Rattle.ncp_proof_connection.specs.Ledger.{BothOpenOnConnection, AmountsAgreeOnConnection, PartedOnConnection, Held, BeginsOnConnection}
 use Rattle.ncp_proof_connection.specs.Clearings.{Hosted, new_hosted, text_dropped, text_over, is_at_sender, misses, Change, Occurs, Sender_is_cleared, Receiver_is_cleared, Starts_anew, starts_anew, changes, change_from, change, OutStaysOpened}
 use Rattle.ncp_proof_connection.proofs.SenderActs.{opens_none}
 use Rattle.ncp_proof_connection.proofs.Whole.{Inv, sender_calls_keep, receiver_calls_keep, comes_to_sender_keeps, comes_to_receiver_keeps, text_comes_keeps, text_is_answered_keeps, keeps, new_core, ever, both_open, what_was_held, what_begins, out_is_opened}
@@ -361,7 +361,7 @@ module _ (pair : Pair) (sd : sends pair ≡ true) where
   dead : (o : Option End) → o ≡ None → is_live o ≡ true → ⊥
   dead o e k = both_ways (is_live o) (rw e refl) k
 
-  pub fit_open : (a b : Bool) (w : Connection) → Fit pair a b w → BothOpenOnConnection w → MessagesAgreeOnConnection w × BitsAgreeOnConnection w × PartedOnConnection w
+  pub fit_open : (a b : Bool) (w : Connection) → Fit pair a b w → BothOpenOnConnection w → AmountsAgreeOnConnection w × PartedOnConnection w
   fit_open true true w k o = both_open pair sd w k o
   fit_open true false w k o = absurd (shut w.receiver.end k.gone o.1)
   fit_open false true w k o = absurd (shut w.sender.end k.gone o.0)

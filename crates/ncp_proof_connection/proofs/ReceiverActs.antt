@@ -1,7 +1,7 @@
 -- Every act at the receiver's end keeps what the ends have in common.
-use Rattle.std.proofs.Common.{◌≡◌, ℕ, ◌+◌, ◌-◌, ◌≤◌, Bool, true, false, not, ◌||◌, ◌&&◌, ◌==◌, if◌then◌else◌, nat_le, nat_lt, cond, List, [], ◌∷◌, ◌++◌, length, take, drop, Option, None, Some, Ok, Err, refl, ap, sym, ◌∙◌, subst, arith}
+use Rattle.std.proofs.Common.{◌≡◌, ℕ, ◌+◌, ◌-◌, ◌≤◌, Bool, true, false, not, ◌||◌, ◌&&◌, ◌==◌, if◌then◌else◌, nat_le, nat_lt, cond, List, [], ◌∷◌, ◌++◌, length, take, drop, Option, None, Some, Result, Ok, Err, refl, ap, sym, ◌∙◌, subst, arith}
 use Rattle.std.specs.Prelude.{is_none, min}
-use Rattle.std.proofs.lemmas.Bool.{both_ways, or_parts, and_parts, and_left, or_left, not-true, not-false}
+use Rattle.std.proofs.lemmas.Bool.{both_ways, or_parts, and_parts, and_left, or_left, not-true}
 use Rattle.std.proofs.lemmas.List.{append-nil}
 use Rattle.ncp_terms.specs.declared.command.Command.{Command}
 use Rattle.ncp_terms.specs.declared.command.Command.TheVariants.{Rts, Str, Cls, Gvb, Ret, Inr, Ins}
@@ -9,11 +9,11 @@ use Rattle.ncp_model.specs.declared.pair.Pair.{Pair}
 use Rattle.ncp_model.specs.declared.call_fault.CallFault.{CallFault}
 use Rattle.ncp_model.specs.declared.outcomes.Heard.{Heard}
 use Rattle.ncp_model.specs.declared.outcomes.Took.{Took}
-use Rattle.ncp_model.specs.declared.limits.TheConstants.{MAX_OWN, MAX_BY_PEER, MAX_COUNT}
+use Rattle.ncp_model.specs.declared.limits.TheConstants.{MAX_BY_PEER, MAX_COUNT}
 use Rattle.ncp_model.specs.Pairs.{sends, receives, is_proper}
 use Rattle.ncp_model.specs.End.{End, new_end, or_new, is_going, is_over, is_live}
-use Rattle.ncp_model.specs.Act.{Act, Stays, Becomes, answer, end_after, made_by_call, made_by_close, made_by_take, made_by_hearing, met, leaves, closing, is_room, is_data_link}
-use Rattle.ncp_model.specs.Calls.{ask_send, ask_receive, asked_to_receive, close, give, take_held, bits_to_take, emptied, allocate, call_back, interrupt, interrupting, is_too_much}
+use Rattle.ncp_model.specs.Act.{Act, Stays, Becomes, answer, end_after, made_by_call, made_by_close, made_by_take, made_by_hearing, met, leaves, closing, is_data_link}
+use Rattle.ncp_model.specs.Calls.{unless_refused, may_ask_send, ask_send, may_ask_receive, ask_receive, asked_to_receive, may_close, close, may_give, give, may_take, take_held, bits_to_take, emptied, may_allocate, allocate, may_call_back, call_back, may_interrupt, interrupt, interrupting}
 use Rattle.ncp_model.specs.Commands.{hear_str, hear_cls, hear_cls_end, hear_ret, hear_ins, at_open, ret_at, interrupted}
 use Rattle.ncp_model.specs.Texts.{hear_text, made_by_text}
 use Rattle.ncp_model.specs.Happenings.{Happening, Outcome, outcome_of_call, of_take, of_hearing, outcome_of_text, is_violation}
@@ -108,105 +108,95 @@ only_receives pair e = grind arith
 not_over : (e : End) → is_going e ≡ false → is_over e ≡ false
 not_over e v = and_left e.left e.cls (or_parts e.leaving e.left v).1
 
-refused : {what : Happening} {before : Option End} {past : Past} {s : End} {g : List Bool} {p q : List Command} {t : Text} {f : CallFault} → ((x : Past) → (adds what (Outcome.Refused f) x).got ≡ x.got)
-    → Core s g (or_new before) (live_got before past) p q t → Keeps what before past s g p q t made_by_call outcome_of_call (Stays (Err f))
-refused {f = f} y k = stays (Err f) refl refl y k
+-- a call is refused, or does its act
+called : {A : Type 0} {what : Happening} {before : Option End} {past : Past} {s : End} {g : List Bool} {p q : List Command} {t : Text} {made_by : Result A CallFault → List Command} {of : Result A CallFault → Outcome} (may : Result (Unit {0}) CallFault) {act : Act (Result A CallFault)}
+    → ((f : CallFault) → Keeps what before past s g p q t made_by of (Stays (Err f))) → (may ≡ Ok tt → Keeps what before past s g p q t made_by of act) → Keeps what before past s g p q t made_by of (unless_refused may act)
+called (Ok _) k m = m refl
+called (Err f) k m = k f
 
 module _ (pair : Pair) (rd : receives pair ≡ true) (past : Past) (s : End) (g : List Bool) (p q : List Command) (t : Text) (fs : Firm s) where
   pub rk-ask_send : (of_size with_room own : ℕ) (full : Bool) (before : Option End) → Core s g (or_new before) (live_got before past) p q t
       → Keeps (Happening.Asks_to_send of_size with_room own full) before past s g p q t made_by_call outcome_of_call (ask_send pair of_size with_room own full before)
   rk-ask_send of_size with_room own full before k =
-      choose (not (sends pair)) (λ _. refused (λ _. refl) k) (λ e. absurd (both_ways (sends pair) (only_receives pair rd) (not-false (sends pair) e)))
+      called (may_ask_send pair of_size with_room own full before) (λ f. stays (Err f) refl refl (λ _. refl) k) (λ may. absurd (both_ways (sends pair) (only_receives pair rd) (grind arith)))
 
   pub rk-ask_receive : (with_room on own : ℕ) (full : Bool) (before : Option End) → is_data_link on ≡ true → Firm (or_new before) → Core s g (or_new before) (live_got before past) p q t
       → Keeps (Happening.Asks_to_receive with_room on own full) before past s g p q t made_by_call outcome_of_call (ask_receive pair with_room on own full before)
   rk-ask_receive with_room on own full before d fr k =
-      choose (not (receives pair)) (λ _. refused (λ _. refl) k) (λ _.
-      choose (not (is_room with_room)) (λ _. refused (λ _. refl) k) (λ _.
-      choose ((or_new before).asked && not (is_going (or_new before))) (λ _. refused (λ _. refl) k) (λ a.
-      choose (is_going (or_new before)) (λ _. refused (λ _. refl) k) (λ v.
-      choose (nat_le MAX_OWN own) (λ _. refused (λ _. refl) k) (λ _.
-      choose full (λ _. refused (λ _. refl) k) (λ _.
+      called (may_ask_receive pair with_room own full before) (λ f. stays (Err f) refl refl (λ _. refl) k) (λ may.
       let none : (or_new before).asked ≡ false = grind arith in
-      let o : (or_new before).opened ≡ false = unasked (or_new before) fr none in
-      becomes (asked_to_receive on with_room (or_new before)) (Ok (Rts pair.local pair.remote on)) refl (not_over (or_new before) v) (λ x. absurd (both_ways (or_new before).opened o x)) (λ _. refl)
-      (r_asks s g (or_new before) (live_got before past) p q t fs fr on with_room pair.local pair.remote none v d k)))))))
+      let v : is_going (or_new before) ≡ false = grind arith in
+      becomes (asked_to_receive on with_room (or_new before)) (Ok (Rts pair.local pair.remote on)) refl (not_over (or_new before) v) (λ x. absurd (both_ways (or_new before).opened (unasked (or_new before) fr none) x)) (λ _. refl)
+      (r_asks s g (or_new before) (live_got before past) p q t fs fr on with_room pair.local pair.remote none v d k))
 
   pub rk-close : (full : Bool) (before : Option End) → Firm (or_new before) → stands before ≡ true → Core s g (or_new before) (live_got before past) p q t
       → Keeps (Happening.Closes full) before past s g p q t made_by_close outcome_of_call (close pair full before)
   rk-close full None fr st k = stays _ refl refl (λ _. refl) k
   rk-close full (Some e) fr st k =
-      choose (e.left || (e.leaving && sends pair)) (λ _. stays _ refl refl (λ _. refl) k) (λ c.
-      choose full (λ _. stays _ refl refl (λ _. refl) k) (λ _.
-      let l : e.left ≡ false = (or_parts e.left (e.leaving && sends pair) c).0 in
+      called (may_close pair full e) (λ f. stays (Err f) refl refl (λ _. refl) k) (λ may.
+      let l : e.left ≡ false = grind arith in
       choose (sends pair && e.busy) (λ b. absurd (both_ways (sends pair) (only_receives pair rd) (and_parts (sends pair) e.busy b).0)) (λ _.
       closes (leaves e) (Ok (Some (closing pair))) refl (λ x. x) (λ _. refl)
       (λ o. r_ends s g e (live_got (Some e) past) p q t fs fr pair.local pair.remote l o k)
-      (λ o. r_leaves s g e (live_got (Some e) past) p q t fs fr pair.local pair.remote l (and_parts (e.asked || e.heard) (nat_le e.room 65536) st).0 k))))
+      (λ o. r_leaves s g e (live_got (Some e) past) p q t fs fr pair.local pair.remote l (and_parts (e.asked || e.heard) (nat_le e.room 65536) st).0 k)))
 
   pub rk-give : (text : List Bool) (before : Option End) → Core s g (or_new before) (live_got before past) p q t
       → Keeps (Happening.Gives text) before past s g p q t (λ _. []) outcome_of_call (give pair text before)
   rk-give text None k = stays _ refl refl (λ _. refl) k
   rk-give text (Some e) k =
-      choose (is_going e) (λ _. stays _ refl refl (λ _. refl) k) (λ v.
-      choose (not (e.asked && e.heard)) (λ _. stays _ refl refl (λ _. refl) k) (λ b.
-      choose (not (sends pair)) (λ _. stays _ refl refl (λ _. refl) k) (λ x. absurd (both_ways (sends pair) (only_receives pair rd) (not-false (sends pair) x)))))
+      called (may_give pair text e) (λ f. stays (Err f) refl refl (λ _. refl) k) (λ may. absurd (both_ways (sends pair) (only_receives pair rd) (grind arith)))
 
   pub rk-take : (bytes : ℕ) (before : Option End) → Firm (or_new before) → Core s g (or_new before) (live_got before past) p q t
       → Keeps (Happening.Takes bytes) before past s g p q t made_by_take of_take (take_held pair bytes before)
   rk-take bytes None fr k = stays _ refl refl (λ _. refl) k
   rk-take bytes (Some e) fr k =
-      choose e.left (λ _. stays _ refl refl (λ _. refl) k) (λ l.
-      choose (not e.opened) (λ _. stays _ refl refl (λ _. refl) k) (λ o.
-      choose (not (receives pair)) (λ _. stays _ refl refl (λ _. refl) k) (λ _.
+      called (may_take pair e) (λ f. stays (Err f) refl refl (λ _. refl) k) (λ may.
+      let l : e.left ≡ false = grind arith in
+      let o : e.opened ≡ true = grind arith in
       let n : ℕ = bits_to_take bytes e in
       let e2 : End = record e { stored = drop n e.stored } in
       let k2 = r_takes s g e (live_got (Some e) past) p q t fs fr (drop n e.stored) k in
-      let asked : e.asked ≡ true = (fr.marks (not-false e.opened o)).0 in
+      let asked : e.asked ≡ true = (fr.marks o).0 in
       choose (e.leaving && emptied e n)
       (λ v. closes (leaves e) (Ok (take n e.stored, Some (closing pair))) refl (λ x. x) (λ _. refl)
       (λ x. r_ends s g e (live_got (Some e) past) p q t fs fr pair.local pair.remote l x k)
       (λ x. r_leaves s g e (live_got (Some e) past) p q t fs fr pair.local pair.remote l (or_left e.asked e.heard asked) k))
-      (λ v. becomes e2 (Ok (take n e.stored, None)) refl (and_left e.left e.cls l) (λ x. x) (λ _. refl) (rw (append-nil q) k2)))))
+      (λ v. becomes e2 (Ok (take n e.stored, None)) refl (and_left e.left e.cls l) (λ x. x) (λ _. refl) (rw (append-nil q) k2)))
 
   pub rk-allocate : (m b : ℕ) (full : Bool) (before : Option End) → Firm (or_new before) → Core s g (or_new before) (live_got before past) p q t
       → Keeps (Happening.Allocates m b full) before past s g p q t made_by_call outcome_of_call (allocate pair m b full before)
-  rk-allocate m b full None fr k = refused (λ _. refl) k
+  rk-allocate m b full None fr k = stays _ refl refl (λ _. refl) k
   rk-allocate m b full (Some e) fr k =
-      choose (is_going e) (λ _. refused (λ _. refl) k) (λ v.
-      choose (not (e.asked && e.heard)) (λ _. refused (λ _. refl) k) (λ c.
-      choose (not (receives pair)) (λ _. refused (λ _. refl) k) (λ _.
-      choose (is_too_much m b e) (λ _. refused (λ _. refl) k) (λ y.
-      choose full (λ _. refused (λ _. refl) k) (λ _.
-      let f = and_parts e.asked e.heard (not-false (e.asked && e.heard) c) in
+      called (may_allocate pair m b full e) (λ f. stays (Err f) refl refl (λ _. refl) k) (λ may.
+      let v : is_going e ≡ false = grind arith in
+      let a : e.asked ≡ true = grind arith in
+      let o : e.heard ≡ true = grind arith in
       let room = fr.room in
       let lm : e.messages + m ≤ 65535 = grind arith in
       let lb : e.bits + length e.stored + b ≤ 65536 = grind arith in
-      becomes _ _ refl (not_over e v) (λ x. x) (λ _. refl) (r_allocates s g e (live_got (Some e) past) p q t fs fr e.link m b refl v f.0 f.1 lm lb k))))))
+      becomes _ _ refl (not_over e v) (λ x. x) (λ _. refl) (r_allocates s g e (live_got (Some e) past) p q t fs fr e.link m b refl v a o lm lb k))
 
   pub rk-call_back : (m b : ℕ) (full : Bool) (before : Option End) → Firm (or_new before) → Core s g (or_new before) (live_got before past) p q t
       → Keeps (Happening.Calls_back m b full) before past s g p q t made_by_call outcome_of_call (call_back pair m b full before)
-  rk-call_back m b full None fr k = refused (λ _. refl) k
+  rk-call_back m b full None fr k = stays _ refl refl (λ _. refl) k
   rk-call_back m b full (Some e) fr k =
-      choose (is_going e) (λ _. refused (λ _. refl) k) (λ v.
-      choose (not (e.asked && e.heard)) (λ _. refused (λ _. refl) k) (λ c.
-      choose (not (receives pair)) (λ _. refused (λ _. refl) k) (λ _.
-      choose e.recall (λ _. refused (λ _. refl) k) (λ _.
-      choose full (λ _. refused (λ _. refl) k) (λ _.
-      let f = and_parts e.asked e.heard (not-false (e.asked && e.heard) c) in
+      called (may_call_back pair full e) (λ f. stays (Err f) refl refl (λ _. refl) k) (λ may.
+      let v : is_going e ≡ false = grind arith in
+      let a : e.asked ≡ true = grind arith in
+      let o : e.heard ≡ true = grind arith in
       becomes (record e { recall = true }) (Ok (Gvb e.link m b)) refl (not_over e v) (λ x. x) (λ _. refl)
-      (r_makes s g e (live_got (Some e) past) p q t fs fr (Gvb e.link m b) (record e { recall = true }) e.link refl refl refl refl v f.0 f.1 refl refl refl refl refl k))))))
+      (r_makes s g e (live_got (Some e) past) p q t fs fr (Gvb e.link m b) (record e { recall = true }) e.link refl refl refl refl v a o refl refl refl refl refl k))
 
   pub rk-interrupt : (full : Bool) (before : Option End) → Firm (or_new before) → Core s g (or_new before) (live_got before past) p q t
       → Keeps (Happening.Interrupts full) before past s g p q t made_by_call outcome_of_call (interrupt pair full before)
-  rk-interrupt full None fr k = refused (λ _. refl) k
+  rk-interrupt full None fr k = stays _ refl refl (λ _. refl) k
   rk-interrupt full (Some e) fr k =
-      choose (is_going e) (λ _. refused (λ _. refl) k) (λ v.
-      choose (not (e.asked && e.heard)) (λ _. refused (λ _. refl) k) (λ c.
-      choose full (λ _. refused (λ _. refl) k) (λ _.
-      let f = and_parts e.asked e.heard (not-false (e.asked && e.heard) c) in
+      called (may_interrupt full e) (λ f. stays (Err f) refl refl (λ _. refl) k) (λ may.
+      let v : is_going e ≡ false = grind arith in
+      let a : e.asked ≡ true = grind arith in
+      let o : e.heard ≡ true = grind arith in
       becomes e (Ok (interrupting pair e)) refl (not_over e v) (λ x. x) (λ _. refl)
-      (rw (only_receives pair rd) (r_makes s g e (live_got (Some e) past) p q t fs fr (Inr e.link) e e.link refl refl refl refl v f.0 f.1 refl refl refl refl refl k)))))
+      (rw (only_receives pair rd) (r_makes s g e (live_got (Some e) past) p q t fs fr (Inr e.link) e e.link refl refl refl refl v a o refl refl refl refl refl k)))
 
   -- What comes.
 

@@ -16,7 +16,7 @@ use Rattle.ncp_proof_connection.proofs.Lines.{Kind, Request, Close, Data, Marks,
 use Rattle.ncp_proof_connection.proofs.Joint.{to_sender_kind, to_receiver_kind, kinds, kinds_more, sum_more, sum_same, sender_marks, receiver_marks, Books, Place, Together, Sender_ahead, Receiver_ahead, Joint, Sized, Core, Firm, sender_well, receiver_well, no_text, unasked, unheard, begun_empty}
 use Rattle.ncp_proof_connection.proofs.Numbers.{books_as, books_receiver, books_receiver_going, books_new}
 use Rattle.ncp_proof_connection.proofs.Senders.{going_parts, kinds_none}
-use Rattle.ncp_model.specs.Amounts.{granted_messages, granted_bits, returned_messages, returned_bits}
+use Rattle.ncp_model.proofs.AmountParts.{granted_messages, granted_bits, returned_messages, returned_bits}
 
 -- what such a command, or a text, comes with: the end has opened, and asked with that link
 pub record Fits (s : End) (g : List Bool) (r : End) (h : List Bool) (p p2 q : List Command) (t : Text) : Type 0 where

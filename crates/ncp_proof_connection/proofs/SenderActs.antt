@@ -1,7 +1,7 @@
 -- Every act at the sender's end keeps what the ends have in common.
-use Rattle.std.proofs.Common.{◌≡◌, ℕ, ◌+◌, ◌*◌, ◌/◌, ◌%◌, ◌≤◌, Bool, true, false, not, ◌||◌, ◌&&◌, ◌==◌, if◌then◌else◌, nat_le, nat_lt, cond, List, [], ◌∷◌, ◌++◌, length, Option, None, Some, Ok, Err, refl, ap, sym, ◌∙◌, subst, arith}
+use Rattle.std.proofs.Common.{◌≡◌, ℕ, ◌+◌, ◌*◌, ◌/◌, ◌≤◌, Bool, true, false, not, ◌||◌, ◌&&◌, ◌==◌, if◌then◌else◌, nat_le, nat_lt, cond, List, [], ◌∷◌, ◌++◌, length, Option, None, Some, Result, Ok, Err, refl, ap, sym, ◌∙◌, subst, arith}
 use Rattle.std.specs.Prelude.{is_none, min}
-use Rattle.std.proofs.lemmas.Bool.{both_ways, or_parts, and_parts, and_left, or_left, not-true, not-false, leb-true}
+use Rattle.std.proofs.lemmas.Bool.{both_ways, or_parts, and_parts, and_left, or_left, not-true, leb-true}
 use Rattle.std.proofs.lemmas.List.{append-nil}
 use Rattle.std.proofs.Math.Nat.{div-mul-le_self, mul-le-mul_right, min-le_left, min-le_right}
 use Rattle.ncp_terms.specs.declared.command.Command.{Command}
@@ -9,11 +9,11 @@ use Rattle.ncp_terms.specs.declared.command.Command.TheVariants.{Rts, Cls, All, 
 use Rattle.ncp_model.specs.declared.pair.Pair.{Pair}
 use Rattle.ncp_model.specs.declared.call_fault.CallFault.{CallFault}
 use Rattle.ncp_model.specs.declared.outcomes.Heard.{Heard}
-use Rattle.ncp_model.specs.declared.limits.TheConstants.{MAX_OWN, MAX_BY_PEER, MAX_MESSAGES, MAX_AMOUNT, MAX_TEXT, MAX_COUNT}
+use Rattle.ncp_model.specs.declared.limits.TheConstants.{MAX_BY_PEER, MAX_MESSAGES, MAX_AMOUNT, MAX_TEXT, MAX_COUNT}
 use Rattle.ncp_model.specs.Pairs.{sends, receives, is_proper}
 use Rattle.ncp_model.specs.End.{End, new_end, or_new, is_going, is_over}
-use Rattle.ncp_model.specs.Act.{Act, Stays, Becomes, answer, end_after, made_by_call, made_by_close, made_by_take, made_by_hearing, made_if_any, met, leaves, closing, is_room, is_data_link}
-use Rattle.ncp_model.specs.Calls.{ask_send, ask_receive, close, give, take_held, allocate, call_back, interrupt, interrupting}
+use Rattle.ncp_model.specs.Act.{Act, Stays, Becomes, answer, end_after, made_by_call, made_by_close, made_by_take, made_by_hearing, made_if_any, met, leaves, closing, is_data_link}
+use Rattle.ncp_model.specs.Calls.{unless_refused, may_ask_send, ask_send, may_ask_receive, ask_receive, may_close, close, may_give, give, may_take, take_held, may_allocate, allocate, may_call_back, call_back, may_interrupt, interrupt, interrupting}
 use Rattle.ncp_model.specs.Commands.{hear_rts, hear_cls, hear_cls_end, hear_all, hear_gvb, hear_inr, at_open, all_at, gvb_at, interrupted}
 use Rattle.ncp_model.specs.Texts.{cut, may_send, bytes_to_send, Answer, end_answered, Rfnm}
 use Rattle.ncp_model.specs.Happenings.{Happening, Outcome, outcome_of_call, of_take, of_hearing, of_cut, is_violation}
@@ -121,91 +121,79 @@ only_sends pair e = grind arith
 not_over : (e : End) → is_going e ≡ false → is_over e ≡ false
 not_over e v = and_left e.left e.cls (or_parts e.leaving e.left v).1
 
--- a call that is refused, and whatever has no effect
-refused : {what : Happening} {before : Option End} {past : Past} {r : End} {h : List Bool} {p q : List Command} {t : Text} {f : CallFault} → ((x : Past) → (adds what (Outcome.Refused f) x).given ≡ x.given)
-    → Core (or_new before) past.given r h p q t → Keeps what before past r h p q t made_by_call outcome_of_call (Stays (Err f))
-refused {f = f} g k = stays (Err f) refl refl refl g k
+-- a call is refused, or does its act
+called : {A : Type 0} {what : Happening} {before : Option End} {past : Past} {r : End} {h : List Bool} {p q : List Command} {t : Text} {made_by : Result A CallFault → List Command} {of : Result A CallFault → Outcome} (may : Result (Unit {0}) CallFault) {act : Act (Result A CallFault)}
+    → ((f : CallFault) → Keeps what before past r h p q t made_by of (Stays (Err f))) → (may ≡ Ok tt → Keeps what before past r h p q t made_by of act) → Keeps what before past r h p q t made_by of (unless_refused may act)
+called (Ok _) k m = m refl
+called (Err f) k m = k f
 
 module _ (pair : Pair) (sd : sends pair ≡ true) (past : Past) (r : End) (h : List Bool) (p q : List Command) (t : Text) (fr : Firm r) where
   pub sk-ask_send : (of_size with_room own : ℕ) (full : Bool) (before : Option End) → Firm (or_new before) → Core (or_new before) past.given r h p q t
       → Keeps (Happening.Asks_to_send of_size with_room own full) before past r h p q t made_by_call outcome_of_call (ask_send pair of_size with_room own full before)
   sk-ask_send of_size with_room own full before fs k =
-      choose (not (sends pair)) (λ _. refused (λ _. refl) k) (λ _.
-      choose (of_size == 0) (λ _. refused (λ _. refl) k) (λ z.
-      choose (not (is_room with_room)) (λ _. refused (λ _. refl) k) (λ _.
-      choose ((or_new before).asked && not (is_going (or_new before))) (λ _. refused (λ _. refl) k) (λ a.
-      choose (is_going (or_new before)) (λ _. refused (λ _. refl) k) (λ v.
-      choose (nat_le MAX_OWN own) (λ _. refused (λ _. refl) k) (λ _.
-      choose full (λ _. refused (λ _. refl) k) (λ _.
+      called (may_ask_send pair of_size with_room own full before) (λ f. stays (Err f) refl refl refl (λ _. refl) k) (λ may.
       let none : (or_new before).asked ≡ false = grind arith in
+      let v : is_going (or_new before) ≡ false = grind arith in
+      let z : (of_size == 0) ≡ false = grind arith in
       begins _ _ refl (not_over (or_new before) v) (unasked (or_new before) fs none) (λ _. refl)
-      (λ g x y. s_asks (or_new before) past.given r h p q t fs fr of_size with_room pair.local pair.remote g none v z x y k))))))))
+      (λ g x y. s_asks (or_new before) past.given r h p q t fs fr of_size with_room pair.local pair.remote g none v z x y k))
 
   pub sk-ask_receive : (with_room on own : ℕ) (full : Bool) (before : Option End) → Core (or_new before) past.given r h p q t
       → Keeps (Happening.Asks_to_receive with_room on own full) before past r h p q t made_by_call outcome_of_call (ask_receive pair with_room on own full before)
   sk-ask_receive with_room on own full before k =
-      choose (not (receives pair)) (λ _. refused (λ _. refl) k) (λ e. absurd (both_ways (receives pair) (only_sends pair sd) (not-false (receives pair) e)))
+      called (may_ask_receive pair with_room own full before) (λ f. stays (Err f) refl refl refl (λ _. refl) k) (λ may. absurd (both_ways (receives pair) (only_sends pair sd) (grind arith)))
 
   pub sk-close : (full : Bool) (before : Option End) → Firm (or_new before) → stands before ≡ true → Core (or_new before) past.given r h p q t
       → Keeps (Happening.Closes full) before past r h p q t made_by_close outcome_of_call (close pair full before)
   sk-close full None fs st k = stays _ refl refl refl (λ _. refl) k
   sk-close full (Some e) fs st k =
-      choose (e.left || (e.leaving && sends pair)) (λ _. stays _ refl refl refl (λ _. refl) k) (λ c.
-      choose full (λ _. stays _ refl refl refl (λ _. refl) k) (λ _.
-      let l : e.left ≡ false = (or_parts e.left (e.leaving && sends pair) c).0 in
+      called (may_close pair full e) (λ f. stays (Err f) refl refl refl (λ _. refl) k) (λ may.
+      let l : e.left ≡ false = grind arith in
       choose (sends pair && e.busy)
       (λ b. becomes (record e { leaving = true; stored = [] }) (Ok None) refl (and_left e.left e.cls l) refl
       (rw (append-nil p) (s_leaving e past.given r h p q t fs fr (record e { leaving = true; stored = [] }) (and_parts (sends pair) e.busy b).1 refl refl refl refl refl refl k)))
       (λ b. let y : e.busy ≡ false = grind arith in
       closes (leaves e) (Ok (Some (closing pair))) refl refl
       (λ o. s_ends e past.given r h p q t fs fr pair.local pair.remote y l o k)
-      (λ o. s_leaves e past.given r h p q t fs fr pair.local pair.remote y l (and_parts (e.asked || e.heard) (nat_le e.room 65536) st).0 k))))
+      (λ o. s_leaves e past.given r h p q t fs fr pair.local pair.remote y l (and_parts (e.asked || e.heard) (nat_le e.room 65536) st).0 k)))
 
   pub sk-give : (text : List Bool) (before : Option End) → Firm (or_new before) → Core (or_new before) past.given r h p q t
       → Keeps (Happening.Gives text) before past r h p q t (λ _. []) outcome_of_call (give pair text before)
   sk-give text None fs k = stays _ refl refl refl (λ x. append-nil x.given) k
   sk-give text (Some e) fs k =
-      choose (is_going e) (λ _. stays _ refl refl refl (λ x. append-nil x.given) k) (λ v.
-      choose (not (e.asked && e.heard)) (λ _. stays _ refl refl refl (λ x. append-nil x.given) k) (λ b.
-      choose (not (sends pair)) (λ _. stays _ refl refl refl (λ x. append-nil x.given) k) (λ _.
-      choose (not (length text % e.size == 0)) (λ _. stays _ refl refl refl (λ x. append-nil x.given) k) (λ _.
-      choose (not (nat_le (length e.stored + length text) e.room)) (λ _. stays _ refl refl refl (λ x. append-nil x.given) k) (λ _.
-      let f = and_parts e.asked e.heard (not-false (e.asked && e.heard) b) in
-      becomes (record e { stored = e.stored ++ text }) (Ok tt) refl (not_over e v) refl (rw (append-nil p) (s_gives e past.given r h p q t fs fr text v f.0 f.1 k)))))))
+      called (may_give pair text e) (λ f. stays (Err f) refl refl refl (λ x. append-nil x.given) k) (λ may.
+      let v : is_going e ≡ false = grind arith in
+      let a : e.asked ≡ true = grind arith in
+      let o : e.heard ≡ true = grind arith in
+      becomes (record e { stored = e.stored ++ text }) (Ok tt) refl (not_over e v) refl (rw (append-nil p) (s_gives e past.given r h p q t fs fr text v a o k)))
 
   pub sk-take : (bytes : ℕ) (before : Option End) → Core (or_new before) past.given r h p q t
       → Keeps (Happening.Takes bytes) before past r h p q t made_by_take of_take (take_held pair bytes before)
   sk-take bytes None k = stays _ refl refl refl (λ _. refl) k
   sk-take bytes (Some e) k =
-      choose e.left (λ _. stays _ refl refl refl (λ _. refl) k) (λ _.
-      choose (not e.opened) (λ _. stays _ refl refl refl (λ _. refl) k) (λ _.
-      choose (not (receives pair)) (λ _. stays _ refl refl refl (λ _. refl) k) (λ x. absurd (both_ways (receives pair) (only_sends pair sd) (not-false (receives pair) x)))))
+      called (may_take pair e) (λ f. stays (Err f) refl refl refl (λ _. refl) k) (λ may. absurd (both_ways (receives pair) (only_sends pair sd) (grind arith)))
 
   pub sk-allocate : (m b : ℕ) (full : Bool) (before : Option End) → Core (or_new before) past.given r h p q t
       → Keeps (Happening.Allocates m b full) before past r h p q t made_by_call outcome_of_call (allocate pair m b full before)
-  sk-allocate m b full None k = refused (λ _. refl) k
+  sk-allocate m b full None k = stays _ refl refl refl (λ _. refl) k
   sk-allocate m b full (Some e) k =
-      choose (is_going e) (λ _. refused (λ _. refl) k) (λ _.
-      choose (not (e.asked && e.heard)) (λ _. refused (λ _. refl) k) (λ _.
-      choose (not (receives pair)) (λ _. refused (λ _. refl) k) (λ x. absurd (both_ways (receives pair) (only_sends pair sd) (not-false (receives pair) x)))))
+      called (may_allocate pair m b full e) (λ f. stays (Err f) refl refl refl (λ _. refl) k) (λ may. absurd (both_ways (receives pair) (only_sends pair sd) (grind arith)))
 
   pub sk-call_back : (m b : ℕ) (full : Bool) (before : Option End) → Core (or_new before) past.given r h p q t
       → Keeps (Happening.Calls_back m b full) before past r h p q t made_by_call outcome_of_call (call_back pair m b full before)
-  sk-call_back m b full None k = refused (λ _. refl) k
+  sk-call_back m b full None k = stays _ refl refl refl (λ _. refl) k
   sk-call_back m b full (Some e) k =
-      choose (is_going e) (λ _. refused (λ _. refl) k) (λ _.
-      choose (not (e.asked && e.heard)) (λ _. refused (λ _. refl) k) (λ _.
-      choose (not (receives pair)) (λ _. refused (λ _. refl) k) (λ x. absurd (both_ways (receives pair) (only_sends pair sd) (not-false (receives pair) x)))))
+      called (may_call_back pair full e) (λ f. stays (Err f) refl refl refl (λ _. refl) k) (λ may. absurd (both_ways (receives pair) (only_sends pair sd) (grind arith)))
 
   pub sk-interrupt : (full : Bool) (before : Option End) → Firm (or_new before) → Core (or_new before) past.given r h p q t
       → Keeps (Happening.Interrupts full) before past r h p q t made_by_call outcome_of_call (interrupt pair full before)
-  sk-interrupt full None fs k = refused (λ _. refl) k
+  sk-interrupt full None fs k = stays _ refl refl refl (λ _. refl) k
   sk-interrupt full (Some e) fs k =
-      choose (is_going e) (λ _. refused (λ _. refl) k) (λ v.
-      choose (not (e.asked && e.heard)) (λ _. refused (λ _. refl) k) (λ b.
-      choose full (λ _. refused (λ _. refl) k) (λ _.
-      let f = and_parts e.asked e.heard (not-false (e.asked && e.heard) b) in
-      becomes e (Ok (interrupting pair e)) refl (not_over e v) refl (rw sd (s_interrupts e past.given r h p q t fs fr e.link refl v f.0 f.1 k)))))
+      called (may_interrupt full e) (λ f. stays (Err f) refl refl refl (λ _. refl) k) (λ may.
+      let v : is_going e ≡ false = grind arith in
+      let a : e.asked ≡ true = grind arith in
+      let o : e.heard ≡ true = grind arith in
+      becomes e (Ok (interrupting pair e)) refl (not_over e v) refl (rw sd (s_interrupts e past.given r h p q t fs fr e.link refl v a o k)))
 
   -- What comes.
 

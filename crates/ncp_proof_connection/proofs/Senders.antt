@@ -8,7 +8,8 @@ use Rattle.ncp_terms.specs.declared.command.Command.{Command}
 use Rattle.ncp_terms.specs.declared.command.Command.TheVariants.{Rts, Str, Cls, All, Gvb, Ret, Inr, Ins}
 use Rattle.ncp_model.specs.declared.limits.TheConstants.{MAX_COUNT}
 use Rattle.ncp_model.specs.Act.{met, leaves, is_data_link}
-use Rattle.ncp_model.specs.Amounts.{back, granted_messages, granted_bits, returned_messages, returned_bits}
+use Rattle.ncp_model.specs.Amounts.{back}
+use Rattle.ncp_model.proofs.AmountParts.{granted_messages, granted_bits, returned_messages, returned_bits}
 use Rattle.ncp_model.specs.Calls.{asked_to_send}
 use Rattle.ncp_model.specs.End.{End, new_end, is_going}
 use Rattle.ncp_proof_connection.specs.Connections.{Text, No_text, Away, Here}

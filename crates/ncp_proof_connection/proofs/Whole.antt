@@ -8,16 +8,17 @@ use Rattle.ncp_terms.specs.declared.command.Command.TheVariants.{Rts, Str, Cls, 
 use Rattle.ncp_model.specs.declared.pair.Pair.{Pair}
 use Rattle.ncp_model.specs.declared.limits.TheConstants.{MAX_BY_PEER}
 use Rattle.ncp_model.specs.Pairs.{sends, receives, turned}
+use Rattle.ncp_model.specs.Amounts.{amount}
 use Rattle.ncp_model.specs.End.{End, new_end, or_new, is_going, is_open, is_live}
 use Rattle.ncp_model.specs.Texts.{Answer, Rfnm, Incomplete, Dead}
 use Rattle.ncp_proof_watch.specs.Sound.{SoundAt}
 use Rattle.ncp_proof_watch.specs.Books.{BooksAt}
 use Rattle.ncp_model.specs.Leading.{suits}
-use Rattle.ncp_model.specs.Happenings.{Happening, Outcome, Happened, happens, is_violation}
+use Rattle.ncp_model.specs.Happenings.{Happening, happens, is_violation}
 use Rattle.ncp_proof_watch.proofs.SoundEnds.{one_way, sound-after}
 use Rattle.ncp_proof_watch.proofs.BooksKept.{books-kept}
 use Rattle.ncp_proof_connection.specs.Connections.{Text, No_text, Away, Here, Connection, new_connection, sender_does, receiver_does, is_call, ConnectionEvent, Sender_calls, Receiver_calls, Comes_to_sender, Comes_to_receiver, Text_goes_out, Text_comes, Text_is_answered, comes_to_sender, comes_to_receiver, text_comes, text_is_answered, occurs, occur_from, occur}
-use Rattle.ncp_proof_connection.specs.Ledger.{sending, receiving, text_bits, BothOpenOnConnection, MessagesAgreeOnConnection, BitsAgreeOnConnection, PartedOnConnection, Held, BeginsOnConnection, OutIsOpened}
+use Rattle.ncp_proof_connection.specs.Ledger.{sending, receiving, text_bits, BothOpenOnConnection, AmountsAgreeOnConnection, PartedOnConnection, Held, BeginsOnConnection, OutIsOpened}
 use Rattle.ncp_proof_connection.proofs.Lines.{Alien}
 use Rattle.ncp_proof_connection.proofs.Joint.{to_sender_kind, to_receiver_kind, Place, Together, Sender_ahead, Receiver_ahead, Joint, Core, Firm, live_got, begun_empty}
 use Rattle.ncp_proof_connection.proofs.Numbers.{books_new}
@@ -314,7 +315,10 @@ module _ (pair : Pair) (sd : sends pair ≡ true) where
       let b = and_parts e.asked e.heard a.0 in
       (b.0, b.1, not-true (is_going e) a.1)
 
-  pub both_open : (w : Connection) → Inv pair w → BothOpenOnConnection w → MessagesAgreeOnConnection w × BitsAgreeOnConnection w × PartedOnConnection w
+  same_amount : {a b c d : ℕ} → a ≡ b → c ≡ d → amount a c ≡ amount b d
+  same_amount e f = rw (e, f) refl
+
+  pub both_open : (w : Connection) → Inv pair w → BothOpenOnConnection w → AmountsAgreeOnConnection w × PartedOnConnection w
   both_open w k o = go k.core.place k.core.joint
     where
       s : End
@@ -335,8 +339,8 @@ module _ (pair : Pair) (sd : sends pair ≡ true) where
       ro : r.opened ≡ true
       ro = (r_firm w k.local).opens rv (open_parts r o.1).0 (open_parts r o.1).1
 
-      go : (d : Place) → Joint d s w.sender.past.given r (live_got w.receiver.end w.receiver.past) w.to_receiver w.to_sender w.text → MessagesAgreeOnConnection w × BitsAgreeOnConnection w × PartedOnConnection w
-      go Together j = (j.1.messages rv sv, j.1.bits rv sv, j.1.parted rv sv so ∙ ap (λ (x : List Bool). x ++ (text_bits w.text ++ s.stored)) (live w.receiver.end w.receiver.past ro))
+      go : (d : Place) → Joint d s w.sender.past.given r (live_got w.receiver.end w.receiver.past) w.to_receiver w.to_sender w.text → AmountsAgreeOnConnection w × PartedOnConnection w
+      go Together j = (same_amount (omega (arith, j.1.messages rv sv)) (omega (arith, j.1.bits rv sv)), j.1.parted rv sv so ∙ ap (λ (x : List Bool). x ++ (text_bits w.text ++ s.stored)) (live w.receiver.end w.receiver.past ro))
       go Sender_ahead j = absurd (both_ways r.left (going_parts r rv).1 j.left)
       go Receiver_ahead j = absurd (both_ways s.left (going_parts s sv).1 j.left)
 

@@ -4,13 +4,18 @@ use Rattle.ncp_terms.specs.declared.command.Command.{Command}
 use Rattle.ncp_model.specs.End.{End, is_open, is_live, or_new}
 use Rattle.ncp_proof_connection.specs.Connections.{Text, No_text, Away, Here, Connection}
 use Rattle.ncp_proof_watch.specs.Histories.{IsBeginning}
-use Rattle.ncp_model.specs.Amounts.{granted_messages, granted_bits, returned_messages, returned_bits}
+use Rattle.ncp_model.specs.declared.amounts.Amount.{Amount}
+use Rattle.ncp_model.specs.Amounts.{amount, ◌⊕◌, allowance, granted, returned}
 
 -- What is underway, in messages and in bits.
 
 abbrev pub sum_of : (Command → ℕ) → List Command → ℕ
 sum_of f [] = 0
 sum_of f (c ∷ cs) = f c + sum_of f cs
+
+-- what commands grant or return, in all
+abbrev pub total : (Command → Amount) → List Command → Amount
+total f cs = amount (sum_of (λ c. (f c).messages) cs) (sum_of (λ c. (f c).bits) cs)
 
 -- a text that went out and has not come
 abbrev pub text_messages : Text → ℕ
@@ -22,6 +27,9 @@ abbrev pub text_bits : Text → List Bool
 text_bits No_text = []
 text_bits (Away on of_size bits) = bits
 text_bits (Here on) = []
+
+abbrev pub text_amount : Text → Amount
+text_amount t = amount (text_messages t) (length (text_bits t))
 
 -- from its output to its RFNM
 abbrev pub is_text_out : Text → Bool
@@ -41,15 +49,8 @@ BothOpenOnConnection w = (is_open (sending w) ≡ true) × (is_open (receiving w
 -- What is outstanding at the receiver is what the sender's counters hold, and what ALL underway,
 -- the text that has not come and RET underway carry (NIC 8246, ALL, GVB and RET).
 
-abbrev pub MessagesAgreeOnConnection : Connection → Type 0
-MessagesAgreeOnConnection w =
-    (receiving w).messages
-    ≡ (sending w).messages + (sum_of granted_messages w.to_sender + (text_messages w.text + sum_of returned_messages w.to_receiver))
-
-abbrev pub BitsAgreeOnConnection : Connection → Type 0
-BitsAgreeOnConnection w =
-    (receiving w).bits
-    ≡ (sending w).bits + (sum_of granted_bits w.to_sender + (length (text_bits w.text) + sum_of returned_bits w.to_receiver))
+abbrev pub AmountsAgreeOnConnection : Connection → Type 0
+AmountsAgreeOnConnection w = allowance (receiving w) ≡ allowance (sending w) ⊕ total granted w.to_sender ⊕ text_amount w.text ⊕ total returned w.to_receiver
 
 -- what was given was got, is out, or waits
 abbrev pub PartedOnConnection : Connection → Type 0

@@ -2,7 +2,7 @@
 ghost use Rattle.std.specs.Prelude.{◌≡◌, true, false};
 ghost use Rattle.ncp_model.specs.Happenings.{happens};
 ghost use Rattle.ncp_proof_connection.specs.Connections.{is_in_order, ComesInOrder};
-ghost use Rattle.ncp_proof_connection.specs.Ledger.{BothOpenOnConnection, MessagesAgreeOnConnection, BitsAgreeOnConnection, PartedOnConnection, Held, BeginsOnConnection, TakenBeginsOnConnection, OutIsOpened};
+ghost use Rattle.ncp_proof_connection.specs.Ledger.{BothOpenOnConnection, AmountsAgreeOnConnection, PartedOnConnection, Held, BeginsOnConnection, TakenBeginsOnConnection, OutIsOpened};
 ghost use Rattle.ncp_proof_connection.specs.Clearings.{OutStaysOpened};
 ghost use Rattle.ncp_proof_connection.specs.OfConnections.{AfterEvents, AfterChanges, OfNextToSender, OfNextToReceiver, OfTextUnderway};
 
@@ -12,8 +12,7 @@ ghost use Rattle.ncp_proof_connection.specs.OfConnections.{AfterEvents, AfterCha
 /// taken or is held, and is a beginning of what was given. While a text is out both ends have opened.
 pub fn nothing_is_lost_or_made()
     ensures safe { AfterEvents (λ w. w.violated ≡ false) }
-    ensures messages { AfterEvents (λ w. BothOpenOnConnection w → MessagesAgreeOnConnection w) }
-    ensures bits { AfterEvents (λ w. BothOpenOnConnection w → BitsAgreeOnConnection w) }
+    ensures amounts { AfterEvents (λ w. BothOpenOnConnection w → AmountsAgreeOnConnection w) }
     ensures parted { AfterEvents (λ w. BothOpenOnConnection w → PartedOnConnection w) }
     ensures held { AfterEvents Held }
     ensures beginning { AfterEvents BeginsOnConnection }
@@ -34,8 +33,7 @@ pub fn what_comes_is_in_order()
 /// one at every moment, also where neither end is there any more, or one of them asked anew.
 pub fn clearings_lose_and_make_nothing()
     ensures safe { AfterChanges (λ h. h.connection.violated ≡ false) }
-    ensures messages { AfterChanges (λ h. BothOpenOnConnection h.connection → MessagesAgreeOnConnection h.connection) }
-    ensures bits { AfterChanges (λ h. BothOpenOnConnection h.connection → BitsAgreeOnConnection h.connection) }
+    ensures amounts { AfterChanges (λ h. BothOpenOnConnection h.connection → AmountsAgreeOnConnection h.connection) }
     ensures parted { AfterChanges (λ h. BothOpenOnConnection h.connection → PartedOnConnection h.connection) }
     ensures held { AfterChanges (λ h. Held h.connection) }
     ensures beginning { AfterChanges (λ h. BeginsOnConnection h.connection) }

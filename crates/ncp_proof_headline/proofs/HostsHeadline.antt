@@ -1,7 +1,7 @@
 -- Meant for other crates too: they cite what is public here.
 --
 -- What holds of two hosts follows from what holds of the connections between them.
-use Rattle.std.proofs.Common.{◌≡◌, ℕ, ◌+◌, Bool, true, false, not, List, [], ◌∷◌, ◌++◌, length, Option, None, Some, refl, sym, ap, ◌∙◌, subst, arith}
+use Rattle.std.proofs.Common.{◌≡◌, ℕ, Bool, true, false, not, List, [], ◌∷◌, ◌++◌, length, Option, None, Some, refl, sym, ap, ◌∙◌, subst, arith}
 use Rattle.std.specs.FinMap.{get, get-empty}
 use Rattle.std.proofs.lemmas.Bool.{both_ways, and_parts, not-true}
 use Rattle.ncp_terms.specs.declared.command.Command.{Command}
@@ -15,12 +15,12 @@ use Rattle.ncp_proof_watch.specs.Histories.{Watched, IsBeginning}
 use Rattle.ncp_proof_resets.specs.Delivery.{Slot, MessageTransit, Accepted, Link}
 use Rattle.ncp_proof_watch.specs.Books.{BooksAt}
 use Rattle.ncp_proof_connection.specs.Connections.{Text, No_text, Away, Here}
-use Rattle.ncp_proof_connection.specs.Ledger.{sum_of, text_messages, text_bits, is_text_out, BitsAgreeOnConnection, BothOpenOnConnection, MessagesAgreeOnConnection, PartedOnConnection}
+use Rattle.ncp_proof_connection.specs.Ledger.{total, text_messages, text_bits, text_amount, is_text_out, AmountsAgreeOnConnection, BothOpenOnConnection, PartedOnConnection}
 use Rattle.ncp_proof_sharing.specs.Sharing.{Shared, only, connection_at}
 use Rattle.ncp_proof_sharing.specs.Finding.{link_out}
 use Rattle.ncp_proof_resets.specs.Resets.{ResetHost, is_up}
 use Rattle.ncp_proof_machine.specs.Hosts.{TextOut, Node, TwoNodes, past_of, is_empty, node_hears, node_hears_all}
-use Rattle.ncp_proof_headline.specs.Headline.{BothOpenInModel, sender_in_model, receiver_in_model, sum_on, message_not_come, how_many_texts, bits_of_text, text_underway, commands_there, commands_back, MessagesAgreeInModel, BitsAgreeInModel, OnOneLink, WithinAllocationInModel, PartedInModel, TakenOrHeld, BeginsInModel, StaysOut, SenderOpens, ReceiverOpens, SenderOpensAt, ReceiverOpensAt}
+use Rattle.ncp_proof_headline.specs.Headline.{BothOpenInModel, sender_in_model, receiver_in_model, total_on, message_not_come, how_many_texts, bits_of_text, amount_of_text, text_underway, commands_there, commands_back, granted_underway, returned_underway, AmountsAgreeInModel, OnOneLink, WithinAllocationInModel, PartedInModel, TakenOrHeld, BeginsInModel, StaysOut, SenderOpens, ReceiverOpens, SenderOpensAt, ReceiverOpensAt}
 use Rattle.ncp_proof_connection.proofs.Outliving.{fit_open, fit_held, fit_begins, fit_books, fit_opened}
 use Rattle.ncp_model.proofs.ResetLists.{bit, rsts, rrps}
 use Rattle.ncp_proof_headline.proofs.Lives.{live, fronts}
@@ -36,7 +36,8 @@ use Rattle.ncp_proof_headline.proofs.HostsJoined.{lives, is_alive, Joined, joine
 use Rattle.ncp_proof_headline.proofs.HostsHeld.{Holds, Ever, accepted, x, y}
 use Rattle.ncp_proof_headline.proofs.HostsSteps.{hears-keeps, hears_front, Follows, owner-of}
 use Rattle.ncp_proof_headline.proofs.LinkSums.{same-link, granted-all, returned-all}
-use Rattle.ncp_model.specs.Amounts.{granted_messages, granted_bits, returned_messages, returned_bits}
+use Rattle.ncp_model.specs.declared.amounts.Amount.{Amount}
+use Rattle.ncp_model.specs.Amounts.{amount, ◌⊕◌, allowance, granted, returned}
 
 -- with no RST and no RRP underway, all lives
 fronts_all : (u : List Command) → rsts u ≡ 0 → rrps u ≡ 0 → fronts u ≡ u
@@ -162,34 +163,29 @@ module _ (own own' : Owners) (w : TwoNodes) (k : Holds own own' w) (b : BothStan
     are_open : BothOpenOnConnection (connection_at p g)
     are_open = (subst (λ (o : Watched). is_open (or_new o.end) ≡ true) (sym sender_is) both.0, subst (λ (o : Watched). is_open (or_new o.end) ≡ true) (sym receiver_is) both.1)
 
-    agree : MessagesAgreeOnConnection (connection_at p g) × BitsAgreeOnConnection (connection_at p g) × PartedOnConnection (connection_at p g)
+    agree : AmountsAgreeOnConnection (connection_at p g) × PartedOnConnection (connection_at p g)
     agree = fit_open p sp g.sends g.receives (connection_at p g) (all-fit g k.joined.ties.reached p sp) are_open
 
-    counted : (f : Command → ℕ) (cs ds : List Command) → cs ≡ ds → sum_on (or_new (g.sender p).end).link f cs ≡ sum_on (sender_in_model p w).link f ds
-    counted f cs ds e = ap (λ (o : Watched). sum_on (or_new o.end).link f cs) sender_is ∙ ap (sum_on (sender_in_model p w).link f) e
+    counted : (f : Command → Amount) (cs ds : List Command) → cs ≡ ds → total_on (or_new (g.sender p).end).link f cs ≡ total_on (sender_in_model p w).link f ds
+    counted f cs ds e = ap (λ (o : Watched). total_on (or_new o.end).link f cs) sender_is ∙ ap (total_on (sender_in_model p w).link f) e
 
     -- of ALL, and of RET
-    grants : (sum_of granted_messages (only p g.to_senders) ≡ sum_on (sender_in_model p w).link granted_messages (commands_back w)) × (sum_of granted_bits (only p g.to_senders) ≡ sum_on (sender_in_model p w).link granted_bits (commands_back w))
+    grants : total granted (only p g.to_senders) ≡ granted_underway p w
     grants =
         let c = k.joined.ties.coming (alive here_up) in
         let same = c.commands ∙ lives_back here_up there_up in
         let e = granted-all g back p back.to_receivers k.joined.ties.reached k.joined.ties.reached_back (k.joined.ties.there.alive ∙ alive here_up) (k.joined.ties.there.alive_too ∙ alive_there there_up) (k.joined.ties.here.alive ∙ alive_there there_up) (k.joined.ties.here.alive_too ∙ alive here_up) c.same refl c.apt sp are_open in
-        (sym e.0 ∙ counted granted_messages (commands_of back.to_receivers) (commands_back w) same, sym e.1 ∙ counted granted_bits (commands_of back.to_receivers) (commands_back w) same)
+        sym e ∙ counted granted (commands_of back.to_receivers) (commands_back w) same
 
-    returns : (sum_of returned_messages (only p g.to_receivers) ≡ sum_on (sender_in_model p w).link returned_messages (commands_there w)) × (sum_of returned_bits (only p g.to_receivers) ≡ sum_on (sender_in_model p w).link returned_bits (commands_there w))
+    returns : total returned (only p g.to_receivers) ≡ returned_underway p w
     returns =
         let c = k.joined.ties.going (alive_there there_up) in
         let same = c.commands ∙ lives_there here_up there_up in
         let e = returned-all g back p g.to_receivers k.joined.ties.reached k.joined.ties.reached_back (k.joined.ties.there.alive ∙ alive here_up) (k.joined.ties.there.alive_too ∙ alive_there there_up) (k.joined.ties.here.alive ∙ alive_there there_up) (k.joined.ties.here.alive_too ∙ alive here_up) refl c.same c.apt sp are_open in
-        (sym e.0 ∙ counted returned_messages (commands_of g.to_receivers) (commands_there w) same, sym e.1 ∙ counted returned_bits (commands_of g.to_receivers) (commands_there w) same)
+        sym e ∙ counted returned (commands_of g.to_receivers) (commands_there w) same
 
-    -- an equation of the machine, said of the hosts
-    said : (r : Watched → ℕ) (s : Watched → ℕ) (a t d a' t' d' : ℕ) → a ≡ a' → t ≡ t' → d ≡ d' → r (g.receiver p) ≡ s (g.sender p) + (a + (t + d)) → r (watched_at w.that (turned p)) ≡ s (watched_at w.this p) + (a' + (t' + d'))
-    said r s a t d a' t' d' e f h j =
-        subst (λ (i : ℕ). r (watched_at w.that (turned p)) ≡ s (watched_at w.this p) + (a' + (t' + i))) h
-        (subst (λ (i : ℕ). r (watched_at w.that (turned p)) ≡ s (watched_at w.this p) + (a' + (i + d))) f
-        (subst (λ (i : ℕ). r (watched_at w.that (turned p)) ≡ s (watched_at w.this p) + (i + (t + d))) e
-        (sym (ap r receiver_is) ∙ (j ∙ ap (λ (o : Watched). s o + (a + (t + d))) sender_is))))
+    texts : text_amount (g.text p) ≡ amount_of_text (text_underway p w)
+    texts = ap (λ (n : ℕ). amount n (length (text_bits (g.text p)))) (messages_out both.0) ∙ ap (λ (xs : List Bool). amount (how_many_texts (text_underway p w)) (length xs)) (bits_out both.0)
 
   pub on_one_link : OnOneLink p w
   on_one_link o =
@@ -197,21 +193,20 @@ module _ (own own' : Owners) (w : TwoNodes) (k : Holds own own' w) (b : BothStan
       (subst (λ (v : Watched). (or_new v.end).link ≡ (or_new (g.receiver p).end).link) sender_is
       (same-link g back p g.to_receivers k.joined.ties.reached k.joined.ties.reached_back (k.joined.ties.there.alive ∙ alive (here_up o)) (k.joined.ties.there.alive_too ∙ alive_there (there_up o)) (k.joined.ties.here.alive ∙ alive_there (there_up o)) (k.joined.ties.here.alive_too ∙ alive (here_up o)) sp (are_open o)))
 
-  pub messages_agree : MessagesAgreeInModel p w
-  messages_agree o = said o (λ v. (or_new v.end).messages) (λ v. (or_new v.end).messages) (sum_of granted_messages (only p g.to_senders)) (text_messages (g.text p)) (sum_of returned_messages (only p g.to_receivers))
-      (sum_on (sender_in_model p w).link granted_messages (commands_back w)) (how_many_texts (text_underway p w)) (sum_on (sender_in_model p w).link returned_messages (commands_there w))
-      (grants o).0 (messages_out o.0) (returns o).0 (agree o).0
-
-  pub bits_agree : BitsAgreeInModel p w
-  bits_agree o = said o (λ v. (or_new v.end).bits) (λ v. (or_new v.end).bits) (sum_of granted_bits (only p g.to_senders)) (length (text_bits (g.text p))) (sum_of returned_bits (only p g.to_receivers))
-      (sum_on (sender_in_model p w).link granted_bits (commands_back w)) (length (bits_of_text (text_underway p w))) (sum_on (sender_in_model p w).link returned_bits (commands_there w))
-      (grants o).1 (ap length (bits_out o.0)) (returns o).1 (agree o).1
+  pub amounts_agree : AmountsAgreeInModel p w
+  amounts_agree o =
+      sym (ap (λ (v : Watched). allowance (or_new v.end)) receiver_is)
+      ∙ (agree o).0
+      ∙ ap (λ (v : Watched). allowance (or_new v.end) ⊕ total granted (only p g.to_senders) ⊕ text_amount (g.text p) ⊕ total returned (only p g.to_receivers)) sender_is
+      ∙ ap (λ (a : Amount). allowance (sender_in_model p w) ⊕ a ⊕ text_amount (g.text p) ⊕ total returned (only p g.to_receivers)) (grants o)
+      ∙ ap (λ (a : Amount). allowance (sender_in_model p w) ⊕ granted_underway p w ⊕ a ⊕ total returned (only p g.to_receivers)) (texts o)
+      ∙ ap (λ (a : Amount). allowance (sender_in_model p w) ⊕ granted_underway p w ⊕ amount_of_text (text_underway p w) ⊕ a) (returns o)
 
   pub parted : PartedInModel p w
   parted o =
       subst (λ (v : Watched). v.past.given ≡ (past_of w.that.pasts (turned p)).got ++ (bits_of_text (text_underway p w) ++ (or_new v.end).stored)) sender_is
       (subst (λ (t : List Bool). (g.sender p).past.given ≡ (past_of w.that.pasts (turned p)).got ++ (t ++ (or_new (g.sender p).end).stored)) (bits_out o.0)
-      (subst (λ (v : Watched). (g.sender p).past.given ≡ v.past.got ++ (text_bits (g.text p) ++ (or_new (g.sender p).end).stored)) receiver_is (agree o).2))
+      (subst (λ (v : Watched). (g.sender p).past.given ≡ v.past.got ++ (text_bits (g.text p) ++ (or_new (g.sender p).end).stored)) receiver_is (agree o).1))
 
 -- No pair opens on a link while a text is out on it.
 

@@ -8,8 +8,8 @@ use Rattle.ncp_model.specs.declared.pair.Pair.{Pair}
 use Rattle.ncp_model.specs.Pairs.{sends, is_proper, turned, same}
 use Rattle.ncp_model.specs.End.{End, or_new}
 use Rattle.ncp_proof_connection.specs.Connections.{Connection}
-use Rattle.ncp_proof_connection.specs.Ledger.{sum_of, BothOpenOnConnection}
-use Rattle.ncp_proof_headline.specs.Headline.{names_link, sum_on}
+use Rattle.ncp_proof_connection.specs.Ledger.{sum_of, total, BothOpenOnConnection}
+use Rattle.ncp_proof_headline.specs.Headline.{names_link, sum_on, total_on}
 use Rattle.ncp_proof_sharing.specs.Sharing.{Tagged, Shared, only, connection_at, hears_at, uses_at}
 use Rattle.ncp_proof_connection.proofs.Lines.{Kind, Request, Close, Data, Alien, Comes, Passes, comes_asked, comes_closed, same_number}
 use Rattle.ncp_proof_connection.proofs.Joint.{to_sender_kind, to_receiver_kind, kinds, sender_marks, receiver_marks, Place, Together, Sender_ahead, Receiver_ahead, Joint, live_got}
@@ -21,7 +21,8 @@ use Rattle.ncp_proof_sharing.proofs.Clear.{Clear, Free, holds, still_left}
 use Rattle.ncp_proof_sharing.proofs.Linking.{hears_from, uses_from, asks_at}
 use Rattle.ncp_proof_headline.proofs.TiesBase.{all-fit, all-linked}
 use Rattle.ncp_proof_headline.proofs.Ties.{Reached, commands_of, turn, turn_all, leads_nowhere, Apt}
-use Rattle.ncp_model.specs.Amounts.{granted_messages, granted_bits, returned_messages, returned_bits}
+use Rattle.ncp_model.specs.declared.amounts.Amount.{Amount}
+use Rattle.ncp_model.specs.Amounts.{amount, no_amount, granted, returned}
 use Rattle.ncp_model.specs.Ends.{link_of}
 
 -- What is counted: ALL on its way to the sender, RET on its way to the receiver.
@@ -33,6 +34,18 @@ is_all c = false
 abbrev pub is_ret : Command → Bool
 is_ret (Ret on of_messages of_bits) = true
 is_ret c = false
+
+no_grant : (c : Command) → is_all c ≡ false → granted c ≡ no_amount
+no_grant (All on of_messages of_bits) n = absurd (cc n)
+no_grant c n = refl
+
+no_return : (c : Command) → is_ret c ≡ false → returned c ≡ no_amount
+no_return (Ret on of_messages of_bits) n = absurd (cc n)
+no_return c n = refl
+
+-- amounts that have as many messages and as many bits
+same_amount : {a b c d : ℕ} → a ≡ b → c ≡ d → amount a c ≡ amount b d
+same_amount e f = rw (e, f) refl
 
 -- such a command names a link; no end makes it the other way, and it leads somewhere
 record Counted (there back : Command → Kind) (b : Bool) (c : Command) : Type 0 where
@@ -465,12 +478,10 @@ module _ (g back : Shared) (p : Pair) (ts : List Tagged) (r : Reached g) (r' : R
           (subst (λ (l : List Tagged). Beside is_all l) (sym e) (beside is_all to_sender_kind to_receiver_kind true all-counted (turn_all ts) (apt-turned ts t) known)) apart
 
   pub granted-all : g.to_senders ≡ turn_all ts → back.to_receivers ≡ ts → Apt ts → sends p ≡ true → BothOpenOnConnection (connection_at p g)
-      → (sum_on (or_new (g.sender p).end).link granted_messages (commands_of ts) ≡ sum_of granted_messages (only p g.to_senders))
-      × (sum_on (or_new (g.sender p).end).link granted_bits (commands_of ts) ≡ sum_of granted_bits (only p g.to_senders))
-  granted-all e e' t sp o = (grants-on e e' t sp o granted_messages (λ c n. (no_grant c n).0), grants-on e e' t sp o granted_bits (λ c n. (no_grant c n).1))
-    where
-      no_grant : (c : Command) → is_all c ≡ false → (granted_messages c ≡ 0) × (granted_bits c ≡ 0)
-      no_grant c n = (grind arith, grind arith)
+      → total_on (or_new (g.sender p).end).link granted (commands_of ts) ≡ total granted (only p g.to_senders)
+  granted-all e e' t sp o =
+      same_amount (grants-on e e' t sp o (λ c. (granted c).messages) (λ c n. ap (λ (a : Amount). a.messages) (no_grant c n)))
+      (grants-on e e' t sp o (λ c. (granted c).bits) (λ c n. ap (λ (a : Amount). a.bits) (no_grant c n)))
 
   -- of RET, to the receivers of g
   pub returns-on : g.to_receivers ≡ ts → back.to_senders ≡ turn_all ts → Apt ts → sends p ≡ true → BothOpenOnConnection (connection_at p g) → (f : Command → ℕ) → ((c : Command) → is_ret c ≡ false → f c ≡ 0)
@@ -496,9 +507,7 @@ module _ (g back : Shared) (p : Pair) (ts : List Tagged) (r : Reached g) (r' : R
           (λ q sq. to-receiver q sq (connection_at q g) (inv-at g r a b q sq))
 
   pub returned-all : g.to_receivers ≡ ts → back.to_senders ≡ turn_all ts → Apt ts → sends p ≡ true → BothOpenOnConnection (connection_at p g)
-      → (sum_on (or_new (g.sender p).end).link returned_messages (commands_of ts) ≡ sum_of returned_messages (only p g.to_receivers))
-      × (sum_on (or_new (g.sender p).end).link returned_bits (commands_of ts) ≡ sum_of returned_bits (only p g.to_receivers))
-  returned-all e e' t sp o = (returns-on e e' t sp o returned_messages (λ c n. (no_return c n).0), returns-on e e' t sp o returned_bits (λ c n. (no_return c n).1))
-    where
-      no_return : (c : Command) → is_ret c ≡ false → (returned_messages c ≡ 0) × (returned_bits c ≡ 0)
-      no_return c n = (grind arith, grind arith)
+      → total_on (or_new (g.sender p).end).link returned (commands_of ts) ≡ total returned (only p g.to_receivers)
+  returned-all e e' t sp o =
+      same_amount (returns-on e e' t sp o (λ c. (returned c).messages) (λ c n. ap (λ (a : Amount). a.messages) (no_return c n)))
+      (returns-on e e' t sp o (λ c. (returned c).bits) (λ c n. ap (λ (a : Amount). a.bits) (no_return c n)))

@@ -8,12 +8,12 @@ use Rattle.std.proofs.lemmas.Map.Views.{tells_apart}
 use Rattle.ncp_terms.specs.declared.command.Command.{Command}
 use Rattle.ncp_model.specs.declared.pair.Pair.{Pair}
 use Rattle.ncp_model.specs.declared.call_fault.CallFault.{CallFault}
-use Rattle.ncp_model.specs.declared.call_fault.CallFault.TheVariants.{BadSex, BadRoom, NoEntry, AlreadyAsked, Closing, TableFull}
+use Rattle.ncp_model.specs.declared.call_fault.CallFault.TheVariants.{BadSex, BadRoom, NoEntry, TableFull, QueueFull}
 use Rattle.ncp_model.specs.declared.limits.TheConstants.{MAX_OWN}
 use Rattle.ncp_model.specs.Pairs.{pair_cmp, sends, receives, turned}
 use Rattle.ncp_model.specs.End.{End, or_new, is_live}
-use Rattle.ncp_model.specs.Act.{Act, Stays, is_data_link, made_by_call}
-use Rattle.ncp_model.specs.Calls.{ask_receive}
+use Rattle.ncp_model.specs.Act.{Act, is_data_link, is_room, made_by_call}
+use Rattle.ncp_model.specs.Calls.{refuse, ◌>>◌, end_to_ask, may_ask_receive}
 use Rattle.ncp_model.specs.Ends.{Ends, count, has_asked, uses_link, free_link, put}
 use Rattle.ncp_model.specs.Happenings.{Happening, Outcome, Happened, happens, happened, outcome_of_call, of_take, is_violation}
 use Rattle.ncp_model.specs.Leading.{passes}
@@ -27,6 +27,7 @@ use Rattle.ncp_model.proofs.PairOrder.{pairs_exact, pairs_total}
 use Rattle.ncp_model.proofs.FreeLinks.{free-from, free-free, free-room}
 use Rattle.ncp_model.proofs.LinksLead.{itself}
 use Rattle.ncp_model.proofs.Lookups.{any-none}
+use Rattle.ncp_model.proofs.Refusals.{refused, stays_by}
 use Rattle.ncp_proof_machine.proofs.EndsGood.{Changes, same_or, put-changes}
 use Rattle.ncp_proof_sharing.proofs.Linking.{uses_parts}
 use Rattle.ncp_proof_headline.specs.Tied.{watched_at}
@@ -268,21 +269,20 @@ sex-refused : (pair : Pair) (with_room on own : ℕ) (full : Bool) (before : Opt
 sex-refused pair with_room on own full before r = (BadSex, rw r refl)
 
 -- where 64 ends have asked
-abbrev Refuses : Act (Result Command CallFault) → Type 0
-Refuses act = (fault : CallFault) × (act ≡ Stays (Err fault))
+abbrev Refuses : Result (Unit {0}) CallFault → Type 0
+Refuses r = (fault : CallFault) × (r ≡ Err fault)
 
-or_sooner : (x : Bool) (fault : CallFault) (act : Act (Result Command CallFault)) → Refuses act → Refuses (if x then Stays (Err fault) else act)
-or_sooner true fault act r = (fault, refl)
-or_sooner false fault act r = r
-
-or_now : (x : Bool) (fault : CallFault) (act : Act (Result Command CallFault)) → x ≡ true → Refuses (if x then Stays (Err fault) else act)
-or_now true fault act e = (fault, refl)
-or_now false fault act e = absurd (cc e)
+or_sooner : (r next : Result (Unit {0}) CallFault) → Refuses next → Refuses (r >> next)
+or_sooner (Ok t) next r = r
+or_sooner (Err fault) next r = (fault, refl)
 
 table-refused : (pair : Pair) (with_room on own : ℕ) (full : Bool) (before : Option End) → nat_le MAX_OWN own ≡ true → Refusal pair (Happening.Asks_to_receive with_room on own full) before
 table-refused pair with_room on own full before e =
-    let r : Refuses (ask_receive pair with_room on own full before) = or_sooner _ BadSex _ (or_sooner _ BadRoom _ (or_sooner _ AlreadyAsked _ (or_sooner _ Closing _ (or_now _ TableFull _ e)))) in
-    (r.0, ap (λ (act : Act (Result Command CallFault)). happened before act made_by_call outcome_of_call) r.1)
+    let r : Refuses (may_ask_receive pair with_room own full before) =
+    or_sooner (refuse BadSex (not (receives pair))) _
+    (or_sooner (refuse BadRoom (not (is_room with_room))) _
+    (or_sooner (end_to_ask (or_new before)) _ (TableFull, refused TableFull (nat_le MAX_OWN own) (refuse QueueFull full) e))) in
+    (r.0, ap (λ (act : Act (Result Command CallFault)). happened before act made_by_call outcome_of_call) (stays_by _ r.0 _ r.1))
 
 -- where fewer have, a link is free, and no receiving end uses it
 module _ (b a : Bool) (own : Owners) (m n : Node) (back : Shared) (w : Way b a own m n back) (few : count has_asked n.ends ≤ MAX_OWN) where

@@ -16,7 +16,8 @@ pub use Rattle.ncp_proof_resets.specs.Delivery.{message_not_come}
 use Rattle.ncp_proof_resets.specs.Resets.{commands_underway}
 use Rattle.ncp_proof_machine.specs.Hosts.{TextOut, Node, TwoNodes, nodes_swapped, past_of, is_empty, node_hears, node_hears_all}
 use Rattle.ncp_model.specs.Pairs.{turned}
-use Rattle.ncp_model.specs.Amounts.{granted_messages, granted_bits, returned_messages, returned_bits}
+use Rattle.ncp_model.specs.declared.amounts.Amount.{Amount}
+use Rattle.ncp_model.specs.Amounts.{amount, ◌⊕◌, allowance, granted, returned}
 
 -- The two ends of a pair.
 
@@ -39,6 +40,10 @@ abbrev pub sum_on : ℕ → (Command → ℕ) → List Command → ℕ
 sum_on on f [] = 0
 sum_on on f (c ∷ cs) = (if names_link on (link_of c) then f c else 0) + sum_on on f cs
 
+-- what they grant or return, in all
+abbrev pub total_on : ℕ → (Command → Amount) → List Command → Amount
+total_on on f cs = amount (sum_on on (λ c. (f c).messages) cs) (sum_on on (λ c. (f c).bits) cs)
+
 -- how many messages, and which bits, the text of a link is that has not come
 
 abbrev pub how_many_texts : Option TextOut → ℕ
@@ -48,6 +53,9 @@ how_many_texts (Some t) = 1
 abbrev pub bits_of_text : Option TextOut → List Bool
 bits_of_text None = []
 bits_of_text (Some t) = t.bits
+
+abbrev pub amount_of_text : Option TextOut → Amount
+amount_of_text t = amount (how_many_texts t) (length (bits_of_text t))
 
 -- the text that is underway on the pair's link
 abbrev pub text_underway : Pair → TwoNodes → Option TextOut
@@ -63,26 +71,19 @@ commands_back w = commands_underway w.that.host w.that.control
 
 -- what ALL and RET carry that are underway on the pair's link
 
-abbrev pub granted_underway : (Command → ℕ) → Pair → TwoNodes → ℕ
-granted_underway f pair w = sum_on (sender_in_model pair w).link f (commands_back w)
+abbrev pub granted_underway : Pair → TwoNodes → Amount
+granted_underway pair w = total_on (sender_in_model pair w).link granted (commands_back w)
 
-abbrev pub returned_underway : (Command → ℕ) → Pair → TwoNodes → ℕ
-returned_underway f pair w = sum_on (sender_in_model pair w).link f (commands_there w)
+abbrev pub returned_underway : Pair → TwoNodes → Amount
+returned_underway pair w = total_on (sender_in_model pair w).link returned (commands_there w)
 
 -- While both ends are open: what is outstanding at the receiver is what the sender's counters hold,
 -- and what ALL underway, the text that has not come and RET underway carry, each on the pair's link.
 
-abbrev pub MessagesAgreeInModel : Pair → TwoNodes → Type 0
-MessagesAgreeInModel pair w = BothOpenInModel pair w
-    → (receiver_in_model pair w).messages
-    ≡ (sender_in_model pair w).messages
-    + (granted_underway granted_messages pair w + (how_many_texts (text_underway pair w) + returned_underway returned_messages pair w))
-
-abbrev pub BitsAgreeInModel : Pair → TwoNodes → Type 0
-BitsAgreeInModel pair w = BothOpenInModel pair w
-    → (receiver_in_model pair w).bits
-    ≡ (sender_in_model pair w).bits
-    + (granted_underway granted_bits pair w + (length (bits_of_text (text_underway pair w)) + returned_underway returned_bits pair w))
+abbrev pub AmountsAgreeInModel : Pair → TwoNodes → Type 0
+AmountsAgreeInModel pair w = BothOpenInModel pair w
+    → allowance (receiver_in_model pair w)
+    ≡ allowance (sender_in_model pair w) ⊕ granted_underway pair w ⊕ amount_of_text (text_underway pair w) ⊕ returned_underway pair w
 
 -- While both ends are open, they are on one link; and what was given was got, is underway, or waits.
 

@@ -1,6 +1,7 @@
-//! The headline: what holds of two hosts and all their connections after every schedule, where the
-//! subnet delivers a message whole and once and answers RFNM, or delivers nothing and says so. That
-//! their commands act once and in order is `hosts_act_once_in_order` of `ncp_proof_machine`.
+//! The headline of the model's two hosts; what users are promised is `ncp_statement/specs/Statement.antt`. It is what holds of
+//! two hosts and all their connections after every schedule, where the subnet delivers a message whole and once and answers
+//! RFNM, or delivers nothing and says so. That their commands act once and in order is `hosts_act_once_in_order` of
+//! `ncp_proof_machine`.
 ghost use Rattle.std.specs.Prelude.{◌≡◌, ℕ, Bool, List, [], ◌∷◌, true, false, None, Some};
 ghost use Rattle.std.specs.List.{list_any};
 ghost use Rattle.ncp_terms.specs.declared.command.Command.{Command};
@@ -8,11 +9,10 @@ ghost use Rattle.ncp_model.specs.Phase.{is_rst, is_other, up_phase};
 ghost use Rattle.ncp_model.specs.Happenings.{is_violation};
 ghost use Rattle.ncp_proof_resets.specs.Delivery.{Accepted};
 ghost use Rattle.ncp_proof_machine.specs.Hosts.{Node, TwoNodes, nodes_swapped, past_of, TextOut, NodeStep, node_steps, node_hears, node_hears_text, PairCall, node_calls, node_calls_echo, Calls_reset, Hears, NodeEvent, node_at, run};
-ghost use Rattle.ncp_proof_headline.specs.Headline.{commands_there, commands_back, BothOpenInModel, sender_in_model, receiver_in_model, granted_underway, returned_underway, how_many_texts, text_underway, MessagesAgreeInModel, BitsAgreeInModel, OnOneLink, WithinAllocationInModel, PartedInModel, TakenOrHeld, BeginsInModel, StaysOut, SenderOpens, ReceiverOpens, NoPairOpens, NoCommandOpens, BothWaysInModel};
+ghost use Rattle.ncp_proof_headline.specs.Headline.{commands_there, commands_back, BothOpenInModel, sender_in_model, receiver_in_model, granted_underway, returned_underway, how_many_texts, text_underway, AmountsAgreeInModel, OnOneLink, WithinAllocationInModel, PartedInModel, TakenOrHeld, BeginsInModel, StaysOut, SenderOpens, ReceiverOpens, NoPairOpens, NoCommandOpens, BothWaysInModel};
 ghost use Rattle.ncp_model.specs.Rows.{outward, inward, ones, noughts, counting};
 ghost use Rattle.ncp_proof_machine.specs.HostRuns.{calls_back_under_text, sender_cleared, held_past_reset, up_after_held, opened_after_held, with_text_out, meets, meets_there};
 ghost use Rattle.ncp_proof_resets.specs.Resets.{This, That};
-ghost use Rattle.ncp_model.specs.Amounts.{granted_messages, returned_messages};
 ghost use Rattle.ncp_proof_headline.specs.OfHosts.{OfEachSender, InEachStep, WhileItAwaits, WhereAwaitingEnds, AnRrpComes, OfCommandsAtNodes, OfTextsAtNodes, of_command_at, of_text_at};
 ghost use Rattle.ncp_proof_machine.specs.After.{AfterAll, sender_after, receiver_after, got_after, held_text};
 ghost use Rattle.ncp_model.specs.InUse.{three_bytes, got_two};
@@ -49,8 +49,7 @@ pub fn what_is_against_the_protocol_is_noted()
 pub fn hosts_lose_and_make_nothing()
     ensures safe { AfterAll (λ w. w.this.violated ≡ false) }
     ensures safe_there { AfterAll (λ w. w.that.violated ≡ false) }
-    ensures messages { OfEachSender MessagesAgreeInModel }
-    ensures bits { OfEachSender BitsAgreeInModel }
+    ensures amounts { OfEachSender AmountsAgreeInModel }
     ensures link { OfEachSender OnOneLink }
     ensures allocation { OfEachSender WithinAllocationInModel }
     ensures parted { OfEachSender PartedInModel }
@@ -74,9 +73,9 @@ pub fn all_terms_are_underway()
     ensures open { BothOpenInModel outward (run calls_back_under_text) }
     ensures messages { (receiver_in_model outward (run calls_back_under_text)).messages ≡ 5 }
     ensures messages_at_sender { (sender_in_model outward (run calls_back_under_text)).messages ≡ 0 }
-    ensures messages_granted { granted_underway granted_messages outward (run calls_back_under_text) ≡ 3 }
+    ensures messages_granted { (granted_underway outward (run calls_back_under_text)).messages ≡ 3 }
     ensures messages_in_texts { how_many_texts (text_underway outward (run calls_back_under_text)) ≡ 1 }
-    ensures messages_returned { returned_underway returned_messages outward (run calls_back_under_text) ≡ 1 }
+    ensures messages_returned { (returned_underway outward (run calls_back_under_text)).messages ≡ 1 }
     ensures alone { sender_after sender_cleared ≡ None }
     ensures alone_there { receiver_after sender_cleared ≡ Some got_two }
     ensures alone_got { got_after sender_cleared ≡ ones 16 }

@@ -13,7 +13,7 @@ use Rattle.ncp_model.specs.Pairs.{pair_cmp}
 use Rattle.ncp_model.specs.End.{End}
 use Rattle.ncp_model.specs.Act.{Act, end_after}
 use Rattle.ncp_model.specs.Ends.{Ends, count, any, has_asked, is_by_peer, hears_link, uses_link, free_link, map_after, no_ends, put}
-use Rattle.ncp_model.specs.Happenings.{Happening, Happened, happens}
+use Rattle.ncp_model.specs.Happenings.{Happening, happens}
 use Rattle.ncp_model.specs.Leading.{suits, passes, comes}
 use Rattle.ncp_proof_watch.specs.Limits.{InLimitsAt}
 use Rattle.ncp_proof_watch.specs.Sound.{SoundAt}

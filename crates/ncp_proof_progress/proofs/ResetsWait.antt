@@ -13,7 +13,7 @@ use Rattle.ncp_model.specs.Texts.{made_by_text}
 use Rattle.ncp_model.specs.Echo.{echo_answer}
 use Rattle.ncp_model.specs.Sending.{is_full}
 use Rattle.ncp_model.specs.Ends.{cut_in, text_in}
-use Rattle.ncp_model.specs.Phase.{Phase, Reaction, up, is_resetting, goes_down, makes_all, owes_answer, phase_answers, phase_asks, phase_hears, phase_makes, phase_settles, wants_reset}
+use Rattle.ncp_model.specs.Phase.{Phase, up, is_resetting, goes_down, makes_all, owes_answer, phase_answers, phase_asks, phase_hears, phase_makes, phase_settles, wants_reset}
 use Rattle.ncp_model.specs.Peers.{Peer, PairCall, calls, calls_echo, calls_reset, calls_up, echo_called, frees, happened_at, hears, hears_other, hears_text, reaction, takes_text}
 use Rattle.ncp_proof_resets.specs.Resets.{Party, This, That}
 use Rattle.ncp_proof_resets.specs.Delivery.{Slot, Empty, Ready, Travelling, Held, MessageTransit, Free, Accepted, Delivered, Lost, Dead, Link, idle, undelivered, answer_of_transit}

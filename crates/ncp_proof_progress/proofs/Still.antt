@@ -7,7 +7,6 @@ use Rattle.ncp_model.specs.End.{End}
 use Rattle.ncp_model.specs.Act.{answer, Act}
 use Rattle.ncp_model.specs.Ends.{Ends, sender_on, pair_of, cut_at, cut_in, map_after_at}
 use Rattle.ncp_model.specs.Texts.{may_send, cut_bits, bytes_to_send}
-use Rattle.ncp_model.specs.Act
 use Rattle.ncp_model.specs.Peers.{Peer, cuts}
 use Rattle.ncp_slot.specs.Slot.{ready_message}
 use Rattle.ncp_proof_resets.specs.Delivery.{Slot, Empty, Ready, Travelling, Held, MessageTransit, Free, Accepted, Delivered, Lost, Dead, Link, undelivered}

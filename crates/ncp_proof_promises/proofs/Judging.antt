@@ -21,7 +21,7 @@ use Rattle.ncp_model.specs.Ends.{hear}
 use Rattle.ncp_model.specs.Happenings.{of_reply, of_hearing, is_violation}
 use Rattle.ncp_model.specs.Phase.{up}
 use Rattle.ncp_model.specs.Peers.{Peer, echo_replies}
-use Rattle.ncp_proof_machine.specs.Hosts.{Node, peer_of, NodeEvent, NodeStep, TwoNodes, message_comes, node_at, node_hears, node_hears_all, node_hears_other, nodes_swapped}
+use Rattle.ncp_proof_machine.specs.Hosts.{Node, NodeEvent, NodeStep, TwoNodes, message_comes, node_at, node_hears, node_hears_all, node_hears_other, nodes_swapped}
 use Rattle.ncp_proof_machine.proofs.HostsStand.{hearing-stands}
 use Rattle.ncp_proof_machine.proofs.HostsStand.{NodesStand}
 use Rattle.ncp_proof_headline.proofs.HostsHeld.{ever}
@@ -29,7 +29,7 @@ use Rattle.ncp_host.specs.declared.received.Received.{Received}
 use Rattle.ncp_host.specs.PeerState.{PeerState}
 use Rattle.ncp_host.specs.Hearing.{state_hears, state_hears_all}
 use Rattle.ncp_transcript_two.specs.Subnet.{Holds, Free, Accepted, Delivered, Lost, Dead, TransitByLink, from_host}
-use Rattle.ncp_transcript_two.specs.World.{World, Told, In, Call_is_made, Goes_out, Is_delivered, Is_lost, Finds_dead, Is_answered, moves, goes, delivers, loses, dies, answers_for, Asked, Reply, WorldEvent, WorldStep, received, state_after_received}
+use Rattle.ncp_transcript_two.specs.World.{World, Told, Call_is_made, Goes_out, Is_delivered, Is_lost, Finds_dead, Is_answered, moves, goes, delivers, loses, dies, answers_for, Asked, Reply, WorldEvent, WorldStep, received, state_after_received}
 use Rattle.ncp_transcript_two.specs.Tie.{control_bits, AreCommands, Stands, Reached, Goes_on, Tied, IsMove}
 use Rattle.ncp_transcript_two.specs.Refused.{refuses}
 use Rattle.ncp_transcript_two.specs.Underway.{text_read, text_of, commands_of}

@@ -20,7 +20,7 @@ use Rattle.ncp_model.specs.Texts
 use Rattle.ncp_model.specs.Ends.{hear, text_in, answered_in}
 use Rattle.ncp_model.specs.Echo.{echo_answer}
 use Rattle.ncp_model.specs.Sending.{is_full}
-use Rattle.ncp_model.specs.Phase.{Phase, Reaction, up, is_rst, is_rrp, is_reset, is_other, is_resetting, has_place, wants_reset, owes_answer, goes_down, queued, makes_all, phase_answers, phase_hears}
+use Rattle.ncp_model.specs.Phase.{Phase, Reaction, up, is_rst, is_rrp, is_other, is_resetting, has_place, wants_reset, owes_answer, goes_down, queued, makes_all, phase_answers, phase_hears}
 use Rattle.ncp_model.specs.Peers.{Peer, PairCall, happened_at, is_full_up, echo_replies, hears_other, reaction}
 use Rattle.ncp_proof_machine.specs.Watching.{Watch, begins_anew, sees_call, sees_echo, sees_command, sees_each, sees_taken}
 use Rattle.ncp_host.specs.PeerState.{PeerState, control_link, is_answered, frees_on}

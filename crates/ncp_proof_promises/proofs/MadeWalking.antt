@@ -30,7 +30,7 @@ use Rattle.ncp_transcript.specs.Answers.{answer_to}
 use Rattle.ncp_transcript.specs.Noting.{CallNoted, note_of_bits, note_of_message}
 use Rattle.ncp_proof_runs.specs.Peers.{names, is_this_number, peer_of_leader, notes_of_peer}
 use Rattle.ncp_transcript_two.specs.Subnet.{Holds, Free, Accepted, Delivered, Lost, Dead, from_host}
-use Rattle.ncp_transcript_two.specs.World.{World, Asked, Asks, Asks_echo, Asks_reset, Asks_wake, Reply, Told, Called, Nothing, Is_delivered, delivers, moves, state_received_with}
+use Rattle.ncp_transcript_two.specs.World.{World, Asked, Asks, Asks_echo, Asks_reset, Asks_wake, Reply, Told, Called, Is_delivered, delivers, state_received_with}
 use Rattle.ncp_transcript_two.specs.Tie.{Tied}
 use Rattle.ncp_transcript_two.specs.Seen.{seen, had_for, as_rules, asked_by, done, told_call, told_of, side_of}
 use Rattle.ncp_transcript_two.specs.Sides.{notes_at_side}

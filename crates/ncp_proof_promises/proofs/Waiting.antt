@@ -14,16 +14,16 @@ use Rattle.ncp_model.specs.Ends.{no_ends, text_in}
 use Rattle.ncp_model.specs.Act.{answer}
 use Rattle.ncp_model.specs.Phase.{Phase, up, is_resetting, resets, is_rrp, is_other}
 use Rattle.ncp_model.specs.Peers.{Peer, cleared, cuts, frees, peer_sends, settles}
-use Rattle.ncp_proof_machine.specs.Hosts.{Node, peer_of, NodeEvent, TwoNodes}
+use Rattle.ncp_proof_machine.specs.Hosts.{Node, NodeEvent, TwoNodes}
 use Rattle.ncp_proof_machine.proofs.HostsBase.{reactions, hears_all-host}
 use Rattle.ncp_proof_headline.proofs.HostsHeld.{ever}
 use Rattle.ncp_host.specs.declared.received.Received.{Received}
-use Rattle.ncp_host.specs.PeerState.{PeerState, frees_on, after_answer, answer_comes}
+use Rattle.ncp_host.specs.PeerState.{PeerState, after_answer, answer_comes}
 use Rattle.ncp_host.specs.Hearing.{is_wrong_link, message_received, state_hears, state_hears_all, text_received}
 use Rattle.ncp_host.specs.Output.{leader_to, next_of, after_by}
 use Rattle.ncp_transcript_two.specs.Subnet.{Holds, Free, Accepted, Delivered, Lost, TransitByLink, from_host}
 use Rattle.ncp_transcript_two.specs.Subnet
-use Rattle.ncp_transcript_two.specs.World.{World, swap, Told, Asked, Asks, Asks_echo, Asks_reset, Asks_wake, state_after_asked, Call_is_made, Goes_out, Is_delivered, Is_lost, Finds_dead, Is_answered, moves, goes, delivers, loses, dies, answers_for, WorldStep, received, state_after_received}
+use Rattle.ncp_transcript_two.specs.World.{World, Asked, Asks, Asks_echo, Asks_reset, Asks_wake, state_after_asked, Call_is_made, Goes_out, Is_delivered, Is_lost, Finds_dead, Is_answered, moves, goes, delivers, loses, dies, answers_for, WorldStep, received, state_after_received}
 use Rattle.ncp_transcript_two.specs.Tie.{text_as_message, IsTextOn, Reached, Tied, IsMove}
 use Rattle.ncp_transcript_two.specs.Underway.{commands_of}
 use Rattle.ncp_transcript_two.proofs.Links.{Comes, delivered}

@@ -1,17 +1,18 @@
 -- What the headline says of a live receiver, beside what the laws below it say.
-use Rattle.std.specs.Prelude.{◌≡◌, ◌≤◌, ◌+◌, true, length}
+use Rattle.std.specs.Prelude.{◌≡◌, true}
 use Rattle.std.specs.FinMap.{get}
 use Rattle.ncp_model.specs.declared.pair.Pair.{Pair}
 use Rattle.ncp_model.specs.Pairs.{turned}
+use Rattle.ncp_model.specs.Amounts.{◌⊕◌, ◌⊑◌}
 use Rattle.ncp_model.specs.End.{is_live}
-use Rattle.ncp_proof_watch.specs.Histories.{Past}
+use Rattle.ncp_proof_watch.specs.Histories.{Past, allowance_used}
 use Rattle.ncp_proof_machine.specs.Hosts.{past_of}
 use Rattle.ncp_transcript_two.specs.World.{World}
 use Rattle.ncp_transcript_two.specs.Watch.{Both}
 
--- what is used is at most what was granted less what was returned, for messages and for bits
+-- what is used is at most what was granted less what was returned
 abbrev pub IsWithin : Past → Type 0
-IsWithin past = (past.used_messages + past.returned_messages ≤ past.granted_messages) × (length past.got + past.returned_bits ≤ past.granted_bits)
+IsWithin past = allowance_used past ⊕ past.returned ⊑ past.granted
 
 -- a live receiver of that host never uses more than was granted
 abbrev pub NeverOver : Pair → World → Both → Type 0

@@ -2,6 +2,7 @@
 use Rattle.std.specs.Prelude.{ℕ, Bool, List, [], ◌∷◌}
 use Rattle.std.specs.List.{list_any}
 use Rattle.ncp_terms.specs.declared.command.Command.TheVariants.{Eco, Erp, Inr}
+use Rattle.ncp_model.specs.Amounts.{amount}
 use Rattle.ncp_model.specs.Peers.{Peer}
 use Rattle.ncp_proof_resets.specs.Resets.{Party, This, That}
 use Rattle.ncp_proof_watch.specs.Histories.{Past, no_past}
@@ -42,7 +43,7 @@ eco_came = record seen_before { made = Eco 64 ∷ Erp 65 ∷ []; came = Inr 2 �
 
 -- so many messages were granted, returned and used
 abbrev pub of_messages : ℕ → ℕ → ℕ → Past
-of_messages granted returned used = record no_past { granted_messages = granted; returned_messages = returned; used_messages = used }
+of_messages granted returned used = record no_past { granted = amount granted 0; returned = amount returned 0; used_messages = used }
 
 -- the subnet has taken a message, as it goes to that host
 abbrev pub taken_from_here : List Bool → World → TransitByLink

@@ -8,7 +8,7 @@ use Rattle.ncp_transcript_two.specs.World.{World, swap}
 use Rattle.ncp_transcript_two.specs.Honest.{IsHonest, IsBeginningWithin, number_of_side, sent, came}
 use Rattle.ncp_transcript_two.specs.Watch.{Both, turn}
 use Rattle.ncp_transcript_two.specs.Streams.{GotIsBeginning, GotIsTakenOrHeld, NeverBeyondAllocation}
-use Rattle.ncp_transcript_two.specs.Underway.{MessagesAgree, BitsAgree, Parted}
+use Rattle.ncp_transcript_two.specs.Underway.{AmountsAgree, Parted}
 use Rattle.ncp_transcript_two.specs.declared.note.Note.{Note}
 use Rattle.ncp_transcript_two.specs.Between.{Hosts}
 use Rattle.ncp_transcript_two.specs.Transcript.{began}
@@ -59,7 +59,7 @@ WithinAllocation notes w = EitherWay IsAllowed notes w
 
 -- what is outstanding is what the counters hold and what is underway, in messages and in bits
 abbrev pub AreBalanced : Pair → World → Both → Type 0
-AreBalanced pair v p = MessagesAgree pair v × BitsAgree pair v
+AreBalanced pair v p = AmountsAgree pair v
 
 abbrev pub LedgersBalanced : List Note → Hosts → Type 0
 LedgersBalanced notes w = EitherWay AreBalanced notes w

@@ -14,6 +14,7 @@ ghost use Rattle.ncp_model.specs.Phase.{up, is_other};
 ghost use Rattle.ncp_model.specs.declared.call_fault.CallFault.{CallFault};
 ghost use Rattle.ncp_model.specs.declared.pair.Pair.{Pair};
 ghost use Rattle.ncp_model.specs.Pairs.{sends};
+ghost use Rattle.ncp_model.specs.Amounts.{amount};
 ghost use Rattle.ncp_model.specs.Rows.{outward, inward, counting};
 ghost use Rattle.ncp_proof_resets.specs.Resets.{This, That};
 ghost use Rattle.ncp_proof_watch.specs.Histories.{no_past};
@@ -97,10 +98,10 @@ pub fn what_is_made_and_comes_is_seen()
 /// is an outstanding that is not all that was granted.
 pub fn use_beyond_the_allocation_is_seen()
     ensures messages { IsWithin (of_messages 3 2 2) → ⊥ }
-    ensures bits { IsWithin (record no_past { granted_bits = 8; returned_bits = 7; got = true ∷ false ∷ [] }) → ⊥ }
-    ensures all { IsWithin (record (of_messages 1 0 1) { granted_bits = 1; got = true ∷ [] }) }
-    ensures outstanding { (v : World) (p : Both) → get v.that.peer.ends inward ≡ Some (counting 3 24) → past_of p.that inward ≡ record no_past { granted_messages = 4; granted_bits = 24 } → IsAllowed outward v p → ⊥ }
-    ensures outstanding_bits { (v : World) (p : Both) → get v.that.peer.ends inward ≡ Some (counting 3 24) → past_of p.that inward ≡ record no_past { granted_messages = 3; granted_bits = 25 } → IsAllowed outward v p → ⊥ }
+    ensures bits { IsWithin (record no_past { granted = amount 0 8; returned = amount 0 7; got = true ∷ false ∷ [] }) → ⊥ }
+    ensures all { IsWithin (record (of_messages 1 0 1) { granted = amount 1 1; got = true ∷ [] }) }
+    ensures outstanding { (v : World) (p : Both) → get v.that.peer.ends inward ≡ Some (counting 3 24) → past_of p.that inward ≡ record no_past { granted = amount 4 24 } → IsAllowed outward v p → ⊥ }
+    ensures outstanding_bits { (v : World) (p : Both) → get v.that.peer.ends inward ≡ Some (counting 3 24) → past_of p.that inward ≡ record no_past { granted = amount 3 25 } → IsAllowed outward v p → ⊥ }
 {}
 
 /// What is said of each note is said of it with the host of its side as this host; a note that tells nothing changes

@@ -1,17 +1,17 @@
 -- Meant for other crates too: they cite what is public here.
 --
 -- No event makes two ends hold one link.
-use Rattle.std.proofs.Common.{◌≡◌, ℕ, Bool, true, false, not, ◌&&◌, nat_le, nat_lt, if◌then◌else◌, List, [], ◌∷◌, ◌++◌, Option, None, Some, Result, refl, sym, ◌∙◌, subst, ◌⊎◌, inl, inr}
-use Rattle.std.proofs.lemmas.Bool.{both_ways, and_from, and_left, or_parts, not-true, eq-eqb, not_from_false}
+use Rattle.std.proofs.Common.{◌≡◌, ℕ, Bool, true, false, not, ◌&&◌, nat_lt, if◌then◌else◌, List, [], ◌∷◌, ◌++◌, Option, None, Some, Result, Ok, Err, refl, arith, sym, ◌∙◌, subst, ◌⊎◌, inl, inr}
+use Rattle.std.proofs.lemmas.Bool.{both_ways, and_from, not-true, eq-eqb, not_from_false}
 use Rattle.ncp_terms.specs.declared.command.Command.{Command}
 use Rattle.ncp_terms.specs.declared.command.Command.TheVariants.{Rts, Str, Cls, All, Gvb, Ret, Inr, Ins}
 use Rattle.ncp_model.specs.declared.pair.Pair.{Pair}
 use Rattle.ncp_model.specs.declared.call_fault.CallFault.{CallFault}
-use Rattle.ncp_model.specs.declared.limits.TheConstants.{MAX_BY_PEER, MAX_OWN}
-use Rattle.ncp_model.specs.Pairs.{sends, receives, turned, same}
-use Rattle.ncp_model.specs.End.{End, new_end, or_new, is_going, is_over}
-use Rattle.ncp_model.specs.Act.{Act, answer, end_after, made_by_call, is_room, is_data_link}
-use Rattle.ncp_model.specs.Calls.{ask_receive, asked_to_receive}
+use Rattle.ncp_model.specs.declared.limits.TheConstants.{MAX_BY_PEER}
+use Rattle.ncp_model.specs.Pairs.{sends, turned, same}
+use Rattle.ncp_model.specs.End.{End, new_end, or_new, is_over}
+use Rattle.ncp_model.specs.Act.{Act, Becomes, answer, end_after, made_by_call, is_data_link}
+use Rattle.ncp_model.specs.Calls.{unless_refused, may_ask_receive, ask_receive, asked_to_receive}
 use Rattle.ncp_model.specs.Ends.{hears_link}
 use Rattle.ncp_model.specs.Texts.{Rfnm, Incomplete, Dead}
 use Rattle.ncp_model.specs.Happenings.{Happening, happens}
@@ -151,25 +151,18 @@ calm_links q sq h s f left fit k = put_links q h s (λ on. hears_at s on q) (or_
 
 -- The receiver asks: it makes its RTS with that link, or nothing changes.
 
-record Way (pair : Pair) (on : ℕ) (before : Option End) (act : Act (Result Command CallFault)) : Type 0 where
-  is :
-      ((made_by_call (answer act) ≡ []) × (end_after before act ≡ before))
-      ⊎ ((made_by_call (answer act) ≡ Rts pair.local pair.remote on ∷ []) × ((or_new (end_after before act)).asked ≡ true) × ((or_new (end_after before act)).link ≡ on))
+abbrev Way : Pair → ℕ → Option End → Act (Result Command CallFault) → Type 0
+Way pair on before act =
+    ((made_by_call (answer act) ≡ []) × (end_after before act ≡ before))
+    ⊎ ((made_by_call (answer act) ≡ Rts pair.local pair.remote on ∷ []) × ((or_new (end_after before act)).asked ≡ true) × ((or_new (end_after before act)).link ≡ on))
 
 one_way : (pair : Pair) (room on own : ℕ) (full : Bool) (before : Option End) → Way pair on before (ask_receive pair room on own full before)
-one_way pair room on own full before =
-    way (not (receives pair)) (λ _. record { is = inl (refl, refl) }) (λ _.
-    way (not (is_room room)) (λ _. record { is = inl (refl, refl) }) (λ _.
-    way ((or_new before).asked && not (is_going (or_new before))) (λ _. record { is = inl (refl, refl) }) (λ _.
-    way (is_going (or_new before)) (λ _. record { is = inl (refl, refl) }) (λ g.
-    way (nat_le MAX_OWN own) (λ _. record { is = inl (refl, refl) }) (λ _.
-    way full (λ _. record { is = inl (refl, refl) }) (λ _.
-    let o : is_over (asked_to_receive on room (or_new before)) ≡ false = and_left (or_new before).left (or_new before).cls (or_parts (or_new before).leaving (or_new before).left g).1 in
-    record { is = inr (refl, rw o refl, rw o refl) }))))))
+one_way pair room on own full before = go (may_ask_receive pair room own full before) refl
   where
-    way : (b : Bool) {x y : Act (Result Command CallFault)} → (b ≡ true → Way pair on before x) → (b ≡ false → Way pair on before y) → Way pair on before (if b then x else y)
-    way true k m = k refl
-    way false k m = m refl
+    go : (may : Result (Unit {0}) CallFault) → may_ask_receive pair room own full before ≡ may
+        → Way pair on before (unless_refused may (Becomes (asked_to_receive on room (or_new before)) (Ok (Rts pair.local pair.remote on))))
+    go (Err f) m = inl (refl, refl)
+    go (Ok _) m = let o : is_over (asked_to_receive on room (or_new before)) ≡ false = grind arith in inr (refl, rw o refl, rw o refl)
 
 -- an event of one connection
 
@@ -199,7 +192,7 @@ links_asks q sq room on own full s free f k = go s.receives refl (is_data_link o
     still h g fit = calm_links q sq h s g left fit k
 
     did : s.receives ≡ true → FitAt (put_hosted q (hosted true true) s) q → LinkFits (put_hosted q (hosted true true) s)
-    did r fit = by_way (one_way (turned q) room on own full (s.receiver q).end).is
+    did r fit = by_way (one_way (turned q) room on own full (s.receiver q).end)
       where
         by_way : ((happens (turned q) (Happening.Asks_to_receive room on own full) (s.receiver q).end).made ≡ []) × ((happens (turned q) (Happening.Asks_to_receive room on own full) (s.receiver q).end).after ≡ (s.receiver q).end)
             ⊎ ((happens (turned q) (Happening.Asks_to_receive room on own full) (s.receiver q).end).made ≡ Rts q.remote q.local on ∷ []) × ((or_new (happens (turned q) (Happening.Asks_to_receive room on own full) (s.receiver q).end).after).asked ≡ true) × ((or_new (happens (turned q) (Happening.Asks_to_receive room on own full) (s.receiver q).end).after).link ≡ on)

@@ -1,7 +1,7 @@
 //! Many connections over the same two lists of commands.
 ghost use Rattle.std.specs.Prelude.{◌≡◌, List, true, false};
 ghost use Rattle.ncp_model.specs.Pairs.{sends};
-ghost use Rattle.ncp_proof_connection.specs.Ledger.{BothOpenOnConnection, MessagesAgreeOnConnection, BitsAgreeOnConnection, PartedOnConnection, Held, BeginsOnConnection, TakenBeginsOnConnection};
+ghost use Rattle.ncp_proof_connection.specs.Ledger.{BothOpenOnConnection, AmountsAgreeOnConnection, PartedOnConnection, Held, BeginsOnConnection, TakenBeginsOnConnection};
 ghost use Rattle.ncp_proof_connection.specs.Clearings.{OutStaysOpened};
 ghost use Rattle.ncp_proof_sharing.specs.Finding.{SocketsFindSender, SocketsFindReceiver, GrantFinds, ReturnFinds, RequestFits, SenderHoldsLink, ReceiverHoldsLink, NoSenderOpens, NoReceiverOpens};
 ghost use Rattle.ncp_proof_sharing.specs.Sharing.{Shared_event, AllMayHappen, new_shared, shared, connection_at, hosted_at, hears_at, uses_at};
@@ -13,8 +13,7 @@ ghost use Rattle.ncp_proof_sharing.specs.OfSharing.{AfterSharing, OfSharedPairs,
 /// two lists underway with those of the connections the other way.
 pub fn each_loses_and_makes_nothing()
     ensures safe { OfSharedPairs (λ pair w. w.violated pair ≡ false) }
-    ensures messages { OfEachConnection (λ w. BothOpenOnConnection w → MessagesAgreeOnConnection w) }
-    ensures bits { OfEachConnection (λ w. BothOpenOnConnection w → BitsAgreeOnConnection w) }
+    ensures amounts { OfEachConnection (λ w. BothOpenOnConnection w → AmountsAgreeOnConnection w) }
     ensures parted { OfEachConnection (λ w. BothOpenOnConnection w → PartedOnConnection w) }
     ensures held { OfEachConnection Held }
     ensures beginning { OfEachConnection BeginsOnConnection }

@@ -1,10 +1,11 @@
 -- The books of a receiving end: what its record says of its history.
-use Rattle.std.specs.Prelude.{◌≡◌, ◌+◌, true, false, ◌++◌, length, List, [], ◌∷◌, Option, None, Some}
+use Rattle.std.specs.Prelude.{◌≡◌, true, false, ◌++◌, List, [], ◌∷◌, Option, None, Some}
 use Rattle.ncp_model.specs.declared.pair.Pair.{Pair}
+use Rattle.ncp_model.specs.Amounts.{◌⊕◌, allowance}
 use Rattle.ncp_model.specs.End.{End}
 use Rattle.ncp_model.specs.Happenings.{Happening}
 use Rattle.ncp_model.specs.Leading.{suits}
-use Rattle.ncp_proof_watch.specs.Histories.{Past}
+use Rattle.ncp_proof_watch.specs.Histories.{Past, allowance_used}
 
 -- each comes to an end of the kind that takes it
 abbrev pub Suit : Pair → List Happening → Type 0
@@ -14,8 +15,7 @@ Suit pair (what ∷ more) = (suits pair what ≡ true) × Suit pair more
 abbrev pub Books : End → Past → Type 0
 Books e past = record {
   -- outstanding is what was granted less what was returned and used
-  messages : e.opened ≡ true → e.messages + past.returned_messages + past.used_messages ≡ past.granted_messages;
-  bits : e.opened ≡ true → e.bits + past.returned_bits + length past.got ≡ past.granted_bits;
+  counted : e.opened ≡ true → allowance e ⊕ past.returned ⊕ allowance_used past ≡ past.granted;
   -- what was got was taken or is held
   held : e.opened ≡ true → e.left ≡ false → past.got ≡ past.taken ++ e.stored;
 }

@@ -1,7 +1,9 @@
 -- What happened to a pair of sockets at one host since its connection opened there. A history
 -- only watches: no rule asks it. All of it is this profile's way to speak of a connection.
-use Rattle.std.specs.Prelude.{ℕ, ◌+◌, Bool, true, false, not, ◌&&◌, if◌then◌else◌, List, [], ◌∷◌, ◌++◌, Option, None, ◌≡◌}
+use Rattle.std.specs.Prelude.{ℕ, ◌+◌, Bool, true, false, not, ◌&&◌, if◌then◌else◌, List, [], ◌∷◌, ◌++◌, length, Option, None, ◌≡◌}
 use Rattle.ncp_model.specs.declared.pair.Pair.{Pair}
+use Rattle.ncp_model.specs.declared.amounts.Amount.{Amount}
+use Rattle.ncp_model.specs.Amounts.{amount, no_amount, ◌⊕◌}
 use Rattle.ncp_model.specs.End.{End, is_live}
 use Rattle.ncp_model.specs.Happenings.{Happening, Outcome, Happened, happens}
 
@@ -11,14 +13,16 @@ pub record Past : Type 0 where
   pub given : List Bool  -- by the sender's user
   pub got : List Bool  -- from the peer, and admitted
   pub taken : List Bool  -- by the receiver's user, since the last ask
-  pub granted_messages : ℕ  -- by ALL
-  pub granted_bits : ℕ
-  pub returned_messages : ℕ  -- by RET
-  pub returned_bits : ℕ
+  pub granted : Amount  -- by ALL
+  pub returned : Amount  -- by RET
   pub used_messages : ℕ  -- by texts that were admitted; the bits used are those that were got
 
 abbrev pub no_past : Past
-no_past = record { given = []; got = []; taken = []; granted_messages = 0; granted_bits = 0; returned_messages = 0; returned_bits = 0; used_messages = 0 }
+no_past = record { given = []; got = []; taken = []; granted = no_amount; returned = no_amount; used_messages = 0 }
+
+-- what was used of the allocation
+abbrev pub allowance_used : Past → Amount
+allowance_used past = amount past.used_messages (length past.got)
 
 abbrev pub is_outcome_accepted : Outcome → Bool
 is_outcome_accepted Outcome.Accepted = true
@@ -37,10 +41,8 @@ abbrev pub adds : Happening → Outcome → Past → Past
 adds (Happening.Asks_to_receive with_room on own full) o past = record past { taken = if is_outcome_accepted o then [] else past.taken }
 adds (Happening.Gives text) o past = record past { given = past.given ++ (if is_outcome_accepted o then text else []) }
 adds (Happening.Takes bytes) o past = record past { taken = past.taken ++ taken_out o }
-adds (Happening.Allocates m b full) o past =
-    record past { granted_messages = past.granted_messages + (if is_outcome_accepted o then m else 0); granted_bits = past.granted_bits + (if is_outcome_accepted o then b else 0) }
-adds (Happening.Ret_comes on m b) o past =
-    record past { returned_messages = past.returned_messages + (if is_outcome_accepted o then m else 0); returned_bits = past.returned_bits + (if is_outcome_accepted o then b else 0) }
+adds (Happening.Allocates m b full) o past = record past { granted = past.granted ⊕ (if is_outcome_accepted o then amount m b else no_amount) }
+adds (Happening.Ret_comes on m b) o past = record past { returned = past.returned ⊕ (if is_outcome_accepted o then amount m b else no_amount) }
 adds (Happening.Text_comes head of_size text) o past =
     record past { got = past.got ++ (if is_admitted o then text else []); used_messages = past.used_messages + (if is_admitted o then 1 else 0) }
 adds what o past = past

@@ -2,6 +2,7 @@
 use Rattle.std.specs.Prelude.{◌≡◌, true, false, List, [], ◌∷◌, ◌++◌, Bool}
 use Rattle.ncp_model.specs.declared.pair.Pair.{Pair}
 use Rattle.ncp_model.specs.Pairs.{receives}
+use Rattle.ncp_model.specs.Amounts.{amount}
 use Rattle.ncp_model.specs.Happenings.{Happening, Asks_to_send, Asks_to_receive, Gives, Takes, Allocates, Calls_back, Rts_comes, Str_comes, All_comes, Ret_comes, Text_goes_out, Is_cleared}
 use Rattle.ncp_model.specs.InUse.{three_bytes}
 use Rattle.ncp_model.specs.RowFacts.{text_arrives}
@@ -63,10 +64,10 @@ abbrev pub giving : List Bool → Past
 giving bits = record no_past { given = bits }
 
 abbrev pub two_granted : Past
-two_granted = record no_past { granted_messages = 2; granted_bits = 16 }
+two_granted = record no_past { granted = amount 2 16 }
 
 abbrev pub two_got : Past
 two_got = record two_granted { got = ones 16; used_messages = 1 }
 
 abbrev pub two_returned : Past
-two_returned = record two_granted { returned_messages = 2; returned_bits = 16 }
+two_returned = record two_granted { returned = amount 2 16 }

@@ -1,5 +1,5 @@
 -- What is underway in the world of bits is what is underway in the model.
-use Rattle.std.proofs.Common.{◌≡◌, ◌<◌, ◌≤◌, ℕ, ◌+◌, ◌^◌, ◌==◌, Bool, true, false, nat_le, List, [], ◌++◌, length, Option, None, Some, Result, refl, sym, ap, ◌∙◌, arith, subst}
+use Rattle.std.proofs.Common.{◌≡◌, ◌<◌, ◌≤◌, ℕ, ◌^◌, ◌==◌, Bool, true, false, nat_le, List, [], ◌++◌, length, Option, None, Some, Result, refl, sym, ap, ◌∙◌, arith, subst}
 use Rattle.std.proofs.lemmas.Bool.{and_parts, leb-true, ne_eqb}
 use Rattle.std.specs.FinMap.{get}
 use Rattle.ncp_numbers.specs.Bytes.{bytes_of, bits_of_bytes}
@@ -30,22 +30,22 @@ use Rattle.ncp_proof_resets.proofs.ResetRuns.{agreeing}
 use Rattle.ncp_proof_resets.specs.Resets as resets
 use Rattle.ncp_proof_machine.specs.Hosts.{TextOut, Node, NodeEvent, run, past_of}
 use Rattle.ncp_proof_machine.specs.Hosts as hosts
-use Rattle.ncp_proof_headline.specs.Headline.{sum_on}
+use Rattle.ncp_proof_headline.specs.Headline.{total_on}
 use Rattle.ncp_proof_headline.specs.Headline as headline
 use Rattle.ncp_proof_machine.proofs.EndsGood.{Good}
 use Rattle.ncp_proof_headline.proofs.HostsHeld.{ever}
-use Rattle.ncp_proof_headline.proofs.HostsHeadline.{messages_agree, bits_agree, parted}
+use Rattle.ncp_proof_headline.proofs.HostsHeadline.{amounts_agree, parted}
 use Rattle.ncp_host.specs.PeerState.{PeerState}
 use Rattle.ncp_transcript_two.specs.Subnet.{Holds, TransitByLink}
 use Rattle.ncp_transcript_two.specs.World.{World}
 use Rattle.ncp_transcript_two.specs.Watch.{Both}
 use Rattle.ncp_transcript_two.specs.Tie.{Whereabouts, Nowhere, Waits, Goes, Came, Failed, Died, Kept, model_of, slot_of, holds_of, OfMessage, Carries, control_bits, text_as_message, AreCommands, IsTextOn, Stands, Reached}
-use Rattle.ncp_transcript_two.specs.Underway.{text_read, text_of, commands_of, not_come, commands_out, underway, how_many, bits_out, sender_at, text_out, MessagesAgree, BitsAgree, Parted, NoResetUnderway}
+use Rattle.ncp_transcript_two.specs.Underway.{text_read, text_of, commands_of, not_come, commands_out, underway, how_many, bits_out, sender_at, text_out, AmountsAgree, Parted, NoResetUnderway}
 use Rattle.ncp_transcript_two.proofs.Written.{read, control_text}
 use Rattle.ncp_transcript_two.proofs.Comings.{small}
 use Rattle.ncp_transcript_two.proofs.Reaching.{of-reached, good-here}
 use Rattle.ncp_transcript_two.proofs.Runs.{OfModelWith, both}
-use Rattle.ncp_model.specs.Amounts.{granted_messages, granted_bits, returned_messages, returned_bits}
+use Rattle.ncp_model.specs.Amounts.{amount, ◌⊕◌, allowance, granted, returned}
 
 commands-read : (there : ℕ) (cs : List Command) → there < 2 ^ 8 → AreCommands cs → commands_of (control_bits there cs) ≡ cs
 commands-read there cs n a =
@@ -141,17 +141,11 @@ module _ (pair : Pair) (s : sends pair ≡ true) (v : World) (p : Both) (t : OfM
       (subst (λ (xs : List Bool). P t.0.this.ends t.0.that.ends (headline.commands_there t.0) (headline.commands_back t.0) (headline.how_many_texts (headline.text_underway pair t.0)) xs p) (sym bits)
       (subst (λ (b : Both). P t.0.this.ends t.0.that.ends (headline.commands_there t.0) (headline.commands_back t.0) (headline.how_many_texts (headline.text_underway pair t.0)) (headline.bits_of_text (headline.text_underway pair t.0)) b) t.2 (k open_)))))))
 
-  pub messages-carried : MessagesAgree pair v
-  messages-carried o = moved
+  pub amounts-carried : AmountsAgree pair v
+  amounts-carried o = moved
       (λ a b there back n xs q. (is_open (or_new (get a pair)) ≡ true) × (is_open (or_new (get b (turned pair))) ≡ true)
-      → (or_new (get b (turned pair))).messages ≡ (or_new (get a pair)).messages + (sum_on (or_new (get a pair)).link granted_messages back + (n + sum_on (or_new (get a pair)).link returned_messages there)))
-      (λ _. of-reached (λ (w : hosts.TwoNodes). headline.MessagesAgreeInModel pair w) (λ (es : List NodeEvent). let t = ever es in messages_agree t.own t.own' (run es) t.holds t.stand pair s) t.0 t.1.reached) o.0 o
-
-  pub bits-carried : BitsAgree pair v
-  bits-carried o = moved
-      (λ a b there back n xs q. (is_open (or_new (get a pair)) ≡ true) × (is_open (or_new (get b (turned pair))) ≡ true)
-      → (or_new (get b (turned pair))).bits ≡ (or_new (get a pair)).bits + (sum_on (or_new (get a pair)).link granted_bits back + (length xs + sum_on (or_new (get a pair)).link returned_bits there)))
-      (λ _. of-reached (λ (w : hosts.TwoNodes). headline.BitsAgreeInModel pair w) (λ (es : List NodeEvent). let t = ever es in bits_agree t.own t.own' (run es) t.holds t.stand pair s) t.0 t.1.reached) o.0 o
+      → allowance (or_new (get b (turned pair))) ≡ allowance (or_new (get a pair)) ⊕ total_on (or_new (get a pair)).link granted back ⊕ amount n (length xs) ⊕ total_on (or_new (get a pair)).link returned there)
+      (λ _. of-reached (λ (w : hosts.TwoNodes). headline.AmountsAgreeInModel pair w) (λ (es : List NodeEvent). let t = ever es in amounts_agree t.own t.own' (run es) t.holds t.stand pair s) t.0 t.1.reached) o.0 o
 
   pub parted-carried : Parted pair v p
   parted-carried o = moved

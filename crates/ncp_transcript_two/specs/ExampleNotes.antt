@@ -1,7 +1,7 @@
 -- Notes and ledgers of the examples.
 use Rattle.ncp_proof_resets.specs.Resets.{Party}
 use Rattle.ncp_transcript_two.specs.World.{Told, WorldNote}
-use Rattle.ncp_transcript_two.specs.declared.ledger.Amount.{Amount}
+use Rattle.ncp_model.specs.declared.amounts.Amount.{Amount}
 use Rattle.ncp_transcript_two.specs.declared.ledger.Ledger.{Ledger}
 
 -- at a side, this is told

@@ -1,31 +1,26 @@
 -- What an open connection has outstanding, and where it is, in numbers. The ALL and RET that count are those
 -- that name the connection's link; a text counts from when it went out until it came.
-use Rattle.std.specs.Prelude.{◌≡◌, ℕ, ◌+◌, Bool, ◌&&◌, if◌then◌else◌, length, Option, None, Some}
+use Rattle.std.specs.Prelude.{◌≡◌, Bool, ◌&&◌, if◌then◌else◌, Option, None, Some}
 use Rattle.ncp_model.specs.declared.pair.Pair.{Pair}
 use Rattle.ncp_model.specs.Pairs.{is_send}
 use Rattle.ncp_model.specs.End.{is_open}
-use Rattle.ncp_model.specs.Amounts.{granted_messages, granted_bits, returned_messages, returned_bits}
-use Rattle.ncp_proof_headline.specs.Headline.{sum_on}
+use Rattle.ncp_model.specs.Amounts.{◌⊕◌, allowance}
 use Rattle.ncp_transcript_two.specs.World.{World, swap}
-use Rattle.ncp_transcript_two.specs.Underway.{underway, how_many, bits_out, sender_at, receiver_at, text_out}
-use Rattle.ncp_transcript_two.specs.declared.ledger.Amount.{Amount}
+use Rattle.ncp_transcript_two.specs.Underway.{sender_at, receiver_at, text_out, amount_out, granted_on, returned_on}
 use Rattle.ncp_transcript_two.specs.declared.ledger.Ledger.{Ledger}
 use Rattle.ncp_transcript_two.specs.declared.side.Side.{Side}
 use Rattle.ncp_transcript_two.specs.declared.side.Side.TheVariants.{A, B}
 use Rattle.ncp_transcript_two.specs.Between.{Hosts}
 use Rattle.ncp_transcript_two.specs.Seen.{seen}
 
-abbrev pub amount : ℕ → ℕ → Amount
-amount messages bits = record { messages = messages; bits = bits }
-
 -- the sender is at this host
 abbrev pub ledger_in : Pair → World → Ledger
 ledger_in pair v = record {
-  outstanding = amount (receiver_at pair v).messages (receiver_at pair v).bits;
-  counters = amount (sender_at pair v).messages (sender_at pair v).bits;
-  all = amount (sum_on (sender_at pair v).link granted_messages (underway v.that v.coming)) (sum_on (sender_at pair v).link granted_bits (underway v.that v.coming));
-  text = amount (how_many (text_out pair v)) (length (bits_out (text_out pair v)));
-  ret = amount (sum_on (sender_at pair v).link returned_messages (underway v.this v.going)) (sum_on (sender_at pair v).link returned_bits (underway v.this v.going));
+  outstanding = allowance (receiver_at pair v);
+  counters = allowance (sender_at pair v);
+  all = granted_on pair v;
+  text = amount_out (text_out pair v);
+  ret = returned_on pair v;
 }
 
 abbrev pub are_open : Pair → World → Bool
@@ -45,6 +40,4 @@ ledger_of side pair w = ledger_from pair (seen_from side w)
 
 -- what is outstanding is what the counters hold, and what is underway
 abbrev pub IsBalanced : Ledger → Type 0
-IsBalanced l =
-    (l.outstanding.messages ≡ l.counters.messages + l.all.messages + l.text.messages + l.ret.messages)
-    × (l.outstanding.bits ≡ l.counters.bits + l.all.bits + l.text.bits + l.ret.bits)
+IsBalanced l = l.outstanding ≡ l.counters ⊕ l.all ⊕ l.text ⊕ l.ret

@@ -1,6 +1,6 @@
 -- What is underway from a host, read off its slots and the subnet, and what a connection between the
 -- two hosts has in common with it. Each is said of what goes from this host to that one.
-use Rattle.std.specs.Prelude.{◌≡◌, ℕ, ◌+◌, Bool, true, List, [], ◌++◌, length, Option, None, Some, Result, Ok, Err}
+use Rattle.std.specs.Prelude.{◌≡◌, ℕ, Bool, true, List, [], ◌++◌, length, Option, None, Some, Result, Ok, Err}
 use Rattle.std.specs.FinMap.{get}
 use Rattle.ncp_numbers.specs.Bytes.{bytes_of}
 use Rattle.ncp_leader.specs.declared.fault.MessageFault.{MessageFault}
@@ -14,13 +14,14 @@ use Rattle.std.specs.List.{filter}
 use Rattle.ncp_model.specs.Phase.{up, is_reset}
 use Rattle.ncp_model.specs.End.{End, is_open, or_new}
 use Rattle.ncp_proof_machine.specs.Hosts.{past_of}
-use Rattle.ncp_proof_headline.specs.Headline.{sum_on}
+use Rattle.ncp_proof_headline.specs.Headline.{total_on}
 use Rattle.ncp_host.specs.PeerState.{PeerState}
 use Rattle.ncp_transcript_two.specs.Subnet.{Holds, Free, Accepted, Delivered, Lost, Dead, TransitByLink}
 use Rattle.ncp_transcript_two.specs.World.{World}
 use Rattle.ncp_transcript_two.specs.Watch.{Both}
 use Rattle.ncp_model.specs.Pairs.{turned}
-use Rattle.ncp_model.specs.Amounts.{granted_messages, granted_bits, returned_messages, returned_bits}
+use Rattle.ncp_model.specs.declared.amounts.Amount.{Amount}
+use Rattle.ncp_model.specs.Amounts.{amount, ◌⊕◌, allowance, granted, returned}
 
 -- the text of a message, and the commands of a control message
 
@@ -61,6 +62,9 @@ abbrev pub bits_out : Option (List Bool) → List Bool
 bits_out None = []
 bits_out (Some m) = text_of m
 
+abbrev pub amount_out : Option (List Bool) → Amount
+amount_out t = amount (how_many t) (length (bits_out t))
+
 -- the two ends of a pair, and the text that is underway on its link
 
 abbrev pub sender_at : Pair → World → End
@@ -78,17 +82,15 @@ BothOpen pair v = (is_open (sender_at pair v) ≡ true) × (is_open (receiver_at
 -- While both ends are open: what is outstanding is what the sender's counters hold, and what ALL, the
 -- text and RET carry that are underway on its link.
 
-abbrev pub MessagesAgree : Pair → World → Type 0
-MessagesAgree pair v = BothOpen pair v
-    → (receiver_at pair v).messages
-    ≡ (sender_at pair v).messages
-    + (sum_on (sender_at pair v).link granted_messages (underway v.that v.coming) + (how_many (text_out pair v) + sum_on (sender_at pair v).link returned_messages (underway v.this v.going)))
+abbrev pub granted_on : Pair → World → Amount
+granted_on pair v = total_on (sender_at pair v).link granted (underway v.that v.coming)
 
-abbrev pub BitsAgree : Pair → World → Type 0
-BitsAgree pair v = BothOpen pair v
-    → (receiver_at pair v).bits
-    ≡ (sender_at pair v).bits
-    + (sum_on (sender_at pair v).link granted_bits (underway v.that v.coming) + (length (bits_out (text_out pair v)) + sum_on (sender_at pair v).link returned_bits (underway v.this v.going)))
+abbrev pub returned_on : Pair → World → Amount
+returned_on pair v = total_on (sender_at pair v).link returned (underway v.this v.going)
+
+abbrev pub AmountsAgree : Pair → World → Type 0
+AmountsAgree pair v = BothOpen pair v
+    → allowance (receiver_at pair v) ≡ allowance (sender_at pair v) ⊕ granted_on pair v ⊕ amount_out (text_out pair v) ⊕ returned_on pair v
 
 -- and what was given was got, is underway, or waits
 abbrev pub Parted : Pair → World → Both → Type 0

@@ -2,7 +2,7 @@
 ghost use Rattle.std.specs.Prelude.{◌≡◌, ◌<◌, ◌^◌, ℕ, Bool, List, true, false, Ok};
 ghost use Rattle.ncp_transcript_two.specs.Throughout.{AfterEachRun, InNotesOfEachRun, ComesAsSent, GoesAgainAsSent};
 ghost use Rattle.ncp_transcript_two.specs.Streams.{GotIsBeginning, GotIsTakenOrHeld, NeverBeyondAllocation};
-ghost use Rattle.ncp_transcript_two.specs.Underway.{MessagesAgree, BitsAgree, Parted};
+ghost use Rattle.ncp_transcript_two.specs.Underway.{AmountsAgree, Parted};
 ghost use Rattle.ncp_transcript_two.specs.World.{World};
 ghost use Rattle.ncp_transcript_two.specs.Honest.{IsHonest, came};
 ghost use Rattle.ncp_leader.specs.declared.leader.Leader.{Leader};
@@ -40,8 +40,7 @@ pub fn streams_are_kept()
 /// sender's counters hold and what ALL, the text and RET carry that are underway on the link; and what was
 /// given was got, is underway, or waits. What is underway is read off slots and subnet.
 pub fn the_ledger_is_kept()
-    ensures messages { AfterEachRun (λ pair v p. MessagesAgree pair v) }
-    ensures bits { AfterEachRun (λ pair v p. BitsAgree pair v) }
+    ensures amounts { AfterEachRun (λ pair v p. AmountsAgree pair v) }
     ensures parted { AfterEachRun Parted }
 {}
 

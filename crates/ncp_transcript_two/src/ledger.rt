@@ -1,11 +1,6 @@
 //! `Ledger`.
 
-/// So many messages, and so many bits.
-#[derive(Clone, Copy, Debug, Drop, PartialEq, Eq)]
-pub struct Amount {
-    pub messages: u64,
-    pub bits: u64,
-}
+use ncp_model::Amount;
 
 /// What is outstanding at the receiver of an open connection, and where it is. The first amount is the
 /// sum of the others.

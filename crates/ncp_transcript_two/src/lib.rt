@@ -19,6 +19,6 @@ mod side;
 pub mod transcripts;
 
 pub use event::Event;
-pub use ledger::{Amount, Ledger};
+pub use ledger::Ledger;
 pub use note::{Move, NOTE_BYTES, Note};
 pub use side::Side;

@@ -4,7 +4,7 @@ ghost use Rattle.ncp_transcript_two.specs.Throughout.{OfEachTranscript, ToldInEa
 ghost use Rattle.ncp_transcript_two.specs.Honest.{IsHonest, came};
 ghost use Rattle.ncp_transcript_two.specs.Refused.{any_refused};
 ghost use Rattle.ncp_transcript_two.specs.Streams.{GotIsBeginning, GotIsTakenOrHeld, NeverBeyondAllocation};
-ghost use Rattle.ncp_transcript_two.specs.Underway.{MessagesAgree, BitsAgree, Parted};
+ghost use Rattle.ncp_transcript_two.specs.Underway.{AmountsAgree, Parted};
 ghost use Rattle.ncp_host.specs.Turns.{next_output};
 ghost use Rattle.ncp_transcript.specs.declared.note.HostNote.TheVariants as of_host;
 ghost use Rattle.ncp_transcript_two.specs.declared.note.Note.TheVariants as of_world;
@@ -55,8 +55,7 @@ pub fn transcripts_keep_the_headline()
     ensures beginning { OfEachTranscript GotIsBeginning }
     ensures held { OfEachTranscript GotIsTakenOrHeld }
     ensures allocation { OfEachTranscript NeverBeyondAllocation }
-    ensures messages { OfEachTranscript (λ pair v p. MessagesAgree pair v) }
-    ensures bits { OfEachTranscript (λ pair v p. BitsAgree pair v) }
+    ensures amounts { OfEachTranscript (λ pair v p. AmountsAgree pair v) }
     ensures parted { OfEachTranscript Parted }
     ensures resets { OfTranscripts (λ notes w. NoResetEitherWay (seen w)) }
     ensures refused { ToldInEachTranscript (λ w notes. any_refused notes ≡ false) }

@@ -5,14 +5,11 @@ use Rattle.ncp_proof_connection.proofs.connections.clearings_lose_and_make_nothi
 pub returns-clause-safe : goal.returns-clause-safe
 returns-clause-safe c = λ pair cs sd. (let h = change pair cs in fit_safe pair sd h.sends h.receives h.connection (fit_ever pair sd cs))
 
-pub returns-clause-messages : goal.returns-clause-messages
-returns-clause-messages c = λ pair cs sd o. (let h = change pair cs in (fit_open pair sd h.sends h.receives h.connection (fit_ever pair sd cs) o).0)
-
-pub returns-clause-bits : goal.returns-clause-bits
-returns-clause-bits c = λ pair cs sd o. (let h = change pair cs in (fit_open pair sd h.sends h.receives h.connection (fit_ever pair sd cs) o).1)
+pub returns-clause-amounts : goal.returns-clause-amounts
+returns-clause-amounts c = λ pair cs sd o. (let h = change pair cs in (fit_open pair sd h.sends h.receives h.connection (fit_ever pair sd cs) o).0)
 
 pub returns-clause-parted : goal.returns-clause-parted
-returns-clause-parted c = λ pair cs sd o. (let h = change pair cs in (fit_open pair sd h.sends h.receives h.connection (fit_ever pair sd cs) o).2)
+returns-clause-parted c = λ pair cs sd o. (let h = change pair cs in (fit_open pair sd h.sends h.receives h.connection (fit_ever pair sd cs) o).1)
 
 pub returns-clause-held : goal.returns-clause-held
 returns-clause-held c = λ pair cs sd. (let h = change pair cs in fit_held pair sd h.sends h.receives h.connection (fit_ever pair sd cs))

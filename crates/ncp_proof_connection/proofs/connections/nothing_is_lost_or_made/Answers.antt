@@ -5,14 +5,11 @@ use Rattle.ncp_proof_connection.proofs.connections.nothing_is_lost_or_made.Goals
 pub returns-clause-safe : goal.returns-clause-safe
 returns-clause-safe c = λ pair events sd. (ever pair sd events).local.safe
 
-pub returns-clause-messages : goal.returns-clause-messages
-returns-clause-messages c = λ pair events sd o. (both_open pair sd (occur pair events) (ever pair sd events) o).0
-
-pub returns-clause-bits : goal.returns-clause-bits
-returns-clause-bits c = λ pair events sd o. (both_open pair sd (occur pair events) (ever pair sd events) o).1
+pub returns-clause-amounts : goal.returns-clause-amounts
+returns-clause-amounts c = λ pair events sd o. (both_open pair sd (occur pair events) (ever pair sd events) o).0
 
 pub returns-clause-parted : goal.returns-clause-parted
-returns-clause-parted c = λ pair events sd o. (both_open pair sd (occur pair events) (ever pair sd events) o).2
+returns-clause-parted c = λ pair events sd o. (both_open pair sd (occur pair events) (ever pair sd events) o).1
 
 pub returns-clause-held : goal.returns-clause-held
 returns-clause-held c = λ pair events sd. what_was_held pair sd (occur pair events) (ever pair sd events)

@@ -1,14 +1,14 @@
 use Rattle.std.proofs.Common.{List, Option, ap, ◌∙◌}
 use Rattle.ncp_terms.specs.declared.command.Command.{Command}
 use Rattle.ncp_model.specs.End.{End, or_new, is_open}
-use Rattle.ncp_model.specs.Amounts.{back, granted_messages, returned_messages}
+use Rattle.ncp_model.specs.Amounts.{granted, returned, back}
 use Rattle.ncp_model.specs.Ends.{lowest}
 use Rattle.ncp_proof_watch.specs.Histories.{Past}
 use Rattle.ncp_proof_resets.specs.Delivery.{Link}
 use Rattle.ncp_proof_resets.specs.Resets.{ResetHost, commands_underway}
 use Rattle.ncp_model.specs.Rows.{outward, inward}
 use Rattle.ncp_proof_machine.specs.Hosts.{TextOut, all_empty, run}
-use Rattle.ncp_proof_headline.specs.Headline.{commands_there, commands_back, sum_on, message_not_come, how_many_texts}
+use Rattle.ncp_proof_headline.specs.Headline.{commands_there, commands_back, total_on, message_not_come, how_many_texts}
 use Rattle.ncp_proof_machine.specs.HostRuns.{calls_back_under_text, sender_cleared}
 use Rattle.ncp_proof_machine.proofs.HostsListed.{low_run, this-end, that-end, this-past, that-past, this-host, that-host, this-control, that-control, this-link}
 use Rattle.ncp_proof_headline.proofs.headline.all_terms_are_underway.Goals as goal
@@ -27,7 +27,7 @@ returns-clause-messages_at_sender c = ap (λ (o : Option End). (or_new o).messag
 
 pub returns-clause-messages_granted : goal.returns-clause-messages_granted
 unfolding lowest all_empty back
-returns-clause-messages_granted c = let w = run calls_back_under_text in ap (λ (o : Option End). sum_on (or_new o).link granted_messages (commands_back w)) (this-end calls_back_under_text outward) ∙ ap (λ (h : ResetHost). sum_on 2 granted_messages (commands_underway h w.that.control)) (that-host calls_back_under_text) ∙ ap (λ (l : Link (List Command)). sum_on 2 granted_messages (commands_underway (low_run calls_back_under_text).that.host l)) (that-control calls_back_under_text)
+returns-clause-messages_granted c = let w = run calls_back_under_text in ap (λ (o : Option End). (total_on (or_new o).link granted (commands_back w)).messages) (this-end calls_back_under_text outward) ∙ ap (λ (h : ResetHost). (total_on 2 granted (commands_underway h w.that.control)).messages) (that-host calls_back_under_text) ∙ ap (λ (l : Link (List Command)). (total_on 2 granted (commands_underway (low_run calls_back_under_text).that.host l)).messages) (that-control calls_back_under_text)
 
 pub returns-clause-messages_in_texts : goal.returns-clause-messages_in_texts
 unfolding lowest all_empty back
@@ -35,7 +35,7 @@ returns-clause-messages_in_texts c = let w = run calls_back_under_text in ap (λ
 
 pub returns-clause-messages_returned : goal.returns-clause-messages_returned
 unfolding lowest all_empty back
-returns-clause-messages_returned c = let w = run calls_back_under_text in ap (λ (o : Option End). sum_on (or_new o).link returned_messages (commands_there w)) (this-end calls_back_under_text outward) ∙ ap (λ (h : ResetHost). sum_on 2 returned_messages (commands_underway h w.this.control)) (this-host calls_back_under_text) ∙ ap (λ (l : Link (List Command)). sum_on 2 returned_messages (commands_underway (low_run calls_back_under_text).this.host l)) (this-control calls_back_under_text)
+returns-clause-messages_returned c = let w = run calls_back_under_text in ap (λ (o : Option End). (total_on (or_new o).link returned (commands_there w)).messages) (this-end calls_back_under_text outward) ∙ ap (λ (h : ResetHost). (total_on 2 returned (commands_underway h w.this.control)).messages) (this-host calls_back_under_text) ∙ ap (λ (l : Link (List Command)). (total_on 2 returned (commands_underway (low_run calls_back_under_text).this.host l)).messages) (this-control calls_back_under_text)
 
 pub returns-clause-alone : goal.returns-clause-alone
 unfolding lowest all_empty

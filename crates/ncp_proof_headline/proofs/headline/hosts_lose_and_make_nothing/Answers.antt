@@ -2,11 +2,11 @@ use Rattle.std.proofs.Common.{◌≡◌, true, List}
 use Rattle.ncp_model.specs.declared.pair.Pair.{Pair}
 use Rattle.ncp_model.specs.Pairs.{sends}
 use Rattle.ncp_proof_machine.specs.Hosts.{TwoNodes, nodes_swapped, NodeEvent, run}
-use Rattle.ncp_proof_headline.specs.Headline.{MessagesAgreeInModel, BitsAgreeInModel, OnOneLink, WithinAllocationInModel, PartedInModel, TakenOrHeld, BeginsInModel, BothWaysInModel}
+use Rattle.ncp_proof_headline.specs.Headline.{AmountsAgreeInModel, OnOneLink, WithinAllocationInModel, PartedInModel, TakenOrHeld, BeginsInModel, BothWaysInModel}
 use Rattle.ncp_proof_machine.proofs.HostsStand.{BothStand}
 use Rattle.ncp_proof_headline.proofs.Ties.{Owners}
 use Rattle.ncp_proof_headline.proofs.HostsHeld.{Holds, ever, ever-swapped}
-use Rattle.ncp_proof_headline.proofs.HostsHeadline.{messages_agree, bits_agree, on_one_link, within, parted, held_all, begins}
+use Rattle.ncp_proof_headline.proofs.HostsHeadline.{amounts_agree, on_one_link, within, parted, held_all, begins}
 use Rattle.ncp_proof_headline.proofs.headline.hosts_lose_and_make_nothing.Goals as goal
 
 -- what holds one way of two hosts that are tied holds either way
@@ -23,11 +23,8 @@ returns-clause-safe c = λ es. (ever es).holds.joined.this.safe
 pub returns-clause-safe_there : goal.returns-clause-safe_there
 returns-clause-safe_there c = λ es. (ever es).holds.joined.that.safe
 
-pub returns-clause-messages : goal.returns-clause-messages
-returns-clause-messages c = either_way MessagesAgreeInModel messages_agree
-
-pub returns-clause-bits : goal.returns-clause-bits
-returns-clause-bits c = either_way BitsAgreeInModel bits_agree
+pub returns-clause-amounts : goal.returns-clause-amounts
+returns-clause-amounts c = either_way AmountsAgreeInModel amounts_agree
 
 pub returns-clause-link : goal.returns-clause-link
 returns-clause-link c = either_way OnOneLink on_one_link

@@ -1,6 +1,7 @@
-use Rattle.std.proofs.Common.{◌≡◌, true, Option, None, Some, arith}
+use Rattle.std.proofs.Common.{◌≡◌, true, Option, None, Some, ap, arith}
 use Rattle.std.specs.FinMap.{get}
 use Rattle.ncp_model.specs.declared.pair.Pair.{Pair}
+use Rattle.ncp_model.specs.declared.amounts.Amount.{Amount}
 use Rattle.ncp_model.specs.Pairs.{turned}
 use Rattle.ncp_model.specs.End.{End, is_live}
 use Rattle.ncp_proof_watch.specs.Histories.{Past}
@@ -25,15 +26,12 @@ returns-clause-once c ns w t pair s =
     ((held.0, parted.0), (held.1, parted.1))
 
 pub returns-clause-ledger : goal.returns-clause-ledger
-returns-clause-ledger c ns w t pair s =
-    let messages = c.transcripts_keep_the_headline.ensures.messages ns w pair t s in
-    let bits = c.transcripts_keep_the_headline.ensures.bits ns w pair t s in
-    ((messages.0, bits.0), (messages.1, bits.1))
+returns-clause-ledger c ns w t pair s = c.transcripts_keep_the_headline.ensures.amounts ns w pair t s
 
 -- what the books of a live receiver say, it keeps to
 within : (o : Option End) (past : Past) → BooksAt o past → is_live o ≡ true → IsWithin past
 within None past b l = absurd (cc l)
-within (Some e) past b l = let m = b.messages l in let n = b.bits l in (omega (arith, m), omega (arith, n))
+within (Some e) past b l = let m = ap (λ (a : Amount). a.messages) (b.counted l) in let n = ap (λ (a : Amount). a.bits) (b.counted l) in (omega (arith, m), omega (arith, n))
 
 allowed : (pair : Pair) (v : World) (p : Both) → NeverBeyondAllocation pair v p → IsAllowed pair v p
 allowed pair v p b = (within (get v.that.peer.ends (turned pair)) (past_of p.that (turned pair)) b, b)

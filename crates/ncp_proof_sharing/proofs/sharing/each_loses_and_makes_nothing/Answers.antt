@@ -6,14 +6,11 @@ use Rattle.ncp_proof_sharing.proofs.sharing.each_loses_and_makes_nothing.Goals a
 pub returns-clause-safe : goal.returns-clause-safe
 returns-clause-safe c = λ events p m sd. (let s = shared events in (fit_safe p sd s.sends s.receives (connection_at p s) (fits_ever events m p sd)))
 
-pub returns-clause-messages : goal.returns-clause-messages
-returns-clause-messages c = λ events p m sd o. (let s = shared events in (fit_open p sd s.sends s.receives (connection_at p s) (fits_ever events m p sd) o).0)
-
-pub returns-clause-bits : goal.returns-clause-bits
-returns-clause-bits c = λ events p m sd o. (let s = shared events in (fit_open p sd s.sends s.receives (connection_at p s) (fits_ever events m p sd) o).1)
+pub returns-clause-amounts : goal.returns-clause-amounts
+returns-clause-amounts c = λ events p m sd o. (let s = shared events in (fit_open p sd s.sends s.receives (connection_at p s) (fits_ever events m p sd) o).0)
 
 pub returns-clause-parted : goal.returns-clause-parted
-returns-clause-parted c = λ events p m sd o. (let s = shared events in (fit_open p sd s.sends s.receives (connection_at p s) (fits_ever events m p sd) o).2)
+returns-clause-parted c = λ events p m sd o. (let s = shared events in (fit_open p sd s.sends s.receives (connection_at p s) (fits_ever events m p sd) o).1)
 
 pub returns-clause-held : goal.returns-clause-held
 returns-clause-held c = λ events p m sd. (let s = shared events in (fit_held p sd s.sends s.receives (connection_at p s) (fits_ever events m p sd)))

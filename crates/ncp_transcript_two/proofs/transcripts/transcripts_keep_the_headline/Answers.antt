@@ -3,7 +3,7 @@ use Rattle.ncp_transcript_two.specs.Watch.{turn}
 use Rattle.ncp_transcript_two.specs.Seen.{seen}
 use Rattle.ncp_transcript_two.specs.OfRules.{histories_of}
 use Rattle.ncp_transcript_two.proofs.Carried.{got-begins, got-held, got-within, turned-over}
-use Rattle.ncp_transcript_two.proofs.Underway.{messages-carried, bits-carried, parted-carried, no-reset-carried}
+use Rattle.ncp_transcript_two.proofs.Underway.{amounts-carried, parted-carried, no-reset-carried}
 use Rattle.ncp_transcript_two.proofs.Headlines.{watched-all, none-is-refused}
 use Rattle.ncp_transcript_two.proofs.transcripts.transcripts_keep_the_headline.Goals as goal
 
@@ -16,11 +16,8 @@ returns-clause-held c = λ ns w pair is s. (let t = watched-all ns w is in let p
 pub returns-clause-allocation : goal.returns-clause-allocation
 returns-clause-allocation c = λ ns w pair is s. (let t = watched-all ns w is in let p = histories_of ns w in (got-within pair s (seen w) p t, got-within pair s (swap (seen w)) (turn p) (turned-over (seen w) p t)))
 
-pub returns-clause-messages : goal.returns-clause-messages
-returns-clause-messages c = λ ns w pair is s. (let t = watched-all ns w is in let p = histories_of ns w in (messages-carried pair s (seen w) p t, messages-carried pair s (swap (seen w)) (turn p) (turned-over (seen w) p t)))
-
-pub returns-clause-bits : goal.returns-clause-bits
-returns-clause-bits c = λ ns w pair is s. (let t = watched-all ns w is in let p = histories_of ns w in (bits-carried pair s (seen w) p t, bits-carried pair s (swap (seen w)) (turn p) (turned-over (seen w) p t)))
+pub returns-clause-amounts : goal.returns-clause-amounts
+returns-clause-amounts c = λ ns w pair is s. (let t = watched-all ns w is in let p = histories_of ns w in (amounts-carried pair s (seen w) p t, amounts-carried pair s (swap (seen w)) (turn p) (turned-over (seen w) p t)))
 
 pub returns-clause-parted : goal.returns-clause-parted
 returns-clause-parted c = λ ns w pair is s. (let t = watched-all ns w is in let p = histories_of ns w in (parted-carried pair s (seen w) p t, parted-carried pair s (swap (seen w)) (turn p) (turned-over (seen w) p t)))
