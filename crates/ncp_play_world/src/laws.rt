@@ -7,7 +7,7 @@ ghost use Rattle.ncp_play_world.specs.Traces.{traces_of, place_of_line};
 ghost use Rattle.ncp_play_world.specs.LedgerLines.{amount_words, ledger_words};
 ghost use Rattle.ncp_play_world_lines.specs.declared.settling.Trace.TheVariants.{Noted, Settled};
 ghost use Rattle.ncp_play_world.specs.Tales.{lines_watching};
-ghost use Rattle.ncp_transcript_two.specs.Ledgers.{amount};
+ghost use Rattle.ncp_model.specs.Amounts.{amount};
 ghost use Rattle.ncp_play_world.specs.Examples.{coming_up, each_move};
 
 /// The first lines of two hosts that come up.

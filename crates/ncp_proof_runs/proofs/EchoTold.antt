@@ -25,8 +25,8 @@ use Rattle.ncp_model.specs.Texts
 use Rattle.ncp_model.specs.Ends.{answered_in}
 use Rattle.ncp_model.specs.Echo.{Echoes, echo_answer, echo_asked, hear_erp, hear_err, purge_echo}
 use Rattle.ncp_model.specs.Sending.{is_full}
-use Rattle.ncp_model.specs.Phase.{Phase, Reaction, up, is_rst, is_rrp, is_other, is_resetting, has_place, wants_reset, owes_answer, goes_down, queued, phase_answers, phase_asks, hears_rrp, hears_rst, reset_answer, phase_settles, resets}
-use Rattle.ncp_model.specs.Peers.{Peer, Ask_to_send, Ask_to_receive, Close, Give, Take, Allocate, Call_back, Interrupt, kept_echoes, echoes_after, call_accepted, reply_of_echo, PairCall, calls, calls_echo, calls_reset, calls_up, cleared, cuts, echo_called, frees, frees_up, hears, hears_other, makes, peer_sends, takes_text}
+use Rattle.ncp_model.specs.Phase.{Phase, up, is_rst, is_rrp, is_resetting, phase_asks, hears_rrp, hears_rst, reset_answer, phase_settles, resets}
+use Rattle.ncp_model.specs.Peers.{Peer, Ask_to_send, Ask_to_receive, Close, Give, Take, Allocate, Call_back, Interrupt, kept_echoes, call_accepted, reply_of_echo, PairCall, calls, calls_echo, calls_reset, calls_up, cleared, cuts, echo_called, frees, frees_up, hears, hears_other, makes, peer_sends, takes_text}
 use Rattle.ncp_host.specs.declared.received.Received.{Received}
 use Rattle.ncp_host.specs.Counting.{one_more}
 use Rattle.ncp_host.specs.PeerState.{PeerState, new_state, control_link, after_answer, is_answered, answer_taken, answer_comes}

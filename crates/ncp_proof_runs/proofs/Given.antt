@@ -1,9 +1,10 @@
 -- What was given and what was granted by calls that were done.
-use Rattle.std.proofs.Common.{◌≡◌, ◌+◌, ℕ, Bool, true, false, if◌then◌else◌, List, [], ◌∷◌, ◌++◌, Option, None, Some, Result, Ok, Err, refl, sym, ap, ◌∙◌, arith}
+use Rattle.std.proofs.Common.{◌≡◌, ℕ, Bool, true, false, if◌then◌else◌, List, [], ◌∷◌, ◌++◌, Option, None, Some, Result, Ok, Err, refl, sym, ap, ◌∙◌, arith}
 use Rattle.std.specs.FinMap.{get}
 use Rattle.ncp_model.specs.declared.call_fault.CallFault.{CallFault}
 use Rattle.ncp_model.specs.declared.call_fault.CallFault.TheVariants.{NotUp}
 use Rattle.ncp_model.specs.declared.pair.Pair.{Pair}
+use Rattle.ncp_model.specs.Amounts.{amount, no_amount, ◌⊕◌}
 use Rattle.ncp_model.specs.End.{End}
 use Rattle.ncp_model.specs.Happenings.{Outcome, Refused, Gives, Allocates, happens, outcome_of_call}
 use Rattle.ncp_model.specs.Phase.{up}
@@ -82,12 +83,10 @@ given-more p text s past is_up fine =
     ∙ ap (λ (b : Bool). past.given ++ (if b then text else [])) (accepted _ fine)
 
 granted-more : (p : Pair) (messages bits : ℕ) (s : PeerState) (past : Past) → up s.peer.phase ≡ true → reply (happened_at p (Allocate messages bits) s.peer).outcome ≡ Ok tt
-    → ((past_called p p (Allocate messages bits) s past).granted_messages ≡ past.granted_messages + messages) × ((past_called p p (Allocate messages bits) s past).granted_bits ≡ past.granted_bits + bits)
+    → (past_called p p (Allocate messages bits) s past).granted ≡ past.granted ⊕ amount messages bits
 granted-more p messages bits s past is_up fine =
-    let more = called-more p (Allocate messages bits) s past is_up (allocates-open-not p messages bits (is_full s.peer.phase) (get s.peer.ends p)) in (
-      ap (λ (x : Past). x.granted_messages) more ∙ ap (λ (b : Bool). past.granted_messages + (if b then messages else 0)) (accepted _ fine),
-      ap (λ (x : Past). x.granted_bits) more ∙ ap (λ (b : Bool). past.granted_bits + (if b then bits else 0)) (accepted _ fine),
-    )
+    ap (λ (x : Past). x.granted) (called-more p (Allocate messages bits) s past is_up (allocates-open-not p messages bits (is_full s.peer.phase) (get s.peer.ends p)))
+    ∙ ap (λ (b : Bool). past.granted ⊕ (if b then amount messages bits else no_amount)) (accepted _ fine)
 
 pub given-noted : (me : ℕ) (ns : List ℕ) (before after : List HostNote) (n : ℕ) (p : Pair) (text : List Bool) → FromBeginning me ns (before ++ HostNote.Done (Call.Give n p text) ∷ after)
     → (past_so_far p (notes_of_peer n (before ++ HostNote.Done (Call.Give n p text) ∷ []))).given ≡ (past_so_far p (notes_of_peer n before)).given ++ text
@@ -100,12 +99,11 @@ given-noted me ns before after n p text from =
     ∙ given-more p text (notes_for (notes_of_peer n before) new_state) (past_so_far p (notes_of_peer n before)) w.is_up w.fine
 
 pub granted-noted : (me : ℕ) (ns : List ℕ) (before after : List HostNote) (n : ℕ) (p : Pair) (messages bits : ℕ) → FromBeginning me ns (before ++ HostNote.Done (Call.Allocate n p messages bits) ∷ after)
-    → ((past_so_far p (notes_of_peer n (before ++ HostNote.Done (Call.Allocate n p messages bits) ∷ []))).granted_messages ≡ (past_so_far p (notes_of_peer n before)).granted_messages + messages)
-    × ((past_so_far p (notes_of_peer n (before ++ HostNote.Done (Call.Allocate n p messages bits) ∷ []))).granted_bits ≡ (past_so_far p (notes_of_peer n before)).granted_bits + bits)
+    → (past_so_far p (notes_of_peer n (before ++ HostNote.Done (Call.Allocate n p messages bits) ∷ []))).granted ≡ (past_so_far p (notes_of_peer n before)).granted ⊕ amount messages bits
 granted-noted me ns before after n p messages bits from =
     let note = HostNote.Done (Call.Allocate n p messages bits) in
     let b = before_note me ns before after note from in
     let w = done-before me ns before n p (Allocate messages bits) (Call.Allocate n p messages bits) b.from b.said in
-    let more = granted-more p messages bits (notes_for (notes_of_peer n before) new_state) (past_so_far p (notes_of_peer n before)) w.is_up w.fine in
-    let now = ap (λ (xs : List HostNote). past_so_far p xs) (notes-more n before note (itself n)) ∙ past-more p (notes_of_peer n before) note new_state no_past in
-    (ap (λ (x : Past). x.granted_messages) now ∙ more.0, ap (λ (x : Past). x.granted_bits) now ∙ more.1)
+    ap (λ (xs : List HostNote). (past_so_far p xs).granted) (notes-more n before note (itself n))
+    ∙ ap (λ (x : Past). x.granted) (past-more p (notes_of_peer n before) note new_state no_past)
+    ∙ granted-more p messages bits (notes_for (notes_of_peer n before) new_state) (past_so_far p (notes_of_peer n before)) w.is_up w.fine

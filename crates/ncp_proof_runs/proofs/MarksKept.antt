@@ -1,11 +1,11 @@
 -- Each act leaves the end that the marks and sums say.
-use Rattle.std.proofs.Common.{◌≡◌, ℕ, ◌+◌, ◌*◌, ◌/◌, ◌≤◌, min, true, false, ◌||◌, List, [], ◌∷◌, ◌++◌, length, take, Option, None, Some, refl, sym, subst, arith}
+use Rattle.std.proofs.Common.{◌≡◌, ℕ, ◌*◌, ◌/◌, ◌≤◌, min, true, false, ◌||◌, List, [], ◌∷◌, ◌++◌, length, take, Option, None, Some, refl, sym, subst, arith}
 use Rattle.std.proofs.Math.Nat.{div-mul-le_self, mul-le-mul_right, min-le_left, min-le_right}
 use Rattle.std.proofs.lemmas.List.{append-nil, append_assoc, length-append, length-take-le, take-append-drop}
 use Rattle.ncp_model.specs.declared.pair.Pair.{Pair}
 use Rattle.ncp_model.specs.End.{End}
 use Rattle.ncp_model.specs.declared.limits.TheConstants.{MAX_TEXT}
-use Rattle.ncp_model.specs.Amounts.{back}
+use Rattle.ncp_model.specs.Amounts.{◌⊕◌, allowance, back}
 use Rattle.ncp_model.specs.Texts.{Rfnm, Incomplete, Dead, bytes_to_send}
 use Rattle.ncp_model.specs.Happenings.{Happening, happens}
 use Rattle.ncp_proof_watch.specs.Sound.{SoundAt}
@@ -86,8 +86,7 @@ marked-after pair Happening.Is_cleared before m s k = refl
 -- its sums: the counters or what is outstanding, and the bits that are stored
 abbrev pub IsSummed : Pair → End → Marks → Type 0
 IsSummed pair e m = record {
-  messages : e.messages + m.returned_messages + m.used_messages ≡ m.granted_messages;
-  bits : e.bits + m.returned_bits + m.used_bits ≡ m.granted_bits;
+  amounts : allowance e ⊕ m.returned ⊕ m.used ≡ m.granted;
   kept : is_marked_dropped pair m ≡ false → m.entered ≡ m.drawn ++ e.stored;
   dropped : is_marked_dropped pair m ≡ true → e.stored ≡ [];
 }

@@ -7,10 +7,10 @@ use Rattle.ncp_model.specs.declared.call_fault.CallFault.{CallFault}
 use Rattle.ncp_model.specs.declared.call_fault.CallFault.TheVariants.{NotUp, Closing, NotOpen, WrongEnd, NotWhole, Busy, NoRoom, TooMuch, QueueFull, OutOfMemory}
 use Rattle.ncp_model.specs.Pairs.{sends, receives}
 use Rattle.ncp_model.specs.End.{End, is_going}
-use Rattle.ncp_model.specs.Act.{Act, Stays, Becomes, answer, leaves, closing}
-use Rattle.ncp_model.specs.Calls.{close, fits, give, bits_to_take, emptied, take_bits, take_held, is_too_much, allocate, call_back, interrupting, interrupt}
+use Rattle.ncp_model.specs.Act.{Act, Becomes, answer, leaves, closing}
+use Rattle.ncp_model.specs.Calls.{refuse, ◌>>◌, unless_refused, may_close, close, may_use, may_send_on, may_receive_on, fits, may_give, give, may_take, bits_to_take, emptied, take_bits, take_held, is_too_much, may_allocate, allocate, may_call_back, call_back, may_interrupt, interrupting, interrupt}
 use Rattle.ncp_model.specs.Echo.{echo_answer}
-use Rattle.ncp_model.specs.Happenings.{Outcome, Accepted, Refused, outcome_of_call, of_take}
+use Rattle.ncp_model.specs.Happenings.{Outcome, Refused, outcome_of_call, of_take}
 use Rattle.ncp_model.specs.Phase.{up, is_resetting, reset_answer}
 use Rattle.ncp_model.specs.Sending.{is_full}
 use Rattle.ncp_model.specs.Peers.{Peer, Close, Give, Take, Allocate, Call_back, Interrupt, happened_at, comes_of, reply, reply_of_take, call_accepted, reply_of_echo, PairCall}
@@ -28,49 +28,44 @@ use Rattle.ncp_transcript.specs.Runs.{IsHostSaid}
 use Rattle.ncp_proof_runs.specs.Peers.{FromBeginning, is_request}
 use Rattle.ncp_proof_runs.proofs.InRuns.{before_note}
 
--- Tests, one after the other, each with its refusal; and what follows where none refuses.
+-- A call's reasons to be refused, one after the other: none is want of memory; nor is what follows where none holds.
 
 abbrev is_memory : CallFault → Bool
 is_memory OutOfMemory = true
 is_memory fault = false
 
-abbrev judged : {A : Type 0} → List (Bool × CallFault) → Act (Result A CallFault) → Act (Result A CallFault)
-judged [] x = x
-judged (t ∷ ts) x = if t.0 then Stays (Err t.1) else judged ts x
+abbrev Spared : {A : Type 0} → Result A CallFault → Type 0
+Spared r = r ≡ Err OutOfMemory → ⊥
 
-abbrev none_is_memory : List (Bool × CallFault) → Bool
-none_is_memory [] = true
-none_is_memory (t ∷ ts) = not (is_memory t.1) && none_is_memory ts
+one : (fault : CallFault) (holds : Bool) → is_memory fault ≡ false → Spared (refuse fault holds)
+one fault false none e = absurd (cc)
+one fault true none e = let same : fault ≡ OutOfMemory = cc in let never : true ≡ false = sym (ap is_memory same) ∙ none in absurd (cc)
 
-both : (a b : Bool) → (not a && b) ≡ true → (a ≡ false) × (b ≡ true)
-both false b e = (refl, e)
-both true b e = absurd (cc)
+more : (first next : Result (Unit {0}) CallFault) → Spared first → Spared next → Spared (first >> next)
+more (Ok it) next a b e = b e
+more (Err fault) next a b e = a e
 
-not-memory : (fault : CallFault) → is_memory fault ≡ false → fault ≡ OutOfMemory → ⊥
-not-memory fault e f = let g : true ≡ false = sym (ap is_memory f) ∙ e in absurd (cc)
+acting : {A : Type 0} (of : Result A CallFault → Outcome) (reasons : Result (Unit {0}) CallFault) (act : Act (Result A CallFault)) → ((f : CallFault) → of (Err f) ≡ Refused f) → Spared reasons
+    → (of (answer act) ≡ Refused OutOfMemory → ⊥) → of (answer (unless_refused reasons act)) ≡ Refused OutOfMemory → ⊥
+acting of (Ok it) act is spared last e = last e
+acting of (Err fault) act is spared last e = let f : Refused fault ≡ Refused OutOfMemory = sym (is fault) ∙ e in let same : fault ≡ OutOfMemory = cc in spared (ap Err same)
 
-judged-unwanted : {A : Type 0} (of : Result A CallFault → Outcome) (ts : List (Bool × CallFault)) (x : Act (Result A CallFault)) → ((f : CallFault) → of (Err f) ≡ Refused f) → none_is_memory ts ≡ true
-    → (of (answer x) ≡ Refused OutOfMemory → ⊥) → of (answer (judged ts x)) ≡ Refused OutOfMemory → ⊥
-judged-unwanted of [] x is none last e = last e
-judged-unwanted {A} of (t ∷ ts) x is none last e = go t.0 (judged-unwanted of ts x is w.1 last) e
-  where
-    w : (is_memory t.1 ≡ false) × (none_is_memory ts ≡ true)
-    w = both (is_memory t.1) (none_is_memory ts) none
+use-spared : (x : End) → Spared (may_use x)
+use-spared x = more (refuse Closing (is_going x)) (refuse NotOpen (not (x.asked && x.heard))) (one _ _ refl) (one _ _ refl)
 
-    go : (b : Bool) → (of (answer (judged ts x)) ≡ Refused OutOfMemory → ⊥) → of (answer (let y : Act (Result A CallFault) = if b then Stays (Err t.1) else judged ts x in y)) ≡ Refused OutOfMemory → ⊥
-    go true rest e = let f : Refused t.1 ≡ Refused OutOfMemory = sym (is t.1) ∙ e in let same : t.1 ≡ OutOfMemory = cc in not-memory t.1 w.0 same
-    go false rest e = rest e
+send-spared : (pair : Pair) (x : End) → Spared (may_send_on pair x)
+send-spared pair x = more (may_use x) (refuse WrongEnd (not (sends pair))) (use-spared x) (one _ _ refl)
+
+receive-spared : (pair : Pair) (x : End) → Spared (may_receive_on pair x)
+receive-spared pair x = more (may_use x) (refuse WrongEnd (not (receives pair))) (use-spared x) (one _ _ refl)
 
 -- The calls on an end that are no requests.
 
 give-unwanted : (pair : Pair) (text : List Bool) (before : Option End) → outcome_of_call (answer (give pair text before)) ≡ Refused OutOfMemory → ⊥
 give-unwanted pair text None e = absurd (cc)
 give-unwanted pair text (Some x) e =
-    judged-unwanted {A = Unit {0}} outcome_of_call ((is_going x, Closing) ∷ (not (x.asked && x.heard), NotOpen) ∷ (not (sends pair), WrongEnd) ∷ (not (length text % x.size == 0), NotWhole) ∷ (not (fits text x), NoRoom) ∷ [])
-    (Becomes (record x { stored = x.stored ++ text }) (Ok tt)) (λ f. refl) refl good e
-  where
-    good : Accepted ≡ Refused OutOfMemory → ⊥
-    good f = absurd (cc)
+    acting {A = Unit {0}} outcome_of_call (may_give pair text x) (Becomes (record x { stored = x.stored ++ text }) (Ok tt)) (λ f. refl)
+    (more (may_send_on pair x) _ (send-spared pair x) (more (refuse NotWhole (not (length text % x.size == 0))) (refuse NoRoom (not (fits text x))) (one _ _ refl) (one _ _ refl))) (λ f. absurd (cc)) e
 
 bits-unwanted : (pair : Pair) (count : ℕ) (x : End) → of_take (answer (take_bits pair count x)) ≡ Refused OutOfMemory → ⊥
 bits-unwanted pair count x = go (x.leaving && emptied x count)
@@ -82,24 +77,25 @@ bits-unwanted pair count x = go (x.leaving && emptied x count)
 take-unwanted : (pair : Pair) (bytes : ℕ) (before : Option End) → of_take (answer (take_held pair bytes before)) ≡ Refused OutOfMemory → ⊥
 take-unwanted pair bytes None e = absurd (cc)
 take-unwanted pair bytes (Some x) e =
-    judged-unwanted of_take ((x.left, Closing) ∷ (not x.opened, NotOpen) ∷ (not (receives pair), WrongEnd) ∷ []) (take_bits pair (bits_to_take bytes x) x) (λ f. refl) refl (bits-unwanted pair (bits_to_take bytes x) x) e
+    acting of_take (may_take pair x) (take_bits pair (bits_to_take bytes x) x) (λ f. refl)
+    (more (refuse Closing x.left) _ (one _ _ refl) (more (refuse NotOpen (not x.opened)) (refuse WrongEnd (not (receives pair))) (one _ _ refl) (one _ _ refl))) (bits-unwanted pair (bits_to_take bytes x) x) e
 
 allocate-unwanted : (pair : Pair) (messages bits : ℕ) (full : Bool) (before : Option End) → outcome_of_call (answer (allocate pair messages bits full before)) ≡ Refused OutOfMemory → ⊥
 allocate-unwanted pair messages bits full None e = absurd (cc)
 allocate-unwanted pair messages bits full (Some x) e =
-    judged-unwanted outcome_of_call ((is_going x, Closing) ∷ (not (x.asked && x.heard), NotOpen) ∷ (not (receives pair), WrongEnd) ∷ (is_too_much messages bits x, TooMuch) ∷ (full, QueueFull) ∷ [])
-    (Becomes (record x { messages = x.messages + messages; bits = x.bits + bits }) (Ok (Command.All x.link messages bits))) (λ f. refl) refl (λ f. absurd (cc)) e
+    acting outcome_of_call (may_allocate pair messages bits full x) (Becomes (record x { messages = x.messages + messages; bits = x.bits + bits }) (Ok (Command.All x.link messages bits))) (λ f. refl)
+    (more (may_receive_on pair x) _ (receive-spared pair x) (more (refuse TooMuch (is_too_much messages bits x)) (refuse QueueFull full) (one _ _ refl) (one _ _ refl))) (λ f. absurd (cc)) e
 
 call_back-unwanted : (pair : Pair) (messages bits : ℕ) (full : Bool) (before : Option End) → outcome_of_call (answer (call_back pair messages bits full before)) ≡ Refused OutOfMemory → ⊥
 call_back-unwanted pair messages bits full None e = absurd (cc)
 call_back-unwanted pair messages bits full (Some x) e =
-    judged-unwanted outcome_of_call ((is_going x, Closing) ∷ (not (x.asked && x.heard), NotOpen) ∷ (not (receives pair), WrongEnd) ∷ (x.recall, Busy) ∷ (full, QueueFull) ∷ [])
-    (Becomes (record x { recall = true }) (Ok (Command.Gvb x.link messages bits))) (λ f. refl) refl (λ f. absurd (cc)) e
+    acting outcome_of_call (may_call_back pair full x) (Becomes (record x { recall = true }) (Ok (Command.Gvb x.link messages bits))) (λ f. refl)
+    (more (may_receive_on pair x) _ (receive-spared pair x) (more (refuse Busy x.recall) (refuse QueueFull full) (one _ _ refl) (one _ _ refl))) (λ f. absurd (cc)) e
 
 interrupt-unwanted : (pair : Pair) (full : Bool) (before : Option End) → outcome_of_call (answer (interrupt pair full before)) ≡ Refused OutOfMemory → ⊥
 interrupt-unwanted pair full None e = absurd (cc)
 interrupt-unwanted pair full (Some x) e =
-    judged-unwanted outcome_of_call ((is_going x, Closing) ∷ (not (x.asked && x.heard), NotOpen) ∷ (full, QueueFull) ∷ []) (Becomes x (Ok (interrupting pair x))) (λ f. refl) refl (λ f. absurd (cc)) e
+    acting outcome_of_call (may_interrupt full x) (Becomes x (Ok (interrupting pair x))) (λ f. refl) (more (may_use x) (refuse QueueFull full) (use-spared x) (one _ _ refl)) (λ f. absurd (cc)) e
 
 abbrev closes : Pair → End → Bool → Act (Result (Option Command) CallFault)
 closes pair x b = if b then Becomes (record x { leaving = true; stored = [] }) (Ok None) else Becomes (leaves x) (Ok (Some (closing pair)))
@@ -111,7 +107,8 @@ closes-unwanted pair x false e = absurd (cc)
 close-unwanted : (pair : Pair) (full : Bool) (before : Option End) → outcome_of_call (answer (close pair full before)) ≡ Refused OutOfMemory → ⊥
 close-unwanted pair full None e = absurd (cc)
 close-unwanted pair full (Some x) e =
-    judged-unwanted outcome_of_call ((x.left || (x.leaving && sends pair), Closing) ∷ (full, QueueFull) ∷ []) (closes pair x (sends pair && x.busy)) (λ f. refl) refl (closes-unwanted pair x (sends pair && x.busy)) e
+    acting outcome_of_call (may_close pair full x) (closes pair x (sends pair && x.busy)) (λ f. refl)
+    (more (refuse Closing (x.left || (x.leaving && sends pair))) (refuse QueueFull full) (one _ _ refl) (one _ _ refl)) (closes-unwanted pair x (sends pair && x.busy)) e
 
 -- What a host replies.
 

@@ -6,7 +6,8 @@ use Rattle.std.specs.Prelude.{ℕ, ◌+◌, ◌-◌, min, Bool, true, false, not
 use Rattle.ncp_terms.specs.declared.command.Command.{Command}
 use Rattle.ncp_model.specs.declared.pair.Pair.{Pair}
 use Rattle.ncp_model.specs.declared.limits.TheConstants.{MAX_COUNT}
-use Rattle.ncp_model.specs.Amounts.{returned_messages, returned_bits}
+use Rattle.ncp_model.specs.declared.amounts.Amount.{Amount}
+use Rattle.ncp_model.specs.Amounts.{amount, no_amount, ◌⊕◌, returned}
 use Rattle.ncp_model.specs.Texts.{Rfnm, Incomplete, Dead}
 use Rattle.ncp_model.specs.Pairs.{sends}
 use Rattle.ncp_model.specs.End.{End}
@@ -29,12 +30,9 @@ pub record Marks : Type 0 where
   pub room : ℕ  -- for so many bits, as the own request said
   pub busy : Bool  -- a text went out, and had no RFNM
   pub recall : Bool  -- a GVB was made, and no RET came that got no ERR
-  pub granted_messages : ℕ  -- by ALL that came to a sender, or an allocate that was accepted at a receiver
-  pub granted_bits : ℕ
-  pub returned_messages : ℕ  -- by RET, come or made
-  pub returned_bits : ℕ
-  pub used_messages : ℕ  -- by texts that were admitted, or went out
-  pub used_bits : ℕ
+  pub granted : Amount  -- by ALL that came to a sender, or an allocate that was accepted at a receiver
+  pub returned : Amount  -- by RET, come or made
+  pub used : Amount  -- by texts that were admitted, or went out
   pub interrupts : ℕ  -- INR or INS came
   pub entered : List Bool  -- given at a sender, got at a receiver
   pub drawn : List Bool  -- gone out from a sender, taken at a receiver
@@ -52,12 +50,9 @@ no_marks = record {
   room = 0;
   busy = false;
   recall = false;
-  granted_messages = 0;
-  granted_bits = 0;
-  returned_messages = 0;
-  returned_bits = 0;
-  used_messages = 0;
-  used_bits = 0;
+  granted = no_amount;
+  returned = no_amount;
+  used = no_amount;
   interrupts = 0;
   entered = [];
   drawn = [];
@@ -96,22 +91,18 @@ cls_came it m = record m { cls = m.cls || it; shut = m.shut || (it && m.opened) 
 
 -- The sums.
 
-abbrev pub granted : Bool → ℕ → ℕ → Marks → Marks
-granted it of_messages of_bits m = record m {
-  granted_messages = m.granted_messages + (if it then of_messages else 0);
-  granted_bits = m.granted_bits + (if it then of_bits else 0);
-}
+abbrev pub marks_granted : Bool → Amount → Marks → Marks
+marks_granted it more m = record m { granted = m.granted ⊕ (if it then more else no_amount) }
 
-abbrev pub returned : ℕ → ℕ → Marks → Marks
-returned of_messages of_bits m = record m { returned_messages = m.returned_messages + of_messages; returned_bits = m.returned_bits + of_bits }
+abbrev pub marks_returned : Amount → Marks → Marks
+marks_returned more m = record m { returned = m.returned ⊕ more }
 
 abbrev pub marks_interrupted : Bool → Marks → Marks
 marks_interrupted it m = record m { interrupts = if it then min (m.interrupts + 1) MAX_COUNT else m.interrupts }
 
 abbrev pub came_in : Bool → List Bool → Marks → Marks
 came_in it text m = record m {
-  used_messages = m.used_messages + (if it then 1 else 0);
-  used_bits = m.used_bits + (if it then length text else 0);
+  used = m.used ⊕ (if it then amount 1 (length text) else no_amount);
   entered = m.entered ++ (if it then text else []);
 }
 
@@ -119,8 +110,7 @@ came_in it text m = record m {
 
 abbrev pub marks_went_out : Outcome → Marks → Marks
 marks_went_out (Outcome.Sent of_size text) m = record m {
-  used_messages = m.used_messages + 1;
-  used_bits = m.used_bits + length text;
+  used = m.used ⊕ amount 1 (length text);
   drawn = m.drawn ++ text;
   busy = true;
 }
@@ -142,13 +132,9 @@ abbrev pub link_asked : List Command → ℕ
 link_asked [] = 0
 link_asked (c ∷ cs) = link_in_rts c
 
-abbrev pub messages_back : List Command → ℕ
-messages_back [] = 0
-messages_back (c ∷ cs) = returned_messages c
-
-abbrev pub bits_back : List Command → ℕ
-bits_back [] = 0
-bits_back (c ∷ cs) = returned_bits c
+abbrev pub returned_by : List Command → Amount
+returned_by [] = no_amount
+returned_by (c ∷ cs) = returned c
 
 -- By each act. A close that is accepted makes its CLS, or has it due.
 abbrev pub marks_by : Happening → Outcome → List Command → Marks → Marks
@@ -157,16 +143,16 @@ marks_by (Happening.Asks_to_receive with_room on own full) o made m = asked_link
 marks_by (Happening.Closes full) o made m = cls_made (makes_cls made) (closed (is_outcome_accepted o) m)
 marks_by (Happening.Gives text) o made m = record m { entered = m.entered ++ (if is_outcome_accepted o then text else []) }
 marks_by (Happening.Takes bytes) o made m = cls_made (makes_cls made) (record m { drawn = m.drawn ++ taken_out o })
-marks_by (Happening.Allocates of_messages of_bits full) o made m = granted (is_outcome_accepted o) of_messages of_bits m
+marks_by (Happening.Allocates of_messages of_bits full) o made m = marks_granted (is_outcome_accepted o) (amount of_messages of_bits) m
 marks_by (Happening.Calls_back of_messages of_bits full) o made m = record m { recall = m.recall || is_outcome_accepted o }
 marks_by (Happening.Interrupts full) o made m = m
 marks_by (Happening.Rts_comes on taken by_peer) o made m = marks_heard_link (is_outcome_accepted o) on m
 marks_by (Happening.Str_comes of_size by_peer) o made m = marks_heard_size (is_outcome_accepted o) of_size m
 marks_by Happening.Cls_comes o made m = cls_made (makes_cls made) (cls_came (is_outcome_accepted o) m)
-marks_by (Happening.All_comes on of_messages of_bits) o made m = granted (is_outcome_accepted o) of_messages of_bits m
-marks_by (Happening.Gvb_comes on of_messages of_bits) o made m = returned (messages_back made) (bits_back made) m
+marks_by (Happening.All_comes on of_messages of_bits) o made m = marks_granted (is_outcome_accepted o) (amount of_messages of_bits) m
+marks_by (Happening.Gvb_comes on of_messages of_bits) o made m = marks_returned (returned_by made) m
 marks_by (Happening.Ret_comes on of_messages of_bits) o made m =
-    returned (if is_outcome_accepted o then of_messages else 0) (if is_outcome_accepted o then of_bits else 0) (record m { recall = m.recall && not (is_outcome_accepted o) })
+    marks_returned (if is_outcome_accepted o then amount of_messages of_bits else no_amount) (record m { recall = m.recall && not (is_outcome_accepted o) })
 marks_by (Happening.Inr_comes on) o made m = marks_interrupted (is_outcome_accepted o) m
 marks_by (Happening.Ins_comes on) o made m = marks_interrupted (is_outcome_accepted o) m
 marks_by (Happening.Text_comes head of_size text) o made m = came_in (is_admitted o) text m
@@ -213,8 +199,8 @@ end_of_marks pair m = record {
   cls = m.cls;
   link = m.link;
   size = m.size;
-  messages = m.granted_messages - m.returned_messages - m.used_messages;
-  bits = m.granted_bits - m.returned_bits - m.used_bits;
+  messages = m.granted.messages - m.returned.messages - m.used.messages;
+  bits = m.granted.bits - m.returned.bits - m.used.bits;
   stored = if is_marked_dropped pair m then [] else drop (length m.drawn) m.entered;
   room = m.room;
   busy = m.busy;

@@ -5,6 +5,7 @@ use Rattle.ncp_terms.specs.declared.fault.CommandFault.{CommandFault}
 use Rattle.ncp_model.specs.declared.pair.Pair.{Pair}
 use Rattle.ncp_model.specs.declared.outcomes.Error.{Error}
 use Rattle.ncp_model.specs.declared.call_fault.CallFault.TheVariants.{NoEntry}
+use Rattle.ncp_model.specs.Amounts.{amount}
 use Rattle.ncp_model.specs.End.{End}
 use Rattle.ncp_model.specs.Rows.{inward, ones}
 use Rattle.ncp_model.specs.Happenings.{Happening, happens}
@@ -96,7 +97,7 @@ abbrev pub one_byte_taken : Past
 one_byte_taken = record no_past { got = ones 8; taken = ones 8 }
 
 abbrev pub one_byte_returned : Past
-one_byte_returned = record no_past { returned_messages = 1; returned_bits = 8 }
+one_byte_returned = record no_past { returned = amount 1 8 }
 
 -- the echo is awaited no more; an ERR comes, as the second of two
 abbrev pub echo_ended : EchoHistory
@@ -140,10 +141,10 @@ abbrev pub both_asked : Marks
 both_asked = record asked_alone { heard = true; size = 8 }
 
 abbrev pub two_granted : Marks
-two_granted = record no_marks { granted_messages = 2; granted_bits = 16 }
+two_granted = record no_marks { granted = amount 2 16 }
 
 abbrev pub one_of_two_back : Marks
-one_of_two_back = record two_granted { returned_messages = 1; returned_bits = 16 }
+one_of_two_back = record two_granted { returned = amount 1 16 }
 
 abbrev pub record_of_two_bytes : Record
 record_of_two_bytes = record {

@@ -1,10 +1,11 @@
 //! Pairs of sockets: what was got there since the connection opened is taken or held, and what is
 //! outstanding was granted, and neither returned nor used.
-ghost use Rattle.std.specs.Prelude.{◌≡◌, ℕ, ◌+◌, Bool, false, List, [], ◌++◌, length, Some};
+ghost use Rattle.std.specs.Prelude.{◌≡◌, ℕ, ◌+◌, Bool, false, List, [], ◌++◌, Some};
 ghost use Rattle.ncp_model.specs.Rows.{inward, outward, ones, asked_receive, counting, storing};
+ghost use Rattle.ncp_model.specs.Amounts.{amount, ◌⊕◌, allowance};
 ghost use Rattle.ncp_model.specs.Ends.{Ends};
 ghost use Rattle.ncp_model.specs.Happenings.{Happening, Str_comes, Text_comes, Ret_comes, Takes};
-ghost use Rattle.ncp_proof_watch.specs.Histories.{no_past};
+ghost use Rattle.ncp_proof_watch.specs.Histories.{no_past, allowance_used};
 ghost use Rattle.ncp_proof_runs.specs.Reconstructed.{OfOpenedReceivers, OfUnopenedEnds};
 ghost use Rattle.ncp_proof_runs.specs.Histories.{past_at};
 ghost use Rattle.ncp_proof_runs.specs.WhereNoted.{Across, WhenAdmitted};
@@ -16,8 +17,7 @@ ghost use Rattle.ncp_proof_runs.specs.RunRows.{a_take, a_gift, a_grant, past_inw
 /// or a sender, the two numbers and the interrupts are zero, and nothing is stored.
 pub fn what_is_got_is_taken_or_held()
     ensures held { OfOpenedReceivers (λ past e. e.left ≡ false → past.got ≡ past.taken ++ e.stored) }
-    ensures messages { OfOpenedReceivers (λ p e. e.messages + p.returned_messages + p.used_messages ≡ p.granted_messages) }
-    ensures bits { OfOpenedReceivers (λ p e. e.bits + p.returned_bits + length p.got ≡ p.granted_bits) }
+    ensures amounts { OfOpenedReceivers (λ p e. allowance e ⊕ p.returned ⊕ allowance_used p ≡ p.granted) }
     ensures unopened_messages { OfUnopenedEnds (λ e. e.messages ≡ 0) }
     ensures unopened_bits { OfUnopenedEnds (λ e. e.bits ≡ 0) }
     ensures unopened_interrupts { OfUnopenedEnds (λ e. e.interrupts ≡ 0) }
@@ -36,8 +36,7 @@ pub fn what_give_takes_is_given()
 
 /// What a user allocated by a call that was done joins what was granted to its pair, messages and bits.
 pub fn what_is_allocated_is_granted()
-    ensures messages { (m b : ℕ) → Across (a_grant m b) (λ was now. now.granted_messages ≡ was.granted_messages + m) }
-    ensures bits { (m b : ℕ) → Across (a_grant m b) (λ was now. now.granted_bits ≡ was.granted_bits + b) }
+    ensures amounts { (m b : ℕ) → Across (a_grant m b) (λ was now. now.granted ≡ was.granted ⊕ amount m b) }
 {}
 
 /// The text of a message that was admitted joins what was got of the pair to which its link leads, and is

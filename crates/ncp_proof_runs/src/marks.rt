@@ -1,7 +1,8 @@
 //! The record that a host keeps of a pair of sockets is what the marks and sums of its notes say.
-ghost use Rattle.std.specs.Prelude.{◌≡◌, ℕ, ◌+◌, true, false, [], ◌∷◌, ◌++◌, None, Some};
+ghost use Rattle.std.specs.Prelude.{◌≡◌, ℕ, true, false, [], ◌∷◌, ◌++◌, None, Some};
 ghost use Rattle.std.specs.FinMap.{get};
 ghost use Rattle.ncp_model.specs.Pairs.{sends, receives};
+ghost use Rattle.ncp_model.specs.Amounts.{◌⊕◌, allowance};
 ghost use Rattle.ncp_model.specs.End.{is_open};
 ghost use Rattle.ncp_model.specs.Ends.{sender_on, receiver_on};
 ghost use Rattle.ncp_model.specs.Rows.{inward};
@@ -36,8 +37,7 @@ pub fn records_are_what_marks_and_sums_say()
     ensures stored { OfEachEnd (λ pair m e. is_marked_dropped pair m ≡ false → m.entered ≡ m.drawn ++ e.stored) }
     ensures open { OfEachEnd (λ pair m e. is_open e ≡ is_marked_open m) }
     ensures live { OfEachEnd (λ pair m e. e.opened ≡ m.opened) }
-    ensures messages { OfEachEnd (λ pair m e. e.messages + m.returned_messages + m.used_messages ≡ m.granted_messages) }
-    ensures bits { OfEachEnd (λ pair m e. e.bits + m.returned_bits + m.used_bits ≡ m.granted_bits) }
+    ensures amounts { OfEachEnd (λ pair m e. allowance e ⊕ m.returned ⊕ m.used ≡ m.granted) }
     ensures noted { (r : Record) → MarkedBefore (a_state r) (λ pair m. record_marked pair m ≡ Some r) }
     ensures none_noted { MarkedBefore no_entry (λ pair m. record_marked pair m ≡ None) }
 {}

@@ -6,7 +6,7 @@ use Rattle.std.specs.FinMap.{get}
 use Rattle.ncp_model.specs.declared.pair.Pair.{Pair}
 use Rattle.ncp_model.specs.Pairs.{sends, receives}
 use Rattle.ncp_model.specs.End.{End}
-use Rattle.ncp_model.specs.Happenings.{Happening, Outcome, happens}
+use Rattle.ncp_model.specs.Happenings.{Happening, happens}
 use Rattle.ncp_model.specs.Leading.{suits}
 use Rattle.ncp_proof_watch.specs.Histories.{Past, no_past, adds, opens, is_outcome_accepted, taken_out}
 use Rattle.ncp_proof_watch.specs.Sound.{SoundAt}

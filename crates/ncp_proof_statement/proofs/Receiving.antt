@@ -7,10 +7,11 @@ use Rattle.ncp_terms.specs.declared.command.Command.{Command}
 use Rattle.ncp_model.specs.declared.call_fault.CallFault.{CallFault}
 use Rattle.ncp_model.specs.declared.call_fault.CallFault.TheVariants.{NotUp, Closing, NotOpen, WrongEnd}
 use Rattle.ncp_model.specs.declared.pair.Pair.{Pair}
+use Rattle.ncp_model.specs.declared.amounts.Amount.{Amount}
 use Rattle.ncp_model.specs.Pairs.{sends, receives}
 use Rattle.ncp_model.specs.End.{End, is_live, or_new}
-use Rattle.ncp_model.specs.Act.{Act, Stays, answer}
-use Rattle.ncp_model.specs.Calls.{bits_to_take, emptied, take_bits}
+use Rattle.ncp_model.specs.Act.{Act, answer}
+use Rattle.ncp_model.specs.Calls.{refuse, ◌>>◌, unless_refused, bits_to_take, emptied, take_bits}
 use Rattle.ncp_model.specs.Happenings.{Happening, Outcome, Refused, of_take, happens}
 use Rattle.ncp_model.specs.Leading.{suits}
 use Rattle.ncp_model.specs.Peers.{Take, comes_of, happened_at, reply_of_take}
@@ -55,7 +56,7 @@ held q bytes None text h = absurd (cc h)
 held q bytes (Some e) text h = go e.left e.opened (receives q) refl refl refl h
   where
     go : (l o r : Bool) → e.left ≡ l → e.opened ≡ o → receives q ≡ r
-        → reply_of_take (of_take (answer (if l then Stays (Err Closing) else if not o then Stays (Err NotOpen) else if not r then Stays (Err WrongEnd) else take_bits q (bits_to_take bytes e) e))) ≡ Ok text → Held q (Some e) text
+        → reply_of_take (of_take (answer (unless_refused (refuse Closing l >> (refuse NotOpen (not o) >> refuse WrongEnd (not r))) (take_bits q (bits_to_take bytes e) e)))) ≡ Ok text → Held q (Some e) text
     go true o r a b c h = absurd (cc h)
     go false false r a b c h = absurd (cc h)
     go false true false a b c h = absurd (cc h)
@@ -142,7 +143,7 @@ takes-within pair bytes o past x k = go (reply_of_take (happens pair (Happening.
   where
     open-end : (p : Option End) (text : List Bool) → Held pair p text → BooksAt p past → TakenSince p past x → length (x.taken ++ text) ≤ x.allowed
     open-end None text h b s = absurd (cc h.live)
-    open-end (Some e) text h b s = had-within x.taken text h.later e.stored past.taken past.got x.allowed e.bits past.returned_bits past.granted_bits (s.0 h.live).0 (s.0 h.live).1 (b.held h.live h.there) h.front (b.bits h.live)
+    open-end (Some e) text h b s = had-within x.taken text h.later e.stored past.taken past.got x.allowed e.bits past.returned.bits past.granted.bits (s.0 h.live).0 (s.0 h.live).1 (b.held h.live h.there) h.front (ap (λ (a : Amount). a.bits) (b.counted h.live))
 
     go : (r : Result (List Bool) CallFault) → reply_of_take (happens pair (Happening.Takes bytes) o).outcome ≡ r → length (x.taken ++ taken_out (happens pair (Happening.Takes bytes) o).outcome) ≤ x.allowed
     go (Ok text) e =

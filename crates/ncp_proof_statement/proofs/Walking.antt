@@ -35,10 +35,10 @@ use Rattle.ncp_transcript.specs.Noting.{CallNoted, note_of_bits, note_of_message
 use Rattle.ncp_proof_runs.specs.Peers.{names, is_this_number, peer_of_leader, notes_of_peer}
 use Rattle.ncp_proof_runs.specs.Histories.{past_called, past_bits, past_by, past_from}
 use Rattle.ncp_transcript_two.specs.Subnet.{Holds, Free, Accepted, Delivered, Lost, Dead, from_host}
-use Rattle.ncp_transcript_two.specs.World.{World, Asked, Asks, Asks_echo, Asks_reset, Asks_wake, Reply, Told, Called, Nothing, Is_delivered, delivers, moves, state_received_with}
+use Rattle.ncp_transcript_two.specs.World.{World, Asked, Asks, Asks_echo, Asks_reset, Asks_wake, Reply, Called, Is_delivered, delivers, state_received_with}
 use Rattle.ncp_transcript_two.specs.Tie.{Tied}
 use Rattle.ncp_transcript_two.specs.Refused.{is_refused, refuses}
-use Rattle.ncp_transcript_two.specs.Watch.{Both, turn, pasts_after_asked, pasts_after_message, histories_after_note}
+use Rattle.ncp_transcript_two.specs.Watch.{Both, pasts_after_asked, pasts_after_message, histories_after_note}
 use Rattle.ncp_transcript_two.specs.Seen.{seen, had_for, as_rules, asked_by, done, told_call, told_of, side_of, watched}
 use Rattle.ncp_transcript_two.specs.Sides.{notes_at_side}
 use Rattle.ncp_transcript_two.specs.declared.side.Side.{Side}

@@ -35,7 +35,7 @@ pub fn what_is_given_since_the_ask_is_given_since_the_opening()
 /// And of each pair, what was taken since the ask is never more than what was allocated.
 pub fn what_is_taken_since_the_ask_of_each_run()
     ensures taken { (me : ℕ) (ns : List ℕ) (all : List HostNote) (n : ℕ) (s : PeerState) (pair : Pair) (e : End) → FromBeginning me ns all → state_of (after_notes all (new_host me ns)) n ≡ Some s → receives pair ≡ true → get s.peer.ends pair ≡ Some e → e.opened ≡ true → taken_from [] (uses_by pair (notes_of_peer n all)) ≡ (past_so_far pair (notes_of_peer n all)).taken }
-    ensures allowed { (me : ℕ) (ns : List ℕ) (all : List HostNote) (n : ℕ) (s : PeerState) (pair : Pair) (e : End) → FromBeginning me ns all → state_of (after_notes all (new_host me ns)) n ≡ Some s → receives pair ≡ true → get s.peer.ends pair ≡ Some e → e.opened ≡ true → allowed_from 0 (uses_by pair (notes_of_peer n all)) ≡ (past_so_far pair (notes_of_peer n all)).granted_bits }
+    ensures allowed { (me : ℕ) (ns : List ℕ) (all : List HostNote) (n : ℕ) (s : PeerState) (pair : Pair) (e : End) → FromBeginning me ns all → state_of (after_notes all (new_host me ns)) n ≡ Some s → receives pair ≡ true → get s.peer.ends pair ≡ Some e → e.opened ≡ true → allowed_from 0 (uses_by pair (notes_of_peer n all)) ≡ (past_so_far pair (notes_of_peer n all)).granted.bits }
     ensures within { (me : ℕ) (ns : List ℕ) (all : List HostNote) (n : ℕ) (pair : Pair) → FromBeginning me ns all → length (taken_from [] (uses_by pair (notes_of_peer n all))) ≤ allowed_from 0 (uses_by pair (notes_of_peer n all)) }
 {}
 

@@ -14,7 +14,8 @@ use Rattle.ncp_proof_runs.proofs.Begun.{is_run, is_kept}
 use Rattle.ncp_proof_runs.proofs.Recorded.{stored-there}
 use Rattle.ncp_transcript_two.specs.World.{World, swap}
 use Rattle.ncp_transcript_two.specs.Underway.{sender_at, receiver_at}
-use Rattle.ncp_transcript_two.specs.Ledgers.{amount, ledger_in, are_open, ledger_from, ledger_of}
+use Rattle.ncp_model.specs.Amounts.{allowance}
+use Rattle.ncp_transcript_two.specs.Ledgers.{ledger_in, are_open, ledger_from, ledger_of}
 use Rattle.ncp_transcript_two.specs.declared.ledger.Ledger.{Ledger}
 use Rattle.ncp_transcript_two.specs.declared.note.Note.{Note}
 use Rattle.ncp_transcript_two.specs.declared.side.Side.{Side}
@@ -29,15 +30,14 @@ use Rattle.ncp_world.specs.Booked.{marks_at, Remains, IsBooked}
 
 -- What an end has is what remains as its host's notes say.
 remains : (ns : List Note) (w : Hosts) → IsTranscript ns w → (side : Side) (pair : Pair) (e : End) → get (had_for (side_number (other side) w) (host_of side w)).peer.ends pair ≡ Some e
-    → Remains (amount e.messages e.bits) (marks_at side pair ns w)
+    → Remains (allowance e) (marks_at side pair ns w)
 remains ns w t side pair e is =
     let all : List HostNote = notes_at side ns in
     let h : Host = host_of side w in
     let n : ℕ = side_number (other side) w in
     let s : PeerState = had_for n h in
     let own : runs.IsHostTranscript all h = by_itself ns w side t in
-    let k = stored-there h.me (numbers_of h.peers) all n s pair e (is_run all h own) (is_kept all h n (Some s) own (kept-for ns w side t)) is in
-    (k.messages, k.bits)
+    (stored-there h.me (numbers_of h.peers) all n s pair e (is_run all h own) (is_kept all h n (Some s) own (kept-for ns w side t)) is).amounts
 
 -- An end that is open is there.
 is-there : (o : Option End) → is_open (or_new o) ≡ true → o ≡ Some (or_new o)
@@ -45,8 +45,8 @@ is-there None e = absurd (cc e)
 is-there (Some x) e = refl
 
 module _ (pair : Pair) (v : World) (sender receiver : Marks)
-    (sent : (e : End) → get v.this.peer.ends pair ≡ Some e → Remains (amount e.messages e.bits) sender)
-    (received : (e : End) → get v.that.peer.ends (turned pair) ≡ Some e → Remains (amount e.messages e.bits) receiver) where
+    (sent : (e : End) → get v.this.peer.ends pair ≡ Some e → Remains (allowance e) sender)
+    (received : (e : End) → get v.that.peer.ends (turned pair) ≡ Some e → Remains (allowance e) receiver) where
   booked : (l : Ledger) → ledger_from pair v ≡ Some l → Remains l.outstanding receiver × Remains l.counters sender
   booked l = go (is_send pair.local && are_open pair v) refl
     where

@@ -18,8 +18,7 @@ use Rattle.ncp_model.specs.Pairs.{pair_cmp, is_send, sends, is_proper, turned}
 use Rattle.ncp_model.specs.End.{End, is_open, or_new}
 use Rattle.ncp_model.specs.Peers.{Peer}
 use Rattle.ncp_proof_resets.specs.Delivery.{Link}
-use Rattle.ncp_proof_headline.specs.Headline.{sum_on}
-use Rattle.ncp_model.specs.Amounts.{granted_messages, granted_bits, returned_messages, returned_bits}
+use Rattle.ncp_proof_headline.specs.Headline.{total_on}
 use Rattle.ncp_proof_machine.specs.Hosts.{Node, NodeEvent}
 use Rattle.ncp_proof_machine.specs.Hosts as hosts
 use Rattle.ncp_proof_headline.proofs.HostsHeld.{ever}
@@ -33,8 +32,9 @@ use Rattle.ncp_transcript_two.specs.Subnet.{Holds, TransitByLink}
 use Rattle.ncp_transcript_two.specs.World.{World, swap}
 use Rattle.ncp_transcript_two.specs.Watch.{Both, turn}
 use Rattle.ncp_transcript_two.specs.Tie.{Whereabouts, Nowhere, Waits, Goes, Came, Failed, Died, Kept, slot_of, holds_of, OfMessage, Carries, control_bits, text_as_message, AreCommands, IsTextOn, Stands, Reached}
-use Rattle.ncp_transcript_two.specs.Underway.{text_read, commands_of, not_come, commands_out, underway, how_many, bits_out, sender_at, receiver_at}
-use Rattle.ncp_transcript_two.specs.Ledgers.{amount, ledger_in, are_open, ledger_from, ledger_of, IsBalanced}
+use Rattle.ncp_transcript_two.specs.Underway.{text_read, commands_of, not_come, commands_out, underway, amount_out, sender_at, receiver_at}
+use Rattle.ncp_model.specs.Amounts.{amount, granted, returned}
+use Rattle.ncp_transcript_two.specs.Ledgers.{ledger_in, are_open, ledger_from, ledger_of, IsBalanced}
 use Rattle.ncp_world.specs.Reckoning.{control_commands, commands_kept, waiting_of, unless_came, kept_from, commands_from, if_open, ledger_with, ledger_if, ledger_read}
 use Rattle.ncp_transcript_two.specs.declared.ledger.Ledger.{Ledger}
 use Rattle.ncp_transcript_two.specs.declared.side.Side.{Side}
@@ -48,7 +48,7 @@ use Rattle.ncp_transcript_two.proofs.Written.{read, control_text}
 use Rattle.ncp_transcript_two.proofs.Reaching.{of-reached}
 use Rattle.ncp_transcript_two.proofs.Runs.{OfModelWith}
 use Rattle.ncp_transcript_two.proofs.Carried.{turned-over}
-use Rattle.ncp_transcript_two.proofs.Underway.{messages-carried, bits-carried}
+use Rattle.ncp_transcript_two.proofs.Underway.{amounts-carried}
 use Rattle.ncp_transcript_two.proofs.Headlines.{watched-all}
 use Rattle.ncp_transcript_two.proofs.Waiting.{few-wait}
 
@@ -159,9 +159,9 @@ abbrev with_those : End → End → List Command → List Command → Option (Li
 with_those sender receiver there back text = record {
   outstanding = amount receiver.messages receiver.bits;
   counters = amount sender.messages sender.bits;
-  all = amount (sum_on sender.link granted_messages back) (sum_on sender.link granted_bits back);
-  text = amount (how_many text) (length (bits_out text));
-  ret = amount (sum_on sender.link returned_messages there) (sum_on sender.link returned_bits there);
+  all = total_on sender.link granted back;
+  text = amount_out text;
+  ret = total_on sender.link returned there;
 }
 
 abbrev ledger_at : Side → Hosts → End → End → Ledger
@@ -235,9 +235,7 @@ module _ (pair : Pair) (v : World) (p : Both) (o : OfModelWith p v) where
           let opened = and_parts (is_open (sender_at pair v)) (is_open (receiver_at pair v)) a.1 in
           let s = sends-open a.0 opened.0 in
           let same : ledger_in pair v ≡ l = cc is in
-          let messages = messages-carried pair s v p o (opened.0, opened.1) in
-          let bits = bits-carried pair s v p o (opened.0, opened.1) in
-          subst IsBalanced same (omega (arith, messages), omega (arith, bits))
+          subst IsBalanced same (amounts-carried pair s v p o (opened.0, opened.1))
 
 pub ledger-balanced : (ns : List Note) (w : Hosts) → IsTranscript ns w → (side : Side) (pair : Pair) (l : Ledger) → ledger_of side pair w ≡ Some l → IsBalanced l
 ledger-balanced ns w t A pair l e = balanced pair (seen w) (histories_of ns w) (watched-all ns w t) l e

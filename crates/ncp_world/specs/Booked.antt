@@ -1,11 +1,12 @@
 -- The books of a connection: what the notes of each of its hosts say in sums of what was granted, returned and used
 -- (NIC 8246, allocation; that a host begins to count anew when the pair has ended is this profile's).
-use Rattle.std.specs.Prelude.{◌≡◌, ◌+◌, List}
+use Rattle.std.specs.Prelude.{◌≡◌, List}
 use Rattle.ncp_model.specs.declared.pair.Pair.{Pair}
+use Rattle.ncp_model.specs.declared.amounts.Amount.{Amount}
 use Rattle.ncp_model.specs.Pairs.{turned}
+use Rattle.ncp_model.specs.Amounts.{◌⊕◌}
 use Rattle.ncp_proof_runs.specs.Peers.{notes_of_peer}
 use Rattle.ncp_proof_runs.specs.Marks.{Marks, marks_of}
-use Rattle.ncp_transcript_two.specs.declared.ledger.Amount.{Amount}
 use Rattle.ncp_transcript_two.specs.declared.ledger.Ledger.{Ledger}
 use Rattle.ncp_transcript_two.specs.declared.note.Note.{Note}
 use Rattle.ncp_transcript_two.specs.declared.side.Side.{Side}
@@ -18,7 +19,7 @@ marks_at side pair notes w = marks_of pair (notes_of_peer (side_number (other si
 
 -- an amount is what was granted less what was returned and used, in messages and in bits
 abbrev pub Remains : Amount → Marks → Type 0
-Remains it m = (it.messages + m.returned_messages + m.used_messages ≡ m.granted_messages) × (it.bits + m.returned_bits + m.used_bits ≡ m.granted_bits)
+Remains it m = it ⊕ m.returned ⊕ m.used ≡ m.granted
 
 -- of a pair that sends from a side: what is outstanding is what remains as the receiver's notes say, and the counters
 -- what remains as the sender's say

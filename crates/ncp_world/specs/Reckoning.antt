@@ -1,5 +1,5 @@
 -- A ledger as it is reckoned from what the hosts and the subnet tell.
-use Rattle.std.specs.Prelude.{ℕ, ◌==◌, Bool, true, false, ◌&&◌, ◌||◌, not, if◌then◌else◌, List, [], ◌++◌, length, take, Option, None, Some, Result, Ok, Err}
+use Rattle.std.specs.Prelude.{ℕ, ◌*◌, ◌^◌, ◌==◌, Bool, true, false, ◌&&◌, ◌||◌, not, if◌then◌else◌, List, [], ◌++◌, take, Option, None, Some, Result, Ok, Err}
 use Rattle.ncp_numbers.specs.Bytes.{bytes_of}
 use Rattle.ncp_leader.specs.declared.fault.MessageFault.{MessageFault}
 use Rattle.ncp_leader.specs.Message.{Message, message_in}
@@ -9,28 +9,30 @@ use Rattle.ncp_model.specs.declared.pair.Pair.{Pair}
 use Rattle.ncp_model.specs.declared.call_fault.CallFault.{CallFault}
 use Rattle.ncp_model.specs.declared.limits.TheConstants.{MAX_WAITING}
 use Rattle.ncp_model.specs.Pairs.{is_send, turned}
-use Rattle.ncp_model.specs.Amounts.{granted_messages, granted_bits, returned_messages, returned_bits}
-use Rattle.ncp_proof_headline.specs.Headline.{sum_on}
+use Rattle.ncp_model.specs.Amounts.{amount, ◌⊕◌, ◌⊑◌, granted, returned}
+use Rattle.ncp_proof_headline.specs.Headline.{total_on}
 use Rattle.ncp_conn.specs.declared.record.Record.{Record}
 use Rattle.ncp_host.specs.PeerState.{PeerState, control_link}
 use Rattle.ncp_host.specs.Host.{state_of}
 use Rattle.ncp_host.specs.Hearing.{control_size}
 use Rattle.ncp_host.specs.Calls.{record_told, kept_for}
 use Rattle.ncp_subnet.specs.Transit.{is_delivered}
-use Rattle.ncp_world.specs.declared.carrying.Quantity.{Quantity}
-use Rattle.ncp_world.specs.declared.carrying.Quantity.TheVariants.{GrantedMessages, GrantedBits, ReturnedMessages, ReturnedBits}
+use Rattle.ncp_world.specs.declared.carrying.Carried.{Carried}
 use Rattle.ncp_transcript_two.specs.declared.ledger.Ledger.{Ledger}
 use Rattle.ncp_transcript_two.specs.declared.side.Side.{Side}
 use Rattle.ncp_transcript_two.specs.Between.{Hosts, other, side_number, host_of, transit_of}
-use Rattle.ncp_transcript_two.specs.Underway.{how_many, bits_out}
-use Rattle.ncp_transcript_two.specs.Ledgers.{amount}
+use Rattle.ncp_transcript_two.specs.Underway.{amount_out}
 
--- what is counted of a command
-abbrev pub counted : Quantity → Command → ℕ
-counted GrantedMessages c = granted_messages c
-counted GrantedBits c = granted_bits c
-counted ReturnedMessages c = returned_messages c
-counted ReturnedBits c = returned_bits c
+-- what commands carry on a link, what two lists of them carry together, and that it is no more than so many can carry
+
+abbrev pub carried_on : ℕ → List Command → Carried
+carried_on on cs = record { granted = total_on on granted cs; returned = total_on on returned cs }
+
+abbrev pub carried_both : Carried → Carried → Carried
+carried_both a b = record { granted = a.granted ⊕ b.granted; returned = a.returned ⊕ b.returned }
+
+abbrev pub OfAtMost : ℕ → Carried → Type 0
+OfAtMost n x = (x.granted ⊑ amount (n * 2 ^ 32) (n * 2 ^ 32)) × (x.returned ⊑ amount (n * 2 ^ 32) (n * 2 ^ 32))
 
 -- the commands of a control message: one whose bytes have eight bits
 
@@ -78,9 +80,9 @@ abbrev pub ledger_with : Side → Hosts → Record → Record → Ledger
 ledger_with side w sender receiver = record {
   outstanding = amount receiver.messages receiver.bits;
   counters = amount sender.messages sender.bits;
-  all = amount (sum_on sender.link granted_messages (commands_from (other side) w)) (sum_on sender.link granted_bits (commands_from (other side) w));
-  text = amount (how_many (kept_from side sender.link w)) (length (bits_out (kept_from side sender.link w)));
-  ret = amount (sum_on sender.link returned_messages (commands_from side w)) (sum_on sender.link returned_bits (commands_from side w));
+  all = total_on sender.link granted (commands_from (other side) w);
+  text = amount_out (kept_from side sender.link w);
+  ret = total_on sender.link returned (commands_from side w);
 }
 
 abbrev pub ledger_if : Side → Hosts → Option Record → Option Record → Option Ledger

@@ -1,115 +1,144 @@
-//! What ALL and RET carry that are underway.
-ghost use Rattle.std.specs.Prelude.{◌≡◌, ◌≤◌, ◌%◌, ◌^◌, [], ◌∷◌, length, take};
+//! What the ALL and RET underway carry.
+ghost use Rattle.std.specs.Prelude.{◌≡◌, ◌%◌, ◌^◌, [], ◌∷◌, length, take};
 ghost use Rattle.ncp_numbers.specs.Bytes.{bytes_of};
 ghost use Rattle.ncp_leader.specs.Message.{message_in};
 ghost use Rattle.ncp_control.specs.Reading.{commands_in};
 ghost use Rattle.ncp_model.specs.declared.limits.TheConstants.{MAX_WAITING as Most};
-ghost use Rattle.ncp_proof_headline.specs.Headline.{sum_on};
+ghost use Rattle.ncp_model.specs.Amounts.{amount, ◌⊕◌, ◌⊑◌};
 ghost use Rattle.ncp_host.specs.Host.{state_of};
-ghost use Rattle.ncp_world.specs.Reckoning.{counted, control_commands, waiting_of};
+ghost use Rattle.ncp_world.specs.Reckoning.{carried_on, carried_both, OfAtMost, control_commands, waiting_of};
 
 use ncp_bits::{BitStore, Bits, Part};
 use ncp_control::Commands;
 use ncp_host::Host;
 use ncp_leader::read_regular;
-use ncp_model::MAX_WAITING;
+use ncp_model::{Amount, MAX_WAITING};
 use ncp_terms::{CONTROL_SIZE, Command};
 
-/// What is counted of commands.
+/// What commands carry on a link.
 #[derive(Clone, Copy, Drop)]
-pub(crate) enum Quantity {
-    /// The messages that ALL grants.
-    GrantedMessages,
-    /// The bits that ALL grants.
-    GrantedBits,
-    /// The messages that RET gives back.
-    ReturnedMessages,
-    /// The bits that RET gives back.
-    ReturnedBits,
+pub(crate) struct Carried {
+    /// What ALL grants.
+    pub granted: Amount,
+    /// What RET gives back.
+    pub returned: Amount,
+}
+
+/// No messages, and no bits.
+pub(crate) const NO_AMOUNT: Amount = Amount {
+    messages: 0,
+    bits: 0,
+};
+
+// Two amounts in one.
+fn both(a: Amount, b: Amount) -> Amount
+    requires small { a ⊑ amount (2 ^ 62) (2 ^ 62) }
+    requires small_too { b ⊑ amount (2 ^ 62) (2 ^ 62) }
+    ensures { result ≡ a ⊕ b }
+{
+    Amount {
+        messages: a.messages + b.messages,
+        bits: a.bits + b.bits,
+    }
+}
+
+impl Carried {
+    /// What no command carries.
+    pub const NONE: Carried = Carried {
+        granted: NO_AMOUNT,
+        returned: NO_AMOUNT,
+    };
+
+    /// The sum of both.
+    pub fn plus(self, others: Carried) -> Carried
+        requires few { OfAtMost (2 ^ 30) self }
+        requires few_too { OfAtMost (2 ^ 30) others }
+        ensures { result ≡ carried_both self others }
+    {
+        Carried {
+            granted: both(self.granted, others.granted),
+            returned: both(self.returned, others.returned),
+        }
+    }
 }
 
 // What one command carries on a link.
-fn carried(command: Command, link: u8, what: Quantity) -> u64
-    ensures sum { result ≡ sum_on link (counted what) (command ∷ []) }
-    ensures small { result ≤ 2 ^ 32 }
+fn carried_by_command(command: Command, link: u8) -> Carried
+    ensures sum { result ≡ carried_on link (command ∷ []) }
+    ensures small { OfAtMost 1 result }
 {
-    match (command, what) {
-        (
-            Command::All {
-                link: on,
-                messages,
-                ..
+    match command {
+        Command::All {
+            link: on,
+            messages,
+            bits,
+        } if on == link => Carried {
+            granted: Amount {
+                messages: u64::from(messages),
+                bits: u64::from(bits),
             },
-            Quantity::GrantedMessages,
-        ) if on == link => u64::from(messages),
-        (Command::All { link: on, bits, .. }, Quantity::GrantedBits) if on == link => {
-            u64::from(bits)
-        }
-        (
-            Command::Ret {
-                link: on,
-                messages,
-                ..
+            returned: NO_AMOUNT,
+        },
+        Command::Ret {
+            link: on,
+            messages,
+            bits,
+        } if on == link => Carried {
+            granted: NO_AMOUNT,
+            returned: Amount {
+                messages: u64::from(messages),
+                bits: u64::from(bits),
             },
-            Quantity::ReturnedMessages,
-        ) if on == link => u64::from(messages),
-        (Command::Ret { link: on, bits, .. }, Quantity::ReturnedBits) if on == link => {
-            u64::from(bits)
-        }
-        _ => 0,
+        },
+        _ => Carried::NONE,
     }
 }
 
 // What the commands of a control text carry on a link.
-fn carried_by_text(text: Part<'_>, link: u8, what: Quantity) -> u64
+fn carried_by_text(text: Part<'_>, link: u8) -> Carried
     requires { length text % 8 ≡ 0 }
-    ensures sum { result ≡ sum_on link (counted what) (commands_in (bytes_of text.entry)) }
-    ensures small { result ≤ 2 ^ 48 }
+    ensures sum { result ≡ carried_on link (commands_in (bytes_of text.entry)) }
+    ensures small { OfAtMost (2 ^ 16) result }
 {
-    // No more commands than bytes.
+    // For the prover: no more commands than bytes.
     let _bits = text.len();
-    let mut sum = 0;
+    let mut sum = Carried::NONE;
     for item in Commands::new(text) {
         if let Ok(command) = item {
-            sum += carried(command, link, what);
+            sum = sum.plus(carried_by_command(command, link));
         }
     }
     sum
 }
 
 /// What the commands of a control message carry on a link.
-pub(crate) fn carried_by_message(message: &Bits, link: u8, what: Quantity) -> u64
-    ensures sum { result ≡ sum_on link (counted what) (control_commands (message_in message.now)) }
-    ensures small { result ≤ 2 ^ 48 }
+pub(crate) fn carried_by_message(message: &Bits, link: u8) -> Carried
+    ensures sum { result ≡ carried_on link (control_commands (message_in message.now)) }
+    ensures small { OfAtMost (2 ^ 16) result }
 {
     match read_regular(message) {
         Ok(message) => {
             if message.size() == CONTROL_SIZE {
-                carried_by_text(message.text(), link, what)
+                carried_by_text(message.text(), link)
             } else {
-                0
+                Carried::NONE
             }
         }
-        Err(_) => 0,
+        Err(_) => Carried::NONE,
     }
 }
 
 /// What the commands that wait for a peer carry on a link.
-pub(crate) fn carried_by_waiting<S: BitStore>(
-    host: &Host<S>,
-    peer: u8,
-    link: u8,
-    what: Quantity,
-) -> u64
-    ensures sum { result ≡ sum_on link (counted what) (take Most (waiting_of (state_of host.now peer))) }
-    ensures small { result ≤ 2 ^ 48 }
+pub(crate) fn carried_by_waiting<S: BitStore>(host: &Host<S>, peer: u8, link: u8) -> Carried
+    ensures sum { result ≡ carried_on link (take Most (waiting_of (state_of host.now peer))) }
+    ensures small { OfAtMost (2 ^ 16) result }
 {
-    let mut sum = 0;
+    let mut sum = Carried::NONE;
     for place in 0..MAX_WAITING as u32 {
         let Some(command) = host.waiting(peer, place) else {
             return sum;
         };
-        sum += carried(command, link, what);
+        sum = sum.plus(carried_by_command(command, link));
     }
     sum
 }

@@ -8,7 +8,7 @@ ghost use Rattle.ncp_transcript_two.specs.declared.ledger.Ledger.{Ledger};
 ghost use Rattle.ncp_transcript_two.specs.declared.note.Note.{Note};
 ghost use Rattle.ncp_transcript_two.specs.declared.side.Side.TheVariants.{A, B};
 ghost use Rattle.ncp_transcript_two.specs.Between.{Hosts};
-ghost use Rattle.ncp_transcript_two.specs.Ledgers.{amount};
+ghost use Rattle.ncp_model.specs.Amounts.{amount};
 ghost use Rattle.ncp_transcript_two.specs.Sides.{notes_at};
 ghost use Rattle.ncp_world.specs.Booked.{Remains, IsBooked};
 
@@ -16,9 +16,9 @@ ghost use Rattle.ncp_world.specs.Booked.{Remains, IsBooked};
 /// any other number is refused, of messages and of bits. Of a pair that sends from side A, what is outstanding is
 /// within what the notes of side B's host say was granted, and what the counters hold within what those of A's say.
 pub fn books_that_are_off_are_seen()
-    ensures good { Remains (amount 1 16) (record no_marks { granted_messages = 3; granted_bits = 60; returned_messages = 1; returned_bits = 20; used_messages = 1; used_bits = 24 }) }
-    ensures messages { (n : ℕ) → n ≢ 1 → Remains (amount n 16) (record no_marks { granted_messages = 3; granted_bits = 60; returned_messages = 1; returned_bits = 20; used_messages = 1; used_bits = 24 }) → ⊥ }
-    ensures bits { (n : ℕ) → n ≢ 16 → Remains (amount 1 n) (record no_marks { granted_messages = 3; granted_bits = 60; returned_messages = 1; returned_bits = 20; used_messages = 1; used_bits = 24 }) → ⊥ }
-    ensures outstanding { (pair : Pair) (notes : List Note) (w : Hosts) (l : Ledger) → IsBooked A pair notes w l → let m = marks_of (turned pair) (notes_of_peer w.number_a (notes_at B notes)) in (l.outstanding.messages ≤ m.granted_messages) × (l.outstanding.bits ≤ m.granted_bits) }
-    ensures counters { (pair : Pair) (notes : List Note) (w : Hosts) (l : Ledger) → IsBooked A pair notes w l → let m = marks_of pair (notes_of_peer w.number_b (notes_at A notes)) in (l.counters.messages ≤ m.granted_messages) × (l.counters.bits ≤ m.granted_bits) }
+    ensures good { Remains (amount 1 16) (record no_marks { granted = amount 3 60; returned = amount 1 20; used = amount 1 24 }) }
+    ensures messages { (n : ℕ) → n ≢ 1 → Remains (amount n 16) (record no_marks { granted = amount 3 60; returned = amount 1 20; used = amount 1 24 }) → ⊥ }
+    ensures bits { (n : ℕ) → n ≢ 16 → Remains (amount 1 n) (record no_marks { granted = amount 3 60; returned = amount 1 20; used = amount 1 24 }) → ⊥ }
+    ensures outstanding { (pair : Pair) (notes : List Note) (w : Hosts) (l : Ledger) → IsBooked A pair notes w l → let m = marks_of (turned pair) (notes_of_peer w.number_a (notes_at B notes)) in (l.outstanding.messages ≤ m.granted.messages) × (l.outstanding.bits ≤ m.granted.bits) }
+    ensures counters { (pair : Pair) (notes : List Note) (w : Hosts) (l : Ledger) → IsBooked A pair notes w l → let m = marks_of pair (notes_of_peer w.number_b (notes_at A notes)) in (l.counters.messages ≤ m.granted.messages) × (l.counters.bits ≤ m.granted.bits) }
 {}

@@ -1,18 +1,18 @@
 //! The ledger of an open connection, reckoned from what the hosts and the subnet tell.
 ghost use Rattle.std.specs.Prelude.{◌≡◌, length};
 ghost use Rattle.std.specs.Option.{option_copied};
-ghost use Rattle.ncp_proof_headline.specs.Headline.{sum_on};
-ghost use Rattle.ncp_transcript_two.specs.Underway.{text_of, how_many, bits_out};
-ghost use Rattle.ncp_transcript_two.specs.Ledgers.{amount};
-ghost use Rattle.ncp_world.specs.Reckoning.{counted, kept_from, commands_from, if_open, open_at, ledger_with, ledger_read};
+ghost use Rattle.ncp_transcript_two.specs.Underway.{text_of, amount_out};
+ghost use Rattle.ncp_model.specs.Amounts.{amount};
+ghost use Rattle.ncp_world.specs.Reckoning.{carried_on, kept_from, commands_from, if_open, open_at, ledger_with, ledger_read};
 
 use super::{Hosts, other};
-use crate::carrying::{Quantity, carried_by_message, carried_by_waiting};
+use crate::carrying::{Carried, NO_AMOUNT, carried_by_message, carried_by_waiting};
 use ncp_bits::{BitStore, Bits};
 use ncp_host::{CallFault, Pair, Record};
 use ncp_leader::read_regular;
+use ncp_model::Amount;
 use ncp_terms::CONTROL_LINK;
-use ncp_transcript_two::{Amount, Ledger, Side};
+use ncp_transcript_two::{Ledger, Side};
 
 // The record of an end that is open.
 fn if_open(told: Result<Record, CallFault>) -> Option<Record>
@@ -38,17 +38,14 @@ fn text_len(message: &Bits) -> u64
 
 // How much the text of a message is, if there is one.
 fn text_amount(message: Option<&Bits>) -> Amount
-    ensures { result ≡ amount (how_many (option_copied message.entry)) (length (bits_out (option_copied message.entry))) }
+    ensures { result ≡ amount_out (option_copied message.entry) }
 {
     match message {
         Some(message) => Amount {
             messages: 1,
             bits: text_len(message),
         },
-        None => Amount {
-            messages: 0,
-            bits: 0,
-        },
+        None => NO_AMOUNT,
     }
 }
 
@@ -83,16 +80,16 @@ impl<S: BitStore> Hosts<S> {
         }
     }
 
-    // What the commands carry on a link that are underway from a side.
-    #[tactic(auto, using(crate::proofs::Sums::sum_joined))]
-    fn carried_from(&self, side: Side, link: u8, what: Quantity) -> u64
-        ensures { result ≡ sum_on link (counted what) (commands_from side self.now) }
+    // What the commands underway from a side carry on a link.
+    #[tactic(auto, using(crate::proofs::Sums::carried_joined))]
+    fn carried_from(&self, side: Side, link: u8) -> Carried
+        ensures { result ≡ carried_on link (commands_from side self.now) }
     {
         let message = match self.kept_from(side, CONTROL_LINK) {
-            Some(message) => carried_by_message(message, link, what),
-            None => 0,
+            Some(message) => carried_by_message(message, link),
+            None => Carried::NONE,
         };
-        message + carried_by_waiting(self.host(side), self.number(other(side)), link, what)
+        message.plus(carried_by_waiting(self.host(side), self.number(other(side)), link))
     }
 
     // The ledger of two open ends.
@@ -104,15 +101,9 @@ impl<S: BitStore> Hosts<S> {
         Ledger {
             outstanding: amount_of(receiver),
             counters: amount_of(sender),
-            all: Amount {
-                messages: self.carried_from(back, link, Quantity::GrantedMessages),
-                bits: self.carried_from(back, link, Quantity::GrantedBits),
-            },
+            all: self.carried_from(back, link).granted,
             text: text_amount(self.kept_from(side, link)),
-            ret: Amount {
-                messages: self.carried_from(side, link, Quantity::ReturnedMessages),
-                bits: self.carried_from(side, link, Quantity::ReturnedBits),
-            },
+            ret: self.carried_from(side, link).returned,
         }
     }
 
@@ -124,11 +115,7 @@ impl<S: BitStore> Hosts<S> {
             return None;
         }
         let sender = self.open_at(side, pair)?;
-        let turned = Pair {
-            local: pair.remote,
-            remote: pair.local,
-        };
-        let receiver = self.open_at(other(side), turned)?;
+        let receiver = self.open_at(other(side), pair.turned())?;
         Some(self.ledger_with(side, &sender, &receiver))
     }
 }

@@ -4,11 +4,8 @@ use Rattle.ncp_proof_runs.proofs.histories.what_is_got_is_taken_or_held.Goals as
 pub returns-clause-held : goal.returns-clause-held
 returns-clause-held c me ns all n s pair e from there r is = (books-agree me ns all n s pair e from there r is).held
 
-pub returns-clause-messages : goal.returns-clause-messages
-returns-clause-messages c me ns all n s pair e from there r is = (books-agree me ns all n s pair e from there r is).messages
-
-pub returns-clause-bits : goal.returns-clause-bits
-returns-clause-bits c me ns all n s pair e from there r is = (books-agree me ns all n s pair e from there r is).bits
+pub returns-clause-amounts : goal.returns-clause-amounts
+returns-clause-amounts c me ns all n s pair e from there r is = (books-agree me ns all n s pair e from there r is).counted
 
 pub returns-clause-unopened_messages : goal.returns-clause-unopened_messages
 returns-clause-unopened_messages c me ns all n s pair e from there is not_open = (sound-there me ns all n s pair e from there is).messages not_open

@@ -16,11 +16,8 @@ returns-clause-open c me ns all n s pair e from there is = (open-there me ns all
 pub returns-clause-live : goal.returns-clause-live
 returns-clause-live c me ns all n s pair e from there is = (open-there me ns all n s pair e from there is).1
 
-pub returns-clause-messages : goal.returns-clause-messages
-returns-clause-messages c me ns all n s pair e from there is = (stored-there me ns all n s pair e from there is).messages
-
-pub returns-clause-bits : goal.returns-clause-bits
-returns-clause-bits c me ns all n s pair e from there is = (stored-there me ns all n s pair e from there is).bits
+pub returns-clause-amounts : goal.returns-clause-amounts
+returns-clause-amounts c me ns all n s pair e from there is = (stored-there me ns all n s pair e from there is).amounts
 
 pub returns-clause-noted : goal.returns-clause-noted
 returns-clause-noted c r me ns before after n pair from = record-noted me ns before after n pair r from

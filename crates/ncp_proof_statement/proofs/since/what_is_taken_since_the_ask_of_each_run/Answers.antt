@@ -26,7 +26,7 @@ module _ (me : ℕ) (ns : List ℕ) (all : List HostNote) (n : ℕ) (pair : Pair
   allowed-is : allowed_from 0 (uses_by pair (notes_of_peer n all)) ≡ Tally.allowed
   allowed-is = allowed-tallied (uses_by pair (notes_of_peer n all)) no_takings ∙ ap (λ (us : List Use). (tallied takings_with no_takings us).allowed) (noted-from me ns n pair [] all from)
 
-  since : (s : PeerState) (e : End) → state_of (after_notes all (new_host me ns)) n ≡ Some s → receives pair ≡ true → get s.peer.ends pair ≡ Some e → e.opened ≡ true → (Tally.taken ≡ (past_so_far pair (notes_of_peer n all)).taken) × (Tally.allowed ≡ (past_so_far pair (notes_of_peer n all)).granted_bits)
+  since : (s : PeerState) (e : End) → state_of (after_notes all (new_host me ns)) n ≡ Some s → receives pair ≡ true → get s.peer.ends pair ≡ Some e → e.opened ≡ true → (Tally.taken ≡ (past_so_far pair (notes_of_peer n all)).taken) × (Tally.allowed ≡ (past_so_far pair (notes_of_peer n all)).granted.bits)
   since s e there r is live =
       let at : TakenSince (Some e) (past_so_far pair (notes_of_peer n all)) Tally =
       subst (λ (o : Option End). TakenSince o (past_so_far pair (notes_of_peer n all)) Tally)
