@@ -1,27 +1,27 @@
 -- A connection that was opened, and what was said on it.
-use Rattle.std.specs.Prelude.{ℕ, ◌+◌, ◌-◌, ◌^◌, ◌==◌, min, nat_lt, Bool, true, false, List, [], ◌∷◌, ◌++◌, length, take, get_or, slice_get, slice_set, Option, Some, None, if◌then◌else◌}
+use Rattle.std.specs.Prelude.{ℕ, ◌+◌, ◌-◌, ◌^◌, ◌==◌, min, nat_lt, Bool, List, [], ◌++◌, length, take, get_or, slice_get, slice_set, Option, Some, None, if◌then◌else◌}
 use Rattle.ncp_bits.specs.declared.bits.TheConstants.{MAX_BITS}
-use Rattle.ncp_follow.specs.declared.life.Life.{Life}
+use Rattle.ncp_follow.specs.declared.track.Track.{Track}
 use Rattle.ncp_follow.specs.declared.connection.Connection.{Connection}
 use Rattle.ncp_follow.specs.declared.connection.End.{End}
 use Rattle.ncp_follow.specs.declared.connection.End.TheVariants.{Open}
 use Rattle.ncp_follow.specs.Amounts.{nothing, with_more}
-use Rattle.ncp_follow.specs.Lives.{new_life}
+use Rattle.ncp_follow.specs.Tracks.{new_track}
 
 abbrev pub number_or_zero : Option ℕ → ℕ
 number_or_zero None = 0
 number_or_zero (Some number) = number
 
 -- one with this number, opened by this record
-abbrev pub opened_as : ℕ → ℕ → Life → Connection
-opened_as number opened life = record {
+abbrev pub opened_as : ℕ → ℕ → Track → Connection
+opened_as number opened track = record {
   number = number;
-  at = life.at;
-  peer = life.peer;
-  local = life.local;
-  remote = life.remote;
-  link = number_or_zero life.link;
-  size = number_or_zero life.size;
+  at = track.at;
+  peer = track.peer;
+  local = track.local;
+  remote = track.remote;
+  link = number_or_zero track.link;
+  size = number_or_zero track.size;
   opened = opened;
   ended = None;
   end = Open;
@@ -59,7 +59,7 @@ connection_with_end connection end ended = record connection { end = end; ended 
 -- ---- in a row, in the order in which they were opened
 
 abbrev pub told_at : List Connection → ℕ → Connection
-told_at told place = get_or told place (opened_as 0 0 (new_life 0 0 0 0))
+told_at told place = get_or told place (opened_as 0 0 (new_track 0 0 0 0))
 
 -- with another connection at a place, if one is there
 abbrev pub with_told_at : List Connection → ℕ → Connection → List Connection

@@ -1,5 +1,5 @@
 -- What a record says of connections, and what is known after it.
-use Rattle.std.specs.Prelude.{ℕ, ◌==◌, not, ◌&&◌, ◌||◌, nat_le, Bool, true, false, List, [], ◌∷◌, length, Option, Some, None, Result, Ok, if◌then◌else◌}
+use Rattle.std.specs.Prelude.{ℕ, ◌==◌, not, ◌&&◌, ◌||◌, nat_le, Bool, true, false, List, [], ◌∷◌, length, Result, Ok, if◌then◌else◌}
 use Rattle.std.specs.declared.result.Result.TheVariants.{Err as Fault}
 use Rattle.ncp_numbers.specs.Bytes.{bytes_of}
 use Rattle.ncp_leader.specs.declared.fault.MessageFault.{MessageFault}
@@ -14,12 +14,12 @@ use Rattle.ncp_control.specs.Texts.{items_of}
 use Rattle.ncp_control.specs.Reading.{commands_in, fault_in}
 use Rattle.ncp_follow.specs.declared.connection.End.{End}
 use Rattle.ncp_follow.specs.declared.connection.End.TheVariants.{ResetSent, ResetCame, ReplyCame}
-use Rattle.ncp_follow.specs.declared.request.Request.TheVariants.{Link, Size}
-use Rattle.ncp_follow.specs.declared.saying.Reading.{Reading}
-use Rattle.ncp_follow.specs.declared.saying.Reading.TheVariants as read
+use Rattle.ncp_follow.specs.declared.choice.Choice.TheVariants.{Link, Size}
+use Rattle.ncp_follow.specs.declared.saying.Payload.{Payload}
+use Rattle.ncp_follow.specs.declared.saying.Payload.TheVariants as read
 use Rattle.ncp_follow.specs.declared.session.Session.{Session}
 use Rattle.ncp_follow.specs.declared.tables.Tables.{Tables}
-use Rattle.ncp_follow.specs.declared.turn.Turn.{Turn}
+use Rattle.ncp_follow.specs.declared.sighting.Sighting.{Sighting}
 use Rattle.ncp_follow.specs.declared.follower.Follower.{Follower}
 use Rattle.ncp_follow.specs.Sessions.{is_heard, session_after_reset, session_after_reply, with_stray, session_of, with_session}
 use Rattle.ncp_follow.specs.Connections.{place_numbered, silent_at}
@@ -29,76 +29,76 @@ use Rattle.ncp_follow.specs.Tables.{after_asking, after_close, after_grant, afte
 -- ---- items of a control text
 
 -- a command that is neither RST nor RRP
-abbrev pub after_command : Turn → Command → Tables → Tables
-after_command turn Nop tables = tables
-after_command turn (Rts receive send link) tables = after_asking turn receive send (Link link) tables
-after_command turn (Str send receive size) tables = after_asking turn receive send (Size size) tables
-after_command turn (Cls my your) tables = after_close turn my your tables
-after_command turn (Allocate link messages bits) tables = after_grant turn link messages bits tables
-after_command turn (Gvb link fm fb) tables = tables
-after_command turn (Ret link messages bits) tables = after_return turn link messages bits tables
-after_command turn (Inr link) tables = tables
-after_command turn (Ins link) tables = tables
-after_command turn (Eco byte) tables = tables
-after_command turn (Erp byte) tables = tables
-after_command turn (Err code bytes) tables = tables
-after_command turn Rst tables = tables
-after_command turn Rrp tables = tables
+abbrev pub after_command : Sighting → Command → Tables → Tables
+after_command sighting Nop tables = tables
+after_command sighting (Rts receive send link) tables = after_asking sighting receive send (Link link) tables
+after_command sighting (Str send receive size) tables = after_asking sighting receive send (Size size) tables
+after_command sighting (Cls my your) tables = after_close sighting my your tables
+after_command sighting (Allocate link messages bits) tables = after_grant sighting link messages bits tables
+after_command sighting (Gvb link fm fb) tables = tables
+after_command sighting (Ret link messages bits) tables = after_return sighting link messages bits tables
+after_command sighting (Inr link) tables = tables
+after_command sighting (Ins link) tables = tables
+after_command sighting (Eco byte) tables = tables
+after_command sighting (Erp byte) tables = tables
+after_command sighting (Err code bytes) tables = tables
+after_command sighting Rst tables = tables
+after_command sighting Rrp tables = tables
 
 abbrev pub end_of_reset : Bool → End
 end_of_reset sent = if sent then ResetSent else ResetCame
 
 -- the RRP that the host waits for clears once more what was asked meanwhile
-abbrev pub ends_reset : Turn → Session → Bool
-ends_reset turn session = not turn.sent && session.host_waits
+abbrev pub ends_reset : Sighting → Session → Bool
+ends_reset sighting session = not sighting.sent && session.host_waits
 
-abbrev pub heard_after : Turn → Command → Session → Tables → Tables
-heard_after turn command session tables = if is_heard session turn.sent then after_command turn command tables else tables
+abbrev pub heard_after : Sighting → Command → Session → Tables → Tables
+heard_after sighting command session tables = if is_heard session sighting.sent then after_command sighting command tables else tables
 
 -- what an item does to connections
-abbrev pub tables_after : Turn → Result Command CommandFault → Session → Tables → Tables
-tables_after turn (Fault fault) session tables = tables
-tables_after turn (Ok Rst) session tables = after_clearing turn (end_of_reset turn.sent) tables
-tables_after turn (Ok Rrp) session tables = if ends_reset turn session then after_clearing turn ReplyCame tables else tables
-tables_after turn (Ok Nop) session tables = heard_after turn Nop session tables
-tables_after turn (Ok (Rts receive send link)) session tables = heard_after turn (Rts receive send link) session tables
-tables_after turn (Ok (Str send receive size)) session tables = heard_after turn (Str send receive size) session tables
-tables_after turn (Ok (Cls my your)) session tables = heard_after turn (Cls my your) session tables
-tables_after turn (Ok (Allocate link messages bits)) session tables = heard_after turn (Allocate link messages bits) session tables
-tables_after turn (Ok (Gvb link fm fb)) session tables = heard_after turn (Gvb link fm fb) session tables
-tables_after turn (Ok (Ret link messages bits)) session tables = heard_after turn (Ret link messages bits) session tables
-tables_after turn (Ok (Inr link)) session tables = heard_after turn (Inr link) session tables
-tables_after turn (Ok (Ins link)) session tables = heard_after turn (Ins link) session tables
-tables_after turn (Ok (Eco byte)) session tables = heard_after turn (Eco byte) session tables
-tables_after turn (Ok (Erp byte)) session tables = heard_after turn (Erp byte) session tables
-tables_after turn (Ok (Err code bytes)) session tables = heard_after turn (Err code bytes) session tables
+abbrev pub tables_after : Sighting → Result Command CommandFault → Session → Tables → Tables
+tables_after sighting (Fault fault) session tables = tables
+tables_after sighting (Ok Rst) session tables = after_clearing sighting (end_of_reset sighting.sent) tables
+tables_after sighting (Ok Rrp) session tables = if ends_reset sighting session then after_clearing sighting ReplyCame tables else tables
+tables_after sighting (Ok Nop) session tables = heard_after sighting Nop session tables
+tables_after sighting (Ok (Rts receive send link)) session tables = heard_after sighting (Rts receive send link) session tables
+tables_after sighting (Ok (Str send receive size)) session tables = heard_after sighting (Str send receive size) session tables
+tables_after sighting (Ok (Cls my your)) session tables = heard_after sighting (Cls my your) session tables
+tables_after sighting (Ok (Allocate link messages bits)) session tables = heard_after sighting (Allocate link messages bits) session tables
+tables_after sighting (Ok (Gvb link fm fb)) session tables = heard_after sighting (Gvb link fm fb) session tables
+tables_after sighting (Ok (Ret link messages bits)) session tables = heard_after sighting (Ret link messages bits) session tables
+tables_after sighting (Ok (Inr link)) session tables = heard_after sighting (Inr link) session tables
+tables_after sighting (Ok (Ins link)) session tables = heard_after sighting (Ins link) session tables
+tables_after sighting (Ok (Eco byte)) session tables = heard_after sighting (Eco byte) session tables
+tables_after sighting (Ok (Erp byte)) session tables = heard_after sighting (Erp byte) session tables
+tables_after sighting (Ok (Err code bytes)) session tables = heard_after sighting (Err code bytes) session tables
 
 -- and to the session
-abbrev pub session_after : Turn → Result Command CommandFault → Session → Session
-session_after turn (Fault fault) session = session
-session_after turn (Ok Rst) session = session_after_reset session turn.sent
-session_after turn (Ok Rrp) session = session_after_reply session turn.sent
-session_after turn (Ok Nop) session = session
-session_after turn (Ok (Rts receive send link)) session = session
-session_after turn (Ok (Str send receive size)) session = session
-session_after turn (Ok (Cls my your)) session = session
-session_after turn (Ok (Allocate link messages bits)) session = session
-session_after turn (Ok (Gvb link fm fb)) session = session
-session_after turn (Ok (Ret link messages bits)) session = session
-session_after turn (Ok (Inr link)) session = session
-session_after turn (Ok (Ins link)) session = session
-session_after turn (Ok (Eco byte)) session = session
-session_after turn (Ok (Erp byte)) session = session
-session_after turn (Ok (Err code bytes)) session = session
+abbrev pub session_after : Sighting → Result Command CommandFault → Session → Session
+session_after sighting (Fault fault) session = session
+session_after sighting (Ok Rst) session = session_after_reset session sighting.sent
+session_after sighting (Ok Rrp) session = session_after_reply session sighting.sent
+session_after sighting (Ok Nop) session = session
+session_after sighting (Ok (Rts receive send link)) session = session
+session_after sighting (Ok (Str send receive size)) session = session
+session_after sighting (Ok (Cls my your)) session = session
+session_after sighting (Ok (Allocate link messages bits)) session = session
+session_after sighting (Ok (Gvb link fm fb)) session = session
+session_after sighting (Ok (Ret link messages bits)) session = session
+session_after sighting (Ok (Inr link)) session = session
+session_after sighting (Ok (Ins link)) session = session
+session_after sighting (Ok (Eco byte)) session = session
+session_after sighting (Ok (Erp byte)) session = session
+session_after sighting (Ok (Err code bytes)) session = session
 
 -- all items of a control text, one after the other
-abbrev pub session_after_all : Turn → List (Result Command CommandFault) → Session → Session
-session_after_all turn [] session = session
-session_after_all turn (item ∷ items) session = session_after_all turn items (session_after turn item session)
+abbrev pub session_after_all : Sighting → List (Result Command CommandFault) → Session → Session
+session_after_all sighting [] session = session
+session_after_all sighting (item ∷ items) session = session_after_all sighting items (session_after sighting item session)
 
-abbrev pub tables_after_all : Turn → List (Result Command CommandFault) → Session → Tables → Tables
-tables_after_all turn [] session tables = tables
-tables_after_all turn (item ∷ items) session tables = tables_after_all turn items (session_after turn item session) (tables_after turn item session tables)
+abbrev pub tables_after_all : Sighting → List (Result Command CommandFault) → Session → Tables → Tables
+tables_after_all sighting [] session tables = tables
+tables_after_all sighting (item ∷ items) session tables = tables_after_all sighting items (session_after sighting item session) (tables_after sighting item session tables)
 
 -- the commands of a control text, and its fault behind them
 abbrev pub items_said : List Bool → List (Result Command CommandFault)
@@ -106,45 +106,45 @@ items_said text = items_of (commands_in (bytes_of text)) (fault_in (bytes_of tex
 
 -- ---- texts
 
-abbrev pub is_text_told : Turn → ℕ → Session → Tables → Bool
-is_text_told turn link session tables = is_heard session turn.sent && belongs turn link tables
+abbrev pub is_text_told : Sighting → ℕ → Session → Tables → Bool
+is_text_told sighting link session tables = is_heard session sighting.sent && belongs sighting link tables
 
-abbrev pub text_tables : Turn → ℕ → ℕ → List Bool → Session → Tables → Tables
-text_tables turn link size text session tables = if is_heard session turn.sent then after_text turn link size text tables else tables
+abbrev pub text_tables : Sighting → ℕ → ℕ → List Bool → Session → Tables → Tables
+text_tables sighting link size text session tables = if is_heard session sighting.sent then after_text sighting link size text tables else tables
 
-abbrev pub text_session : Turn → ℕ → List Bool → Session → Tables → Session
-text_session turn link text session tables = if is_text_told turn link session tables then session else with_stray session turn.sent (length text)
+abbrev pub text_session : Sighting → ℕ → List Bool → Session → Tables → Session
+text_session sighting link text session tables = if is_text_told sighting link session tables then session else with_stray session sighting.sent (length text)
 
 -- ---- messages
 
 -- link 0 with bytes of eight bits carries control, the links of connections carry texts
-abbrev pub followed_reading : Message → Reading
-followed_reading message =
+abbrev pub payload_in : Message → Payload
+payload_in message =
     if message.leader.link == 0 then if message.size == 8 then read.Control else read.Nothing
     else if nat_le 2 message.leader.link && nat_le message.leader.link 71 then read.Text
     else read.Nothing
 
-abbrev pub read_session : Reading → Turn → Message → Session → Tables → Session
-read_session read.Nothing turn message session tables = session
-read_session read.Text turn message session tables = text_session turn message.leader.link message.text session tables
-read_session read.Control turn message session tables = session_after_all turn (items_said message.text) session
+abbrev pub read_session : Payload → Sighting → Message → Session → Tables → Session
+read_session read.Nothing sighting message session tables = session
+read_session read.Text sighting message session tables = text_session sighting message.leader.link message.text session tables
+read_session read.Control sighting message session tables = session_after_all sighting (items_said message.text) session
 
-abbrev pub read_tables : Reading → Turn → Message → Session → Tables → Tables
-read_tables read.Nothing turn message session tables = tables
-read_tables read.Text turn message session tables = text_tables turn message.leader.link message.size message.text session tables
-read_tables read.Control turn message session tables = tables_after_all turn (items_said message.text) session tables
+abbrev pub read_tables : Payload → Sighting → Message → Session → Tables → Tables
+read_tables read.Nothing sighting message session tables = tables
+read_tables read.Text sighting message session tables = text_tables sighting message.leader.link message.size message.text session tables
+read_tables read.Control sighting message session tables = tables_after_all sighting (items_said message.text) session tables
 
-abbrev pub follower_after_regular : Turn → Message → Follower → Follower
-follower_after_regular turn message follower =
-    let session = session_of follower.part follower.sessions turn.at turn.peer in
+abbrev pub follower_after_regular : Sighting → Message → Follower → Follower
+follower_after_regular sighting message follower =
+    let session = session_of follower.part follower.sessions sighting.at sighting.peer in
     record follower {
-      sessions = with_session follower.sessions (read_session (followed_reading message) turn message session follower.tables);
-      tables = read_tables (followed_reading message) turn message session follower.tables;
+      sessions = with_session follower.sessions (read_session (payload_in message) sighting message session follower.tables);
+      tables = read_tables (payload_in message) sighting message session follower.tables;
     }
 
-abbrev pub follower_after_said : Turn → Result Message MessageFault → Follower → Follower
-follower_after_said turn (Ok message) follower = follower_after_regular turn message follower
-follower_after_said turn (Fault fault) follower = follower
+abbrev pub follower_after_said : Sighting → Result Message MessageFault → Follower → Follower
+follower_after_said sighting (Ok message) follower = follower_after_regular sighting message follower
+follower_after_said sighting (Fault fault) follower = follower
 
 -- ---- records
 
@@ -183,7 +183,7 @@ follower_after_record number sent at bits follower = follower_after_read number 
 
 -- nothing was seen; a part of a capture may begin in the middle
 abbrev pub new_follower : Bool → Follower
-new_follower part = record { part = part; sessions = []; outs = []; tables = record { lives = []; told = [] } }
+new_follower part = record { part = part; sessions = []; outs = []; tables = record { tracks = []; told = [] } }
 
 -- the connection with a number is as if nothing was said on it so far
 abbrev pub silent : ℕ → Follower → Follower

@@ -1,5 +1,5 @@
 pub mod Amounts
-pub mod Lives
+pub mod Tracks
 pub mod Connections
 pub mod Sessions
 pub mod Slots

@@ -3,7 +3,7 @@ ghost use Rattle.std.specs.Prelude.{◌≡◌, ◌≤◌, length};
 ghost use Rattle.ncp_follow.specs.Connections.{number_or_zero, opened_as, connection_with_text, text_with, without_text, connection_with_end};
 
 use crate::amount::Amount;
-use crate::life::Life;
+use crate::track::Track;
 use ncp_bits::{Bits, MAX_BITS, Part};
 
 /// How a connection ended, or what was seen of its end last.
@@ -77,17 +77,17 @@ fn append_front(text: &mut Bits, more: Part<'_>)
 
 impl Connection {
     // One that is opened, with this number, by this record.
-    pub(crate) fn new(number: u32, opened: u32, life: Life) -> Connection
-        ensures { result ≡ opened_as number opened life }
+    pub(crate) fn new(number: u32, opened: u32, track: Track) -> Connection
+        ensures { result ≡ opened_as number opened track }
     {
         Connection {
             number,
-            at: life.at,
-            peer: life.peer,
-            local: life.local,
-            remote: life.remote,
-            link: number_in(life.link),
-            size: number_in(life.size),
+            at: track.at,
+            peer: track.peer,
+            local: track.local,
+            remote: track.remote,
+            link: number_in(track.link),
+            size: number_in(track.size),
             opened,
             ended: None,
             end: End::Open,

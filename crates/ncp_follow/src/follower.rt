@@ -8,9 +8,9 @@ use crate::connection::Connection;
 use crate::saying::hear_regular;
 use crate::session::Session;
 use crate::sessions::Sessions;
+use crate::sighting::Sighting;
 use crate::slots::Slots;
 use crate::tables::Tables;
-use crate::turn::Turn;
 use ncp_bits::Bits;
 use ncp_leader::{
     DESTINATION_DEAD, INCOMPLETE, Leader, REGULAR, RFNM, Regular, read_leader, read_regular,
@@ -84,20 +84,20 @@ impl Follower {
     }
 
     // A message that is regular.
-    fn hear_regular(&mut self, turn: &Turn, regular: &Regular<'_>)
-        ensures { self.new ≡ follower_after_regular turn.now regular.now self.old }
+    fn hear_regular(&mut self, sighting: &Sighting, regular: &Regular<'_>)
+        ensures { self.new ≡ follower_after_regular sighting.now regular.now self.old }
     {
-        let session = self.sessions.of(self.part, turn.at, turn.peer);
-        let after = hear_regular(turn, regular, session, &mut self.tables);
+        let session = self.sessions.of(self.part, sighting.at, sighting.peer);
+        let after = hear_regular(sighting, regular, session, &mut self.tables);
         self.sessions.set(after);
     }
 
     // What a message says.
-    fn hear_message(&mut self, turn: &Turn, message: &Bits)
-        ensures { self.new ≡ follower_after_said turn.now (message_in message.now) self.old }
+    fn hear_message(&mut self, sighting: &Sighting, message: &Bits)
+        ensures { self.new ≡ follower_after_said sighting.now (message_in message.now) self.old }
     {
         if let Ok(regular) = read_regular(message) {
-            self.hear_regular(turn, &regular);
+            self.hear_regular(sighting, &regular);
         }
     }
 
@@ -113,26 +113,26 @@ impl Follower {
         if self.outs.send(at, peer, link, message) {
             return;
         }
-        let turn = Turn {
+        let sighting = Sighting {
             number,
             at,
             peer,
             sent: true,
         };
-        self.hear_message(&turn, message);
+        self.hear_message(&sighting, message);
     }
 
     // A message comes.
     fn hear_in(&mut self, number: u32, at: u8, peer: u8, message: &Bits)
         ensures { self.new ≡ follower_after_in number at peer message.now self.old }
     {
-        let turn = Turn {
+        let sighting = Sighting {
             number,
             at,
             peer,
             sent: false,
         };
-        self.hear_message(&turn, message);
+        self.hear_message(&sighting, message);
     }
 
     /// A record with this number: a message that went out of a host, or came to it.

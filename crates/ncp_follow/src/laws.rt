@@ -41,7 +41,7 @@ pub fn texts_are_forgotten_so()
 
 /// A text that comes after the host left is late; with the CLS of the other the connection has ended.
 pub fn crossed_texts_are_late()
-    ensures lives { crossed.lives ≡ [] }
+    ensures tracks { crossed.tracks ≡ [] }
     ensures told { crossed.told ≡
         record (unsaid 1 2 3 11) { ended = Some 22; end = ended.Closed; late = 1; granted = amount_of 2 16 } ∷ [] }
 {}

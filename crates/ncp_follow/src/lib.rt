@@ -8,26 +8,26 @@
 #![tactic(auto)]
 
 mod amount;
+mod choice;
 mod connection;
 mod follower;
 pub mod laws;
-mod life;
-mod lives;
 mod out;
-mod request;
 mod saying;
 mod session;
 mod sessions;
+mod sighting;
 mod slots;
 mod tables;
 mod told;
-mod turn;
+mod track;
+mod tracks;
 
 pub use amount::Amount;
 pub use connection::{Connection, End};
 pub use follower::Follower;
-pub use lives::MAX_LIVES;
 pub use session::Session;
 pub use sessions::MAX_SESSIONS;
 pub use slots::MAX_OUT;
 pub use told::MAX_TOLD;
+pub use tracks::MAX_TRACKS;

@@ -4,8 +4,8 @@ ghost use Rattle.ncp_follow.specs.Connections.{told_at, with_told_at, with_end_t
 ghost use Rattle.ncp_follow.specs.Tables.{has_place_told, with_opened, end_one};
 
 use crate::connection::{Connection, End};
-use crate::life::Life;
-use crate::turn::Turn;
+use crate::sighting::Sighting;
+use crate::track::Track;
 use ncp_bits::Part;
 use std::alloc::{AllocError, Global};
 use std::marker::Model;
@@ -82,13 +82,13 @@ impl Told {
     }
 
     /// One more, opened by this record, for which there has to be room.
-    pub(crate) fn push(&mut self, opened: u32, life: Life)
+    pub(crate) fn push(&mut self, opened: u32, track: Track)
         requires { has_place_told self.old ≡ true }
-        ensures { self.new ≡ with_opened self.old opened life }
+        ensures { self.new ≡ with_opened self.old opened track }
     {
         let number = self.all.len() as u32 + 1;
         self.all
-            .push_reserved(Connection::new(number, opened, life));
+            .push_reserved(Connection::new(number, opened, track));
     }
 
     /// A text of the one at a place.
@@ -139,12 +139,12 @@ impl Told {
         }
     }
 
-    /// The one of a life of these two hosts ends.
-    pub(crate) fn end_one(&mut self, turn: &Turn, end: End, life: Life)
-        ensures { self.new ≡ end_one turn.now.number turn.now.at turn.now.peer end life self.old }
+    /// The one that a track leads to, if it is of these two hosts, ends.
+    pub(crate) fn end_one(&mut self, sighting: &Sighting, end: End, track: Track)
+        ensures { self.new ≡ end_one sighting.now.number sighting.now.at sighting.now.peer end track self.old }
     {
-        if life.at == turn.at && life.peer == turn.peer {
-            self.end(life.place, end, Some(turn.number));
+        if track.at == sighting.at && track.peer == sighting.peer {
+            self.end(track.place, end, Some(sighting.number));
         }
     }
 

@@ -23,9 +23,9 @@ use Rattle.ncp_play_files.proofs.Placing.{in_front}
 use Rattle.ncp_play_files.proofs.Progress.{inside_cut, behind_version}
 use Rattle.ncp_play_page.specs.Lines.{number_after}
 use Rattle.ncp_play_stream.specs.declared.source.Failed.{Failed}
-use Rattle.ncp_play_stream.specs.Streams.{SaidSoFar, SaysText, SaysBeginning}
+use Rattle.ncp_play_stream.specs.Streams.{SaysText, SaysBeginning}
 use Rattle.ncp_follow.specs.declared.follower.Follower.{Follower}
-use Rattle.ncp_play_follow.specs.FollowedTexts.{heard_alone, said_by, said_in, SaidIn, SaidAs, TextAs, TextBeginning, FollowsText}
+use Rattle.ncp_play_follow.specs.FollowedTexts.{heard_alone, said_by, said_in, SaidIn, SaidAs, TextBeginning, FollowsText}
 use Rattle.ncp_play_follow.specs.TextSteps.{SaidBits, KeepsBits, SaysBits, SayThem, SayFrom, SayFile}
 
 -- ---- bytes

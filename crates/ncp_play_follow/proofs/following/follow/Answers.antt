@@ -1,4 +1,4 @@
-use Rattle.std.proofs.Common.{◌∙◌, ◌||◌, true, false, sym, ap, arith, ◌≡◌, rules}
+use Rattle.std.proofs.Common.{◌∙◌, ◌||◌, true, sym, ap, arith, ◌≡◌, rules}
 use Rattle.std.proofs.Math.Bool.{or-false}
 use Rattle.ncp_play_files.specs.Results.{is_read_failed, is_write_failed}
 use Rattle.ncp_play_files.proofs.Limits.{reads_done}

@@ -1,6 +1,5 @@
-use Rattle.std.proofs.Common.{◌≡◌, ◌∙◌, List, ap, subst, arith}
+use Rattle.std.proofs.Common.{List, subst}
 use Rattle.std.specs.List.{flat_map}
-use Rattle.std.proofs.Math.Bool.{or-false}
 use Rattle.ncp_follow.specs.declared.connection.Connection.{Connection}
 use Rattle.ncp_follow.specs.declared.session.Session.{Session}
 use Rattle.ncp_play_stream.specs.Streams.{SaysText, SaysBeginning, SaysTextOrBeginning}

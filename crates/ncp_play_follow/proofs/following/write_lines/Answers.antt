@@ -1,5 +1,4 @@
-use Rattle.std.proofs.Common.{[], arith}
-use Rattle.std.proofs.lemmas.Result.{err_from_is_err_and}
+use Rattle.std.proofs.Common.{[]}
 use Rattle.ncp_play_stream.proofs.Saying.{answers_broken}
 use Rattle.ncp_play_follow.specs.ConnectionLines.{follow_lines}
 use Rattle.ncp_play_follow.proofs.HeardFiles.{says_out}

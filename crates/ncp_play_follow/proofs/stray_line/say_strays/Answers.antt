@@ -1,4 +1,4 @@
-use Rattle.std.proofs.Common.{◌∙◌, List, [], false, take, drop, get_or, refl, sym, subst, arith}
+use Rattle.std.proofs.Common.{◌∙◌, List, false, take, drop, get_or, refl, sym, subst, arith}
 use Rattle.std.specs.List.{flat_map}
 use Rattle.std.proofs.Math.Bool.{or-false}
 use Rattle.std.proofs.Math.ListN.{drop_of_length-le}

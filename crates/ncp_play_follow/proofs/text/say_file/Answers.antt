@@ -1,7 +1,6 @@
 use Rattle.std.proofs.Common.{◌++◌, List, [], ℕ, drop, refl, ap}
 use Rattle.std.proofs.lemmas.Result.{err_from_is_err_and}
 use Rattle.ncp_play_stream.specs.Streams.{Ahead}
-use Rattle.ncp_play_follow.specs.TextSteps.{SaidBits}
 use Rattle.ncp_play_follow.proofs.SaidTexts.{bits_none, file_no_header, file_plain, file_said}
 use Rattle.ncp_play_follow.proofs.text.say_file.Goals as goal
 

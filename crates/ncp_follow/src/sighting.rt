@@ -1,8 +1,8 @@
-//! `Turn`: a message between two hosts, as it is seen at the interface of one.
+//! `Sighting`: a message between two hosts, as it is seen at the interface of one.
 
 /// A message between two hosts, as it is seen at the interface of one.
 #[derive(Clone, Copy, Debug, Drop, PartialEq, Eq)]
-pub struct Turn {
+pub struct Sighting {
     /// The number of its record.
     pub number: u32,
     /// The host at whose interface it is seen.

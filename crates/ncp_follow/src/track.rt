@@ -1,13 +1,13 @@
-//! `Life`: a connection, or a request for one.
+//! `Track`: what is followed of a connection, or of a request for one.
 ghost use Rattle.std.specs.Prelude.{◌≡◌};
-ghost use Rattle.ncp_follow.specs.Lives.{new_life, is_pair, is_sending_socket, is_given, is_used, has_left, with_left, has_requested, with_request, is_whole, nobody_left, takes_bits};
+ghost use Rattle.ncp_follow.specs.Tracks.{new_track, is_pair, is_sending_socket, is_given, is_used, has_left, with_left, has_chosen, with_choice, is_whole, nobody_left, takes_bits};
 
 use crate::amount::Amount;
-use crate::request::Request;
+use crate::choice::Choice;
 
-/// A connection between two sockets, or a request for one, as it is seen at the interface of a host.
+/// What is followed of a connection between two sockets, or of a request for one, at the interface of a host.
 #[derive(Clone, Copy, Debug, Drop, PartialEq, Eq)]
-pub struct Life {
+pub struct Track {
     /// The host at whose interface it is seen.
     pub at: u8,
     /// The other.
@@ -40,12 +40,12 @@ fn is_given(given: Option<u8>, number: u8) -> bool
     }
 }
 
-impl Life {
+impl Track {
     // Nobody asked.
-    pub(crate) fn new(at: u8, peer: u8, local: u32, remote: u32) -> Life
-        ensures { result ≡ new_life at peer local remote }
+    pub(crate) fn new(at: u8, peer: u8, local: u32, remote: u32) -> Track
+        ensures { result ≡ new_track at peer local remote }
     {
-        Life {
+        Track {
             at,
             peer,
             local,
@@ -88,42 +88,42 @@ impl Life {
     }
 
     // After a CLS of a side.
-    pub(crate) fn with_left(self, sent: bool) -> Life
+    pub(crate) fn with_left(self, sent: bool) -> Track
         ensures { result ≡ with_left self sent }
     {
         if sent {
-            Life {
+            Track {
                 host_left: true,
                 ..self
             }
         } else {
-            Life {
+            Track {
                 peer_left: true,
                 ..self
             }
         }
     }
 
-    // Whether the side asked that makes this request.
-    pub(crate) fn has_asked(self, request: Request) -> bool
-        ensures { result ≡ has_requested self request }
+    // Whether the side asked that makes this choice.
+    pub(crate) fn has_asked(self, choice: Choice) -> bool
+        ensures { result ≡ has_chosen self choice }
     {
-        match request {
-            Request::Link(_) => self.link.is_some(),
-            Request::Size(_) => self.size.is_some(),
+        match choice {
+            Choice::Link(_) => self.link.is_some(),
+            Choice::Size(_) => self.size.is_some(),
         }
     }
 
-    // After a request.
-    pub(crate) fn with_request(self, request: Request) -> Life
-        ensures { result ≡ with_request self request }
+    // After a request with this choice.
+    pub(crate) fn with_choice(self, choice: Choice) -> Track
+        ensures { result ≡ with_choice self choice }
     {
-        match request {
-            Request::Link(link) => Life {
+        match choice {
+            Choice::Link(link) => Track {
                 link: Some(link),
                 ..self
             },
-            Request::Size(size) => Life {
+            Choice::Size(size) => Track {
                 size: Some(size),
                 ..self
             },

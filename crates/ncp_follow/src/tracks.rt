@@ -1,47 +1,47 @@
-//! `Lives`: the connections, and the requests for them, that have not ended.
+//! `Tracks`: what is followed of the connections, and of the requests for them, that have not ended.
 ghost use Rattle.std.specs.Prelude.{◌≡◌, ◌<◌, ◌≤◌, ◌++◌, ◌∷◌, [], not, length, slice_set, nat_lt, if◌then◌else◌, IfOk, IfSome};
 ghost use Rattle.std.specs.List.{position, remove, filter};
-ghost use Rattle.ncp_follow.specs.Lives.{is_pair, is_used, life_at};
-ghost use Rattle.ncp_follow.specs.Tables.{is_life_of, pair_place, link_place, with_new, without};
+ghost use Rattle.ncp_follow.specs.Tracks.{is_pair, is_used, track_at};
+ghost use Rattle.ncp_follow.specs.Tables.{is_track_of, pair_place, link_place, with_new, without};
 
-use crate::life::Life;
+use crate::track::Track;
 use std::alloc::{AllocError, Global};
 use std::marker::Model;
 
 /// How many connections, and requests for them, are followed at once at most. One more is not followed.
-pub const MAX_LIVES: usize = 4096;
+pub const MAX_TRACKS: usize = 4096;
 
-/// The connections, and the requests for them, that have not ended. Their room is made at once.
+/// What is followed of the connections, and of the requests for them, that have not ended. Its room is made at once.
 #[derive(Drop)]
-pub struct Lives {
-    all: Vec<Life>,
+pub struct Tracks {
+    all: Vec<Track>,
 }
 
-impl Model for Lives {
+impl Model for Tracks {
     ghost use Rattle.std.specs.Prelude.{◌≤◌, List};
     ghost use Rattle.std.specs.Vec.{vec_capacity};
-    ghost use Rattle.ncp_follow.specs.declared.life.Life.{Life};
-    ghost use Rattle.ncp_follow.specs.declared.lives.TheConstants.{MAX_LIVES};
+    ghost use Rattle.ncp_follow.specs.declared.track.Track.{Track};
+    ghost use Rattle.ncp_follow.specs.declared.tracks.TheConstants.{MAX_TRACKS};
 
-    ghost Value = { List Life };
+    ghost Value = { List Track };
 
-    ghost view = { λ lives. lives.all.items };
+    ghost view = { λ tracks. tracks.all.items };
 
-    ghost invariant = { λ lives. MAX_LIVES ≤ vec_capacity lives.all };
+    ghost invariant = { λ tracks. MAX_TRACKS ≤ vec_capacity tracks.all };
 }
 
-impl Lives {
+impl Tracks {
     /// None. It alone takes memory, once.
-    pub(crate) fn new(alloc: Global) -> Result<Lives, AllocError>
-        ensures { IfOk result (λ lives. lives ≡ []) }
+    pub(crate) fn new(alloc: Global) -> Result<Tracks, AllocError>
+        ensures { IfOk result (λ tracks. tracks ≡ []) }
     {
-        Ok(Lives {
-            all: Vec::with_capacity(alloc, MAX_LIVES)?,
+        Ok(Tracks {
+            all: Vec::with_capacity(alloc, MAX_TRACKS)?,
         })
     }
 
     /// All of them.
-    pub(crate) fn as_slice(&self) -> &[Life]
+    pub(crate) fn as_slice(&self) -> &[Track]
         ensures { result.now ≡ self.now }
     {
         self.all.as_slice()
@@ -55,7 +55,7 @@ impl Lives {
         self.all
             .as_slice()
             .iter()
-            .position(|life| life.is_pair(at, peer, local, remote))
+            .position(|track| track.is_pair(at, peer, local, remote))
     }
 
     /// The place of the one with this link.
@@ -66,31 +66,31 @@ impl Lives {
         self.all
             .as_slice()
             .iter()
-            .position(|life| life.is_used(at, peer, sends, link))
+            .position(|track| track.is_used(at, peer, sends, link))
     }
 
     /// The one at a place.
-    pub(crate) fn at(&self, place: usize) -> Life
+    pub(crate) fn at(&self, place: usize) -> Track
         requires { place < length self.now }
-        ensures { result ≡ life_at self.now place }
+        ensures { result ≡ track_at self.now place }
     {
         self.all[place]
     }
 
     /// Puts one at a place.
-    pub(crate) fn set(&mut self, place: usize, life: Life)
+    pub(crate) fn set(&mut self, place: usize, track: Track)
         requires { place < length self.old }
-        ensures { self.new ≡ slice_set self.old place life }
+        ensures { self.new ≡ slice_set self.old place track }
     {
-        self.all[place] = life;
+        self.all[place] = track;
     }
 
     /// One more, if there is room.
-    pub(crate) fn push(&mut self, life: Life)
-        ensures { self.new ≡ with_new self.old life }
+    pub(crate) fn push(&mut self, track: Track)
+        ensures { self.new ≡ with_new self.old track }
     {
-        if self.all.len() < MAX_LIVES {
-            self.all.push_reserved(life);
+        if self.all.len() < MAX_TRACKS {
+            self.all.push_reserved(track);
         }
     }
 
@@ -107,6 +107,6 @@ impl Lives {
         ensures { self.new ≡ without self.old at peer }
     {
         self.all
-            .retain(|life| !(life.at == at && life.peer == peer));
+            .retain(|track| !(track.at == at && track.peer == peer));
     }
 }

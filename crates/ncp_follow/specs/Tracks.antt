@@ -1,0 +1,70 @@
+-- Connections, and requests for them, as they are seen at the interface of a host (NIC 8246, RTS, STR and CLS). The
+-- receiver's socket is even, the sender's is odd; the receiver chooses the link, the sender the byte size. A connection is
+-- opened when both have asked and none has sent a CLS; it ends when both have sent one.
+use Rattle.std.specs.Prelude.{ℕ, ◌==◌, ◌%◌, not, ◌&&◌, Bool, true, false, List, get_or, Option, Some, None, is_some, if◌then◌else◌}
+use Rattle.std.proofs.Math.Bool.{beq}
+use Rattle.ncp_follow.specs.declared.track.Track.{Track}
+use Rattle.ncp_follow.specs.declared.choice.Choice.{Choice}
+use Rattle.ncp_follow.specs.declared.choice.Choice.TheVariants.{Link, Size}
+use Rattle.ncp_follow.specs.Amounts.{nothing, covers}
+
+-- nobody asked
+abbrev pub new_track : ℕ → ℕ → ℕ → ℕ → Track
+new_track at peer local remote = record {
+  at = at;
+  peer = peer;
+  local = local;
+  remote = remote;
+  link = None;
+  size = None;
+  host_left = false;
+  peer_left = false;
+  left = nothing;
+  place = None;
+}
+
+abbrev pub is_pair : ℕ → ℕ → ℕ → ℕ → Track → Bool
+is_pair at peer local remote track = track.at == at && track.peer == peer && track.local == local && track.remote == remote
+
+-- a socket is a sender's
+abbrev pub is_sending_socket : ℕ → Bool
+is_sending_socket socket = socket % 2 == 1
+
+-- a number that was given
+abbrev pub is_given : Option ℕ → ℕ → Bool
+is_given None number = false
+is_given (Some given) number = given == number
+
+-- it has this link, and the host is its sender, or its receiver
+abbrev pub is_used : ℕ → ℕ → Bool → ℕ → Track → Bool
+is_used at peer sender link track = track.at == at && track.peer == peer && beq (is_sending_socket track.local) sender && is_given track.link link
+
+abbrev pub has_left : Track → Bool → Bool
+has_left track sent = if sent then track.host_left else track.peer_left
+
+abbrev pub with_left : Track → Bool → Track
+with_left track sent = if sent then record track { host_left = true } else record track { peer_left = true }
+
+abbrev pub has_chosen : Track → Choice → Bool
+has_chosen track (Link link) = is_some track.link
+has_chosen track (Size size) = is_some track.size
+
+abbrev pub with_choice : Track → Choice → Track
+with_choice track (Link link) = record track { link = Some link }
+with_choice track (Size size) = record track { size = Some size }
+
+-- none left
+abbrev pub nobody_left : Track → Bool
+nobody_left track = not track.host_left && not track.peer_left
+
+-- both asked, and none left
+abbrev pub is_whole : Track → Bool
+is_whole track = is_some track.link && is_some track.size && nobody_left track
+
+-- a text of so many bits in bytes of this size is one of it: none left, the size is the sender's, and so much was
+-- allocated and neither used nor returned
+abbrev pub takes_bits : Track → ℕ → ℕ → Bool
+takes_bits track size bits = nobody_left track && is_given track.size size && covers track.left bits
+
+abbrev pub track_at : List Track → ℕ → Track
+track_at tracks place = get_or tracks place (new_track 0 0 0 0)
