@@ -29,7 +29,7 @@ use Rattle.ncp_umpire.specs.Views.{awaits_reply}
 use Rattle.ncp_umpire.specs.Tables.{view_in}
 use Rattle.ncp_umpire.specs.Judged.{record_findings, after_record}
 use Rattle.ncp_umpire.proofs.Passing.{Pass}
-use Rattle.ncp_follow.specs.declared.lives.TheConstants.{MAX_LIVES}
+use Rattle.ncp_follow.specs.declared.tracks.TheConstants.{MAX_TRACKS}
 use Rattle.ncp_follow.specs.declared.slots.TheConstants.{MAX_OUT}
 use Rattle.ncp_follow.specs.declared.session.Session.{Session}
 use Rattle.ncp_follow.specs.declared.follower.Follower.{Follower}
@@ -43,9 +43,9 @@ use Rattle.ncp_proof_umpire_many.specs.Files.{findings_in}
 use Rattle.ncp_proof_umpire_many.proofs.Walk.{after_file}
 use Rattle.ncp_proof_umpire_whole.proofs.Parleys.{Known, turn_known}
 use Rattle.ncp_proof_umpire_whole.proofs.WholeWalk.{never, each_known}
-use Rattle.ncp_proof_follow.specs.ToldTexts.{followed_from}
+use Rattle.ncp_proof_follow_books.specs.FileFollowed.{followed_from}
 use Rattle.ncp_proof_follow.proofs.SameItems.{InTouch, NoneBetween}
-use Rattle.ncp_proof_follow.proofs.SameSessions.{found, or_session, session_found, put_other, FewSessions, few_room, few_put, counted}
+use Rattle.ncp_proof_follow_books.proofs.SameSessions.{found, or_session, session_found, put_other, FewSessions, few_room, few_put, counted}
 use Rattle.ncp_proof_follow.proofs.SameRecords.{Alike, Seats, Stay, Put, Then, out_so, in_so, answer_so}
 
 -- ---- at both interfaces
@@ -92,7 +92,7 @@ beside_then a b u now f after a_b b_a k t far = record {
 
 -- ---- a record of a file in which nothing is found
 
-pub roomy : (i : ℕ) → nat_lt i MAX_BOOKS ≡ true → nat_lt i MAX_LIVES ≡ true
+pub roomy : (i : ℕ) → nat_lt i MAX_BOOKS ≡ true → nat_lt i MAX_TRACKS ≡ true
 roomy i e = e
 
 pub roomy_out : (i : ℕ) → nat_lt i MAX_KEPT ≡ true → nat_lt i MAX_OUT ≡ true

@@ -13,8 +13,8 @@ use Rattle.ncp_transcript_two.specs.Watch.{pasts_after_asked}
 use Rattle.ncp_umpire.specs.Lives.{SeenBooks}
 use Rattle.ncp_follow.specs.declared.tables.Tables.{Tables}
 use Rattle.ncp_proof_umpire_talk.proofs.Spoken.{Tells}
-use Rattle.ncp_proof_follow.proofs.SameCommands.{Same}
-use Rattle.ncp_proof_follow.proofs.Placed.{Placed, text_named}
+use Rattle.ncp_proof_follow_books.proofs.SameCommands.{Same}
+use Rattle.ncp_proof_follow_books.proofs.Placed.{Placed, text_named}
 use Rattle.ncp_proof_follow.proofs.PeerLives.{SoundAll}
 use Rattle.ncp_proof_follow.proofs.HostLives.{asked_lives, given_asked, asks_for}
 use Rattle.ncp_proof_follow.proofs.HostAsks.{begins_up, asked_begins}

@@ -26,7 +26,7 @@ use Rattle.ncp_umpire.specs.declared.finding.Thing.{Thing}
 use Rattle.ncp_umpire.specs.declared.kept.Kept.{Kept}
 use Rattle.ncp_umpire.specs.declared.message.Reading.{Reading}
 use Rattle.ncp_umpire.specs.declared.message.Reading.TheVariants.{Stop, Text, Control}
-use Rattle.ncp_umpire.specs.declared.phase.Turn as umpire
+use Rattle.ncp_umpire.specs.declared.phase.Turn.{Turn}
 use Rattle.ncp_umpire.specs.declared.talk.Talk.{Talk}
 use Rattle.ncp_umpire.specs.declared.view.View.{View}
 use Rattle.ncp_umpire.specs.Views.{awaits_reply}
@@ -36,54 +36,54 @@ use Rattle.ncp_umpire.specs.Phases.{is_early, after_items, missing_finding}
 use Rattle.ncp_umpire.specs.Speaking.{after_all_said}
 use Rattle.ncp_umpire.specs.Talked.{talked_findings, after_talked, tells_left_out, left_out_findings, after_left_out}
 use Rattle.ncp_umpire.specs.Judged.{is_roomy, items_said, read_findings, books_after_read}
-use Rattle.ncp_follow.specs.declared.lives.TheConstants.{MAX_LIVES}
-use Rattle.ncp_follow.specs.declared.saying.Reading as followed
+use Rattle.ncp_follow.specs.declared.tracks.TheConstants.{MAX_TRACKS}
+use Rattle.ncp_follow.specs.declared.saying.Payload.{Payload}
 use Rattle.ncp_follow.specs.declared.session.Session.{Session}
 use Rattle.ncp_follow.specs.declared.tables.Tables.{Tables}
-use Rattle.ncp_follow.specs.declared.turn.Turn.{Turn}
+use Rattle.ncp_follow.specs.declared.sighting.Sighting.{Sighting}
 use Rattle.ncp_follow.specs.Sessions.{is_heard}
-use Rattle.ncp_follow.specs.Lives.{life_at}
+use Rattle.ncp_follow.specs.Tracks.{track_at}
 use Rattle.ncp_follow.specs.Tables.{link_place, said_at, after_text}
-use Rattle.ncp_follow.specs.Followed.{followed_reading, read_tables}
+use Rattle.ncp_follow.specs.Followed.{payload_in, read_tables}
 use Rattle.ncp_proof_umpire.proofs.Phased.{Sees}
 use Rattle.ncp_proof_umpire.proofs.PhaseSteps.{Stands}
 use Rattle.ncp_proof_umpire_talk.proofs.Borne.{Borne, QuietTells}
 use Rattle.ncp_proof_umpire_talk.proofs.Carries.{ShowsBusy}
 use Rattle.ncp_proof_umpire_talk.proofs.SpokenOut.{Known}
-use Rattle.ncp_proof_follow.proofs.Besides.{front_none}
+use Rattle.ncp_proof_follow_books.proofs.Besides.{front_none}
 use Rattle.ncp_proof_follow.proofs.SameItems.{Followed}
-use Rattle.ncp_proof_follow.proofs.SameTexts.{TextLed}
-use Rattle.ncp_proof_follow.proofs.SameReads.{reading_as, reading_is, HeardText, text_heard}
-use Rattle.ncp_proof_follow.proofs.OpensSo.{AllOpened}
-use Rattle.ncp_proof_follow.proofs.Placed.{Placed}
-use Rattle.ncp_proof_follow.proofs.PlacedSteps.{said_so}
+use Rattle.ncp_proof_follow_books.proofs.SameTexts.{TextLed}
+use Rattle.ncp_proof_follow.proofs.SameReads.{payload_as, reading_is, HeardText, text_heard}
+use Rattle.ncp_proof_follow_books.proofs.OpensSo.{AllOpened}
+use Rattle.ncp_proof_follow_books.proofs.Placed.{Placed}
+use Rattle.ncp_proof_follow_books.proofs.PlacedSteps.{said_so}
 use Rattle.ncp_proof_follow.proofs.ControlComes.{AtHost, none_lives, from_peer, their_talk, heard}
 use Rattle.ncp_proof_follow.proofs.ComesAll.{all_come}
 use Rattle.ncp_proof_follow.proofs.TextsTold.{text_comes_told}
 
 -- of each connection that was opened no more may be sent, as it is judged, than is followed
 abbrev pub IsCovered : SeenBooks → Tables → Type 0
-IsCovered b t = (p : ℕ) → is_some (life_at t.lives p).place ≡ true → ((life_in_place b.lives p).messages ≤ (life_at t.lives p).left.messages) × ((life_in_place b.lives p).bits ≤ (life_at t.lives p).left.bits)
+IsCovered b t = (p : ℕ) → is_some (track_at t.tracks p).place ≡ true → ((life_in_place b.lives p).messages ≤ (track_at t.tracks p).left.messages) × ((life_in_place b.lives p).bits ≤ (track_at t.tracks p).left.bits)
 
 -- the texts stay in their places
-said_placed : (turn : Turn) (link size : ℕ) (more : List Bool) (t : Tables) → Placed t → Placed (after_text turn link size more t)
-said_placed turn link size more t placed = go (link_place turn.at turn.peer turn.sent link t.lives) refl
+said_placed : (sighting : Sighting) (link size : ℕ) (more : List Bool) (t : Tables) → Placed t → Placed (after_text sighting link size more t)
+said_placed sighting link size more t placed = go (link_place sighting.at sighting.peer sighting.sent link t.tracks) refl
   where
-    go : (o : Option ℕ) → link_place turn.at turn.peer turn.sent link t.lives ≡ o → Placed (said_at size more t o)
+    go : (o : Option ℕ) → link_place sighting.at sighting.peer sighting.sent link t.tracks ≡ o → Placed (said_at size more t o)
     go None e = placed
-    go (Some i) e = (said_so turn t placed turn.sent link size more i e).placed
+    go (Some i) e = (said_so sighting t placed sighting.sent link size more i e).placed
 
 awake : (p : Phase) → up p ≡ true → p.wait ≡ false
 awake p u = grind arith
 
-module _ (number me n : ℕ) (busy : Option ℕ) (zero : Bool) (kept : List Kept) (roomy : (i : ℕ) → nat_lt i MAX_BOOKS ≡ true → nat_lt i MAX_LIVES ≡ true) (message : Message) (s : PeerState) (pasts : Pasts) (v : View) (b : SeenBooks) (σ : Session) (t : Tables)
+module _ (number me n : ℕ) (busy : Option ℕ) (zero : Bool) (kept : List Kept) (roomy : (i : ℕ) → nat_lt i MAX_BOOKS ≡ true → nat_lt i MAX_TRACKS ≡ true) (message : Message) (s : PeerState) (pasts : Pasts) (v : View) (b : SeenBooks) (σ : Session) (t : Tables)
     (stands : Stands s.peer (is_quiet s.slots) v) (good : Good s.peer.ends) (borne : Borne s.peer s.slots) (known : Known me n s.peer v b) (follows : Followed me n v b σ t) (placed : Placed t) (room : b.full ≡ false) (at : AtHost me n s pasts t) where
   abbrev ComesSo : Reading → PeerState → Pasts → Type 0
-  ComesSo reading now then_pasts = AtHost me n now then_pasts (read_tables (reading_as reading) (heard number me n busy zero kept roomy) message σ t) × Placed (read_tables (reading_as reading) (heard number me n busy zero kept roomy) message σ t)
+  ComesSo reading now then_pasts = AtHost me n now then_pasts (read_tables (payload_as reading) (heard number me n busy zero kept roomy) message σ t) × Placed (read_tables (payload_as reading) (heard number me n busy zero kept roomy) message σ t)
 
   -- ---- a text
 
-  module _ (head : List Bool) (all : AllOpened t.lives) (covered : IsCovered b t) (none : read_findings (from_peer number me n busy zero kept roomy) (their_talk number me n busy zero kept roomy) kept message v b Text ≡ []) where
+  module _ (head : List Bool) (all : AllOpened t.tracks) (covered : IsCovered b t) (none : read_findings (from_peer number me n busy zero kept roomy) (their_talk number me n busy zero kept roomy) kept message v b Text ≡ []) where
     h : HeardText number me n n busy zero kept roomy false v b σ t follows message
     h = text_heard number me n n busy zero kept roomy false v b σ t follows message room none
 
@@ -145,7 +145,7 @@ module _ (number me n : ℕ) (busy : Option ℕ) (zero : Bool) (kept : List Kept
         all_come number me n busy zero kept roomy (commands_in (bytes_of message.text)) (fault_in (bytes_of message.text)) s pasts v b σ t sees quiet shows stands good borne sound known follows placed at
         (front_none found missing (front_none (found ++ missing) (left_out_findings judges talk kept (is_roomy message.text) next mid) none)) (sym (left_room (is_roomy message.text) next mid) ∙ full)
       where
-        judges : umpire.Turn
+        judges : Turn
         judges = from_peer number me n busy zero kept roomy
 
         talk : Talk
@@ -165,14 +165,14 @@ module _ (number me n : ℕ) (busy : Option ℕ) (zero : Bool) (kept : List Kept
 
     -- ---- a message, that by itself breaks no rule of links and sizes
 
-    pub came_told : (bits : List Bool) → is_unused message.leader.link ≡ false → ((message.leader.link == 0) ≡ true → (message.size == 8) ≡ true) → AllOpened t.lives → IsCovered b t
+    pub came_told : (bits : List Bool) → is_unused message.leader.link ≡ false → ((message.leader.link == 0) ≡ true → (message.size == 8) ≡ true) → AllOpened t.tracks → IsCovered b t
         → read_findings (from_peer number me n busy zero kept roomy) (their_talk number me n busy zero kept roomy) kept message v b (judged_reading message) ≡ []
         → (books_after_read (from_peer number me n busy zero kept roomy) (their_talk number me n busy zero kept roomy) kept message v b (judged_reading message)).full ≡ false
-        → AtHost me n (message_after message.leader.link bits (Ok message) s) (pasts_after_message message.leader.link bits (Ok message) s pasts) (read_tables (followed_reading message) (heard number me n busy zero kept roomy) message σ t)
-        × Placed (read_tables (followed_reading message) (heard number me n busy zero kept roomy) message σ t)
+        → AtHost me n (message_after message.leader.link bits (Ok message) s) (pasts_after_message message.leader.link bits (Ok message) s pasts) (read_tables (payload_in message) (heard number me n busy zero kept roomy) message σ t)
+        × Placed (read_tables (payload_in message) (heard number me n busy zero kept roomy) message σ t)
     came_told bits used sized all covered none full =
         subst
-        (λ (r : followed.Reading). AtHost me n (message_after on bits (Ok message) s) (pasts_after_message on bits (Ok message) s pasts) (read_tables r (heard number me n busy zero kept roomy) message σ t)
+        (λ (r : Payload). AtHost me n (message_after on bits (Ok message) s) (pasts_after_message on bits (Ok message) s pasts) (read_tables r (heard number me n busy zero kept roomy) message σ t)
         × Placed (read_tables r (heard number me n busy zero kept roomy) message σ t))
         (sym (reading_is message)) (go (on == 0) refl)
       where

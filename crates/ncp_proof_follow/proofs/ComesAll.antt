@@ -26,7 +26,7 @@ use Rattle.ncp_umpire.specs.Lives.{SeenBooks}
 use Rattle.ncp_umpire.specs.Phases.{after_item}
 use Rattle.ncp_umpire.specs.Speaking.{books_after_command}
 use Rattle.ncp_umpire.specs.Talked.{after_talk, all_findings, talked_findings, after_talked}
-use Rattle.ncp_follow.specs.declared.lives.TheConstants.{MAX_LIVES}
+use Rattle.ncp_follow.specs.declared.tracks.TheConstants.{MAX_TRACKS}
 use Rattle.ncp_follow.specs.declared.session.Session.{Session}
 use Rattle.ncp_follow.specs.declared.tables.Tables.{Tables}
 use Rattle.ncp_follow.specs.Followed.{tables_after, tables_after_all, session_after}
@@ -42,10 +42,10 @@ use Rattle.ncp_proof_umpire_talk.proofs.LeavingBusy.{leaving_busy}
 use Rattle.ncp_proof_umpire_talk.proofs.Spoken.{Tells}
 use Rattle.ncp_proof_umpire_talk.proofs.SpokenIn.{CommandTells, command_spoken}
 use Rattle.ncp_proof_umpire_talk.proofs.SpokenOut.{Known}
-use Rattle.ncp_proof_umpire_counts.proofs.BooksRead.{Reads, talk_reads, items_read}
-use Rattle.ncp_proof_follow.proofs.Besides.{front_none, rest_none}
+use Rattle.ncp_proof_umpire_owes.proofs.BooksRead.{Reads, talk_reads, items_read}
+use Rattle.ncp_proof_follow_books.proofs.Besides.{front_none, rest_none}
 use Rattle.ncp_proof_follow.proofs.SameItems.{Followed, item_followed}
-use Rattle.ncp_proof_follow.proofs.Placed.{Placed}
+use Rattle.ncp_proof_follow_books.proofs.Placed.{Placed}
 use Rattle.ncp_proof_follow.proofs.ControlComes.{AtHost, from_peer, their_talk, heard, command_after}
 
 awaits_after : (c : Command) (s : Echoes) → (echoes_after c s).awaited ≡ awaited_after c s.awaited
@@ -77,7 +77,7 @@ hears_good q Command.Rst p k = none-good
 hears_good q Command.Rrp p k = k
 hears_good q c p k = good_where (up p.phase) (hears_other q c p) p (kept_good (up (phase_hears c (reaction q c p) p.phase)) (map_after_at p.ends (leads_to c p.ends) (hear c p.ends)) (command_good c p.ends k)) k
 
-module _ (number me n : ℕ) (busy : Option ℕ) (zero : Bool) (kept : List Kept) (roomy : (i : ℕ) → nat_lt i MAX_BOOKS ≡ true → nat_lt i MAX_LIVES ≡ true) where
+module _ (number me n : ℕ) (busy : Option ℕ) (zero : Bool) (kept : List Kept) (roomy : (i : ℕ) → nat_lt i MAX_BOOKS ≡ true → nat_lt i MAX_TRACKS ≡ true) where
   heard_tells : (c : Command) (p : Peer) (b : SeenBooks) → Good p.ends → ProperEnds p.ends → LeavingBusy me n p.ends kept → Tidy b → is_other c ≡ true → CommandTells me n busy zero kept c p b
   heard_tells c p b good sexes leaving tidy o u full room t =
       subst (λ (x : Bool). Tells me n (map_after_at p.ends (leads_to c p.ends) (hear c p.ends)) x (p.phase.waiting ++ (made_by_hearing (answer (hear c p.ends)) ++ echo_replies c)) (books_after_command (their_talk number me n busy zero kept roomy) kept c b)) (sym (awaits_after c p.echoes))

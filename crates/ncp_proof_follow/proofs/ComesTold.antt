@@ -36,21 +36,21 @@ use Rattle.ncp_umpire.specs.Judged.{next_number, sees, view_of, knows_zero, judg
 use Rattle.ncp_follow.specs.declared.follower.Follower.{Follower}
 use Rattle.ncp_follow.specs.declared.session.Session.{Session}
 use Rattle.ncp_follow.specs.declared.tables.Tables.{Tables}
-use Rattle.ncp_follow.specs.declared.turn.Turn as told
+use Rattle.ncp_follow.specs.declared.sighting.Sighting.{Sighting}
 use Rattle.ncp_follow.specs.Sessions.{session_of}
-use Rattle.ncp_follow.specs.Followed.{followed_reading, read_tables, follower_after_said, follower_after_record}
+use Rattle.ncp_follow.specs.Followed.{payload_in, read_tables, follower_after_said, follower_after_record}
 use Rattle.ncp_proof_umpire.proofs.Fresh.{sees_busy}
 use Rattle.ncp_proof_umpire.proofs.Linked.{coming_keeps}
 use Rattle.ncp_proof_umpire.proofs.PhaseSteps.{Stands}
 use Rattle.ncp_proof_umpire.proofs.PhaseSeen.{Seen}
 use Rattle.ncp_proof_umpire.proofs.Shown.{Shows}
-use Rattle.ncp_proof_umpire_counts.proofs.BooksRecord.{in_books}
+use Rattle.ncp_proof_umpire_owes.proofs.BooksRecord.{in_books}
 use Rattle.ncp_proof_umpire_seen.proofs.TidyBooks.{Tidy}
 use Rattle.ncp_proof_umpire_talk.proofs.Carries.{Carries}
 use Rattle.ncp_proof_umpire_talk.proofs.CarriesOn.{quiet_tells}
 use Rattle.ncp_proof_umpire_talk.proofs.ShowsKept.{shows_busy}
 use Rattle.ncp_proof_umpire_talk.proofs.Spoken.{Spoken}
-use Rattle.ncp_proof_umpire_talk.proofs.SpokenOut as outs
+use Rattle.ncp_proof_umpire_talk.proofs.SpokenOut
 use Rattle.ncp_proof_umpire_talk.proofs.TalkWalk.{sound_of, numbered_spoken}
 use Rattle.ncp_proof_umpire_many.proofs.AsRead.{control_of}
 use Rattle.ncp_proof_umpire_many.proofs.Between.{Written, written, comes_led}
@@ -58,15 +58,15 @@ use Rattle.ncp_proof_umpire_many.proofs.Both
 use Rattle.ncp_proof_umpire_many.proofs.Coming.{Control, control, Text, a_text}
 use Rattle.ncp_proof_umpire_whole.proofs.Parleys.{Known, turn_known}
 use Rattle.ncp_proof_follow.proofs.SameItems.{Followed, NoneBetween}
-use Rattle.ncp_proof_follow.proofs.SameSessions.{few_room}
+use Rattle.ncp_proof_follow_books.proofs.SameSessions.{few_room}
 use Rattle.ncp_proof_follow.proofs.SameRecords.{Alike, came_alike, tables_in, unsaid_in, view_in_told, books_in}
-use Rattle.ncp_proof_follow.proofs.OpensSo.{AllOpened}
-use Rattle.ncp_proof_follow.proofs.Placed.{Placed}
+use Rattle.ncp_proof_follow_books.proofs.OpensSo.{AllOpened}
+use Rattle.ncp_proof_follow_books.proofs.Placed.{Placed}
 use Rattle.ncp_proof_follow.proofs.ControlComes.{AtHost}
 use Rattle.ncp_proof_follow.proofs.CameTold.{IsCovered, came_told}
 use Rattle.ncp_proof_follow.proofs.BothFollowed.{Beside, roomy, roomy_out, waits, b_a}
 
-module _ (w : Hosts) (u : Umpire) (k : Known w u) (unfull : u.full ≡ false) (room : u.books.full ≡ false) (number : ℕ) (f : Follower) (beside : Beside w.number_a w.number_b u f) (placed : Placed f.tables) (all : AllOpened f.tables.lives)
+module _ (w : Hosts) (u : Umpire) (k : Known w u) (unfull : u.full ≡ false) (room : u.books.full ≡ false) (number : ℕ) (f : Follower) (beside : Beside w.number_a w.number_b u f) (placed : Placed f.tables) (all : AllOpened f.tables.tracks)
     (covered : IsCovered u.books f.tables) (link : ℕ) (m : List Bool) (q : transit_of B link w ≡ Accepted m) (after_room : (after_record u FromImp w.number_a (from_host w.number_b m)).books.full ≡ false) (unfound : record_findings u FromImp w.number_a (from_host w.number_b m) ≡ [])
     (pasts : Pasts) where
   abbrev a : ℕ
@@ -115,7 +115,7 @@ module _ (w : Hosts) (u : Umpire) (k : Known w u) (unfull : u.full ≡ false) (r
   abbrev now : Tables
   now = (follower_after_record number false a bits f).tables
 
-  abbrev hearing : told.Turn
+  abbrev hearing : Sighting
   hearing = record { number = number; at = a; peer = b; sent = false }
 
   came : Alike a b A f × (length A.views ≡ VIEWS) × (A.full ≡ u.full) × (A.books.full ≡ u.books.full) × (awaits_reply (view_in A.views a b).host.wait ≡ true → NoneBetween a b A.books)
@@ -133,7 +133,7 @@ module _ (w : Hosts) (u : Umpire) (k : Known w u) (unfull : u.full ≡ false) (r
   stands : Stands st.peer (is_quiet st.slots) v
   stands = subst (λ (x : View). Stands st.peer (is_quiet st.slots) x) (sym kept_view) seen.stands
 
-  known : outs.Known a b st.peer v A.books
+  known : SpokenOut.Known a b st.peer v A.books
   known g = (
     subst (λ (x : View). Spoken a b st.peer x A.books) (sym kept_view)
         (subst (λ (x : SeenBooks). Spoken a b st.peer (view_in u.views a b) x) (sym books) (numbered_spoken a b st.peer (view_in u.views a b) u.books (k.1.talks_a.spoken unfull room b st (Both.there w u k.0)))),
@@ -153,13 +153,13 @@ module _ (w : Hosts) (u : Umpire) (k : Known w u) (unfull : u.full ≡ false) (r
   read_in : (x : Message) → message_in bits ≡ Ok x → x.leader.link ≡ link → is_unused x.leader.link ≡ false → ((x.leader.link == 0) ≡ true → (x.size == 8) ≡ true) → Comes link
   read_in x reads on used sized at =
       subst (λ (y : Tables). AtHost a b (message_after link bits (message_in bits) st) (pasts_after_message link bits (message_in bits) st pasts) y) (sym is)
-      (subst (λ (z : Result Message MessageFault). AtHost a b (message_after link bits z st) (pasts_after_message link bits z st pasts) (read_tables (followed_reading x) hearing x σ f.tables)) (sym reads)
-      (subst (λ (j : ℕ). AtHost a b (message_after j bits (Ok x) st) (pasts_after_message j bits (Ok x) st pasts) (read_tables (followed_reading x) hearing x σ f.tables)) on told_so))
+      (subst (λ (z : Result Message MessageFault). AtHost a b (message_after link bits z st) (pasts_after_message link bits z st pasts) (read_tables (payload_in x) hearing x σ f.tables)) (sym reads)
+      (subst (λ (j : ℕ). AtHost a b (message_after j bits (Ok x) st) (pasts_after_message j bits (Ok x) st pasts) (read_tables (payload_in x) hearing x σ f.tables)) on told_so))
     where
-      is : now ≡ read_tables (followed_reading x) hearing x σ f.tables
+      is : now ≡ read_tables (payload_in x) hearing x σ f.tables
       is =
           tables_in number a b k.0.joined.stand.fits_a k.0.joined.stand.fits_b roomy roomy_out link bits u f beside.this (b_a w u k unfull room number f beside) k.0.ways.sound.long (waits w u k unfull room number f beside) (λ e. few_room a b f.sessions beside.few) led
-          ∙ ap (λ (z : Result Message MessageFault). (follower_after_said hearing z f).tables) reads ∙ ap (λ (p : Bool). read_tables (followed_reading x) hearing x (session_of p f.sessions a b) f.tables) beside.this.part
+          ∙ ap (λ (z : Result Message MessageFault). (follower_after_said hearing z f).tables) reads ∙ ap (λ (p : Bool). read_tables (payload_in x) hearing x (session_of p f.sessions a b) f.tables) beside.this.part
 
       as_told : view_of A a b ≡ v
       as_told =
@@ -178,7 +178,7 @@ module _ (w : Hosts) (u : Umpire) (k : Known w u) (unfull : u.full ≡ false) (r
           (sym (books_in number a b k.0.joined.stand.fits_a k.0.joined.stand.fits_b roomy roomy_out link bits u f beside.this (b_a w u k unfull room number f beside) k.0.ways.sound.long (waits w u k unfull room number f beside) (λ e. few_room a b f.sessions beside.few) led x reads))
           ∙ after_room)
 
-      told_so : AtHost a b (message_after x.leader.link bits (Ok x) st) (pasts_after_message x.leader.link bits (Ok x) st pasts) (read_tables (followed_reading x) hearing x σ f.tables)
+      told_so : AtHost a b (message_after x.leader.link bits (Ok x) st) (pasts_after_message x.leader.link bits (Ok x) st pasts) (read_tables (payload_in x) hearing x σ f.tables)
       told_so =
           (came_told number a b (busy_link a b A.kept) (knows_zero A a b) A.kept roomy x st pasts v A.books σ f.tables stands (Both.is_ready w u k.0).fine.good (record { proper = held.proper; sexes = held.sexes; busy = held.busy; leaving = held.leaving }) known follows placed (came.3 ∙ room) at
           (sees_busy a b A.kept st shown seen.used) (quiet_tells st.slots seen.used) (shows_busy a b A.kept st.slots shown) (sound_of st (is_quiet st.slots) (view_in u.views a b) held seen.stands) bits used sized all covered_in none full).0

@@ -11,7 +11,7 @@ use Rattle.ncp_terms.specs.declared.command.Command.{Command}
 use Rattle.ncp_slot.specs.Slots.{is_quiet}
 use Rattle.ncp_model.specs.declared.pair.Pair.{Pair}
 use Rattle.ncp_model.specs.Pairs.{pair_cmp, sends, receives, is_proper}
-use Rattle.ncp_model.specs.Pairs as pairs
+use Rattle.ncp_model.specs.Pairs
 use Rattle.ncp_model.specs.End.{End, is_live}
 use Rattle.ncp_model.specs.Ends.{Ends, leads_to}
 use Rattle.ncp_model.specs.Phase.{up}
@@ -30,19 +30,19 @@ use Rattle.ncp_umpire.specs.declared.life.Request.TheVariants.{Link, Size}
 use Rattle.ncp_umpire.specs.declared.view.View.{View}
 use Rattle.ncp_umpire.specs.Views.{awaits_reply}
 use Rattle.ncp_umpire.specs.Lives.{SeenBooks, is_of_sockets, life_in_place, life_found, life_of, place_with_sockets, unasked_life}
-use Rattle.ncp_follow.specs.declared.life.Life as followed
-use Rattle.ncp_follow.specs.declared.lives.TheConstants.{MAX_LIVES}
+use Rattle.ncp_follow.specs.declared.track.Track.{Track}
+use Rattle.ncp_follow.specs.declared.tracks.TheConstants.{MAX_TRACKS}
 use Rattle.ncp_follow.specs.declared.session.Session.{Session}
 use Rattle.ncp_follow.specs.declared.tables.Tables.{Tables}
-use Rattle.ncp_follow.specs.Lives.{new_life, has_requested, life_at}
+use Rattle.ncp_follow.specs.Tracks.{new_track, has_chosen, track_at}
 use Rattle.ncp_follow.specs.Tables.{pair_place}
-use Rattle.ncp_proof_follow.proofs.Besides.{besides_at}
-use Rattle.ncp_proof_follow.proofs.SameLives.{SameLife, SameLives, request_as, requested_is, place_same}
-use Rattle.ncp_proof_follow.proofs.SameAsked.{AskedRight}
-use Rattle.ncp_proof_follow.proofs.SameCommands.{Same}
-use Rattle.ncp_proof_follow.proofs.TextsAt.{text_at}
-use Rattle.ncp_proof_follow.proofs.Placed.{Name, has_name, named, place_in, text_named, Placed}
-use Rattle.ncp_proof_follow.proofs.PlacedSteps.{unopened}
+use Rattle.ncp_proof_follow_books.proofs.Besides.{besides_at}
+use Rattle.ncp_proof_follow_books.proofs.SameLives.{SameLife, SameLives, choice_as, requested_is, place_same}
+use Rattle.ncp_proof_follow_books.proofs.SameAsked.{AskedRight}
+use Rattle.ncp_proof_follow_books.proofs.SameCommands.{Same}
+use Rattle.ncp_proof_follow_books.proofs.TextsAt.{text_at}
+use Rattle.ncp_proof_follow_books.proofs.Placed.{Name, has_name, named, place_in, text_named, Placed}
+use Rattle.ncp_proof_follow_books.proofs.PlacedSteps.{unopened}
 use Rattle.ncp_umpire.proofs.Firsts.{first, found_first, none_first}
 use Rattle.std.proofs.Math.Bool.{beq}
 use Rattle.ncp_umpire.specs.declared.finding.Finding.{Finding}
@@ -60,10 +60,10 @@ use Rattle.ncp_umpire.proofs.LinkOrder.{about}
 use Rattle.ncp_umpire.proofs.Seeing.{of_life, seen}
 use Rattle.ncp_model.specs.Phase.{Phase, is_other}
 use Rattle.ncp_follow.specs.declared.connection.End.TheVariants.{ReplyCame}
-use Rattle.ncp_follow.specs.declared.request.Request as asked
-use Rattle.ncp_follow.specs.declared.request.Request.TheVariants as ask
-use Rattle.ncp_follow.specs.declared.turn.Turn as told
-use Rattle.ncp_follow.specs.Lives.{is_pair}
+use Rattle.ncp_follow.specs.declared.choice.Choice.{Choice}
+use Rattle.ncp_follow.specs.declared.choice.Choice.{Choice}
+use Rattle.ncp_follow.specs.declared.sighting.Sighting.{Sighting}
+use Rattle.ncp_follow.specs.Tracks.{is_pair}
 use Rattle.ncp_follow.specs.Sessions.{is_heard}
 use Rattle.ncp_follow.specs.Tables.{link_place, after_request, is_right, is_of_receiver, after_asking, closed_at, after_clearing}
 use Rattle.ncp_follow.specs.Followed.{after_command, heard_after, end_of_reset, ends_reset, tables_after}
@@ -75,12 +75,12 @@ use Rattle.ncp_proof_umpire_seen.proofs.SeenBooks.{life_seen, is_resting}
 use Rattle.ncp_proof_umpire_seen.proofs.Proper.{ProperEnds}
 use Rattle.ncp_proof_umpire_talk.proofs.Spoken.{Tells}
 use Rattle.ncp_proof_umpire_whole.proofs.NeverRests.{IsThing, by_kind, none_early}
-use Rattle.ncp_proof_follow.proofs.Besides.{front_none, rest_none}
-use Rattle.ncp_proof_follow.proofs.SameAsked.{asked_right}
+use Rattle.ncp_proof_follow_books.proofs.Besides.{front_none, rest_none}
+use Rattle.ncp_proof_follow_books.proofs.SameAsked.{asked_right}
 use Rattle.ncp_proof_follow.proofs.SameItems.{Followed, heard_is}
-use Rattle.ncp_proof_follow.proofs.Calmly.{none_rests}
-use Rattle.ncp_proof_follow.proofs.Placed.{Stays, stays_same}
-use Rattle.ncp_proof_follow.proofs.PlacedSteps.{after_request_stays, IsOver, ClosedSo, closed_so, granted_stays, returned_stays, cleared_so}
+use Rattle.ncp_proof_follow_books.proofs.Calmly.{none_rests}
+use Rattle.ncp_proof_follow_books.proofs.Placed.{Stays, stays_same}
+use Rattle.ncp_proof_follow_books.proofs.PlacedSteps.{after_request_stays, IsOver, ClosedSo, closed_so, granted_stays, returned_stays, cleared_so}
 use Rattle.ncp_proof_follow.proofs.HostMeets.{NamedBoth, Neither, Each, named_both}
 use Rattle.ncp_proof_follow.proofs.PeerLives.{SoundAll, is_mine, is_request_of, rst_clears, cls_over}
 use Rattle.ncp_proof_follow.proofs.HostLives.{heard_lives}
@@ -123,7 +123,7 @@ still_told me n s now pasts then_pasts t then_tables given asked lives stays ane
 
 -- ---- a request that is right: nothing was told of its connection
 
-pub asked_silent : (number at peer : ℕ) (sent : Bool) (local remote : ℕ) (right : Bool) (c : Command) (request : Request) (b : SeenBooks) (t : Tables) → SameLives b.lives t.lives → Placed t → AskedRight number at peer sent c local remote right request b
+pub asked_silent : (number at peer : ℕ) (sent : Bool) (local remote : ℕ) (right : Bool) (c : Command) (request : Request) (b : SeenBooks) (t : Tables) → SameLives b.lives t.tracks → Placed t → AskedRight number at peer sent c local remote right request b
     → text_named (record { at = at; peer = peer; pair = record { local = local; remote = remote } }) t ≡ []
 asked_silent number at peer sent local remote right c request b t same placed k = go (place_with_sockets at peer local remote b.lives) refl
   where
@@ -131,15 +131,15 @@ asked_silent number at peer sent local remote right c request b t same placed k 
     name = record { at = at; peer = peer; pair = record { local = local; remote = remote } }
 
     go : (o : Option ℕ) → place_with_sockets at peer local remote b.lives ≡ o → text_named name t ≡ []
-    go None e = ap (λ (o : Option followed.Life). text_at t.told (place_in o)) (none_first (has_name name) t.lives (place_same at peer local remote b.lives t.lives same ∙ e))
+    go None e = ap (λ (o : Option Track). text_at t.told (place_in o)) (none_first (has_name name) t.tracks (place_same at peer local remote b.lives t.tracks same ∙ e))
     go (Some p) e =
-        let there : pair_place at peer local remote t.lives ≡ Some p = place_same at peer local remote b.lives t.lives same ∙ e in
-        let inside = position-Some (has_name name) t.lives p (new_life 0 0 0 0) there in
-        let one : SameLife (life_in_place b.lives p) (life_at t.lives p) = besides_at SameLife b.lives t.lives p (unasked_life 0 0 0 0) (new_life 0 0 0 0) (position-Some (is_of_sockets at peer local remote) b.lives p (unasked_life 0 0 0 0) e).0 same in
+        let there : pair_place at peer local remote t.tracks ≡ Some p = place_same at peer local remote b.lives t.tracks same ∙ e in
+        let inside = position-Some (has_name name) t.tracks p (new_track 0 0 0 0) there in
+        let one : SameLife (life_in_place b.lives p) (track_at t.tracks p) = besides_at SameLife b.lives t.tracks p (unasked_life 0 0 0 0) (new_track 0 0 0 0) (position-Some (is_of_sockets at peer local remote) b.lives p (unasked_life 0 0 0 0) e).0 same in
         let may = k.may (life_in_place b.lives p) (ap (life_found b.lives) e) in
-        let unasked : has_requested (life_at t.lives p) (request_as request) ≡ false = requested_is (life_in_place b.lives p) (life_at t.lives p) request one ∙ may.1 in
-        let unplaced : (life_at t.lives p).place ≡ None = unopened (record { number = number; at = at; peer = peer; sent = sent }) t placed p (request_as request) inside.0 unasked in
-        ap (λ (o : Option followed.Life). text_at t.told (place_in o)) (found_first (has_name name) t.lives p (new_life 0 0 0 0) there) ∙ ap (text_at t.told) unplaced
+        let unasked : has_chosen (track_at t.tracks p) (choice_as request) ≡ false = requested_is (life_in_place b.lives p) (track_at t.tracks p) request one ∙ may.1 in
+        let unplaced : (track_at t.tracks p).place ≡ None = unopened (record { number = number; at = at; peer = peer; sent = sent }) t placed p (choice_as request) inside.0 unasked in
+        ap (λ (o : Option Track). text_at t.told (place_in o)) (found_first (has_name name) t.tracks p (new_track 0 0 0 0) there) ∙ ap (text_at t.told) unplaced
 
 -- a host that is up waits for no reply
 unwaiting : (p : Phase) → up p ≡ true → p.wait ≡ false
@@ -151,7 +151,7 @@ abbrev pub pair_with : ℕ → ℕ → Pair
 pair_with local remote = record { local = local; remote = remote }
 
 -- who is named has the name
-pub first_named : (name : Name) (lives : List followed.Life) (life : followed.Life) → named name lives ≡ Some life → has_name name life ≡ true
+pub first_named : (name : Name) (lives : List Track) (life : Track) → named name lives ≡ Some life → has_name name life ≡ true
 first_named name [] life e = absurd (cc e)
 first_named name (x ∷ lives) life e = go (has_name name x) refl e (λ f. first_named name lives life f)
   where
@@ -159,7 +159,7 @@ first_named name (x ∷ lives) life e = go (has_name name x) refl e (λ f. first
     go true h e rest = let is : x ≡ life = cc e in ap (has_name name) (sym is) ∙ h
     go false h e rest = rest e
 
-pub its_pair : (at peer : ℕ) (q : Pair) (local remote : ℕ) (life : followed.Life) → is_pair at peer q.local q.remote life ≡ true → is_pair at peer local remote life ≡ true → q ≡ record { local = local; remote = remote }
+pub its_pair : (at peer : ℕ) (q : Pair) (local remote : ℕ) (life : Track) → is_pair at peer q.local q.remote life ≡ true → is_pair at peer local remote life ≡ true → q ≡ record { local = local; remote = remote }
 its_pair at peer q local remote life e f =
     let a = and_parts (life.at == at && life.peer == peer && life.local == q.local) (life.remote == q.remote) e in
     let c = and_parts (life.at == at && life.peer == peer) (life.local == q.local) a.0 in
@@ -181,8 +181,8 @@ none_between at peer q (l ∷ lives) e = go (l.at == at) (l.peer == peer) e (non
 -- ---- an end that the host left, as it is seen: it is left
 
 module _ (me n : ℕ) (m : Ends) (awaited : Bool) (w : List Command) (b : SeenBooks) (t : Tables) (tells : Tells me n m awaited w b) (same : Same b t) where
-  pub left_there : (q : Pair) (x : followed.Life) → named (record { at = me; peer = n; pair = q }) t.lives ≡ Some x → x.host_left ≡ true → (e : End) × ((get m q ≡ Some e) × (e.left ≡ true))
-  left_there q x f l = go (named_both me n q b.lives t.lives same.lives)
+  pub left_there : (q : Pair) (x : Track) → named (record { at = me; peer = n; pair = q }) t.tracks ≡ Some x → x.host_left ≡ true → (e : End) × ((get m q ≡ Some e) × (e.left ≡ true))
+  left_there q x f l = go (named_both me n q b.lives t.tracks same.lives)
     where
       by : (s : Shape) (qs : List Say) (o : Option End) → s.left ≡ true → Agrees qs (kept (sends q) o) (Some s) → (e : End) × ((o ≡ Some e) × (e.left ≡ true))
       by s [] None sl a = absurd (cc a)
@@ -195,25 +195,25 @@ module _ (me n : ℕ) (m : Ends) (awaited : Bool) (w : List Command) (b : SeenBo
           off x false e = absurd (cc e)
       by s (Leave ∷ qs) o sl (r, a) = let nay : false ≡ true = sym (ap not sl) ∙ r in absurd (cc nay)
 
-      go : NamedBoth (life_seen me n b (q.local, q.remote)) (named (record { at = me; peer = n; pair = q }) t.lives) → (e : End) × ((get m q ≡ Some e) × (e.left ≡ true))
+      go : NamedBoth (life_seen me n b (q.local, q.remote)) (named (record { at = me; peer = n; pair = q }) t.tracks) → (e : End) × ((get m q ≡ Some e) × (e.left ≡ true))
       go (Neither y z) = let nay : Some x ≡ None = sym f ∙ z in absurd (cc nay)
       go (Each u z lived told one) =
           let is : x ≡ z = cc (sym f ∙ told) in
-          let left : (of_life u).left ≡ true = sym one.host_left ∙ ap (λ (v : followed.Life). v.host_left) (sym is) ∙ l in
+          let left : (of_life u).left ≡ true = sym one.host_left ∙ ap (λ (v : Track). v.host_left) (sym is) ∙ l in
           by (of_life u) (about (q.local, q.remote) (all_says w)) (get m q) left
           (subst (λ (o : Option Life). Agrees (about (q.local, q.remote) (all_says w)) (kept_of m (q.local, q.remote)) (seen o)) lived
           (tells.meets.tally.pairs (q.local, q.remote) (ap is_resting lived ∙ one.awake)))
 
 -- ---- one command of the peer
 
-module _ (number me n : ℕ) (busy : Option ℕ) (zero : Bool) (kept : List Kept) (roomy : (i : ℕ) → nat_lt i MAX_BOOKS ≡ true → nat_lt i MAX_LIVES ≡ true) where
+module _ (number me n : ℕ) (busy : Option ℕ) (zero : Bool) (kept : List Kept) (roomy : (i : ℕ) → nat_lt i MAX_BOOKS ≡ true → nat_lt i MAX_TRACKS ≡ true) where
   abbrev pub from_peer : Turn
   from_peer = record { by = n; sent = false; busy = busy; zero = zero }
 
   abbrev pub their_talk : Talk
   their_talk = record { at = me; peer = n; sent = false }
 
-  abbrev pub heard : told.Turn
+  abbrev pub heard : Sighting
   heard = record { number = number; at = me; peer = n; sent = false }
 
   module _ (s : PeerState) (pasts : Pasts) (v : View) (b : SeenBooks) (σ : Session) (t : Tables) (k : Followed me n v b σ t) (placed : Placed t) (good : Good s.peer.ends) (proper : ProperEnds s.peer.ends) (stands : Stands s.peer (is_quiet s.slots) v)
@@ -242,13 +242,13 @@ module _ (number me n : ℕ) (busy : Option ℕ) (zero : Bool) (kept : List Kept
         anew : (q : Pair) → is_live (get s.peer.ends q) ≡ false → is_live (get (state_hears Command.Rrp s).peer.ends q) ≡ true → (x : List Bool) → x ≡ []
         anew q a l x = let nay : false ≡ true = sym a ∙ l in absurd (cc nay)
 
-        none_named : σ.host_waits ≡ true → (q : Pair) → named (record { at = me; peer = n; pair = q }) t.lives ≡ None
-        none_named w q = by (named_both me n q b.lives t.lives k.same.lives)
+        none_named : σ.host_waits ≡ true → (q : Pair) → named (record { at = me; peer = n; pair = q }) t.tracks ≡ None
+        none_named w q = by (named_both me n q b.lives t.tracks k.same.lives)
           where
             empty : first (is_of_sockets me n q.local q.remote) b.lives ≡ None
             empty = none_between me n q b.lives (k.none (sym k.touch.host_waits ∙ w))
 
-            by : NamedBoth (first (is_of_sockets me n q.local q.remote) b.lives) (named (record { at = me; peer = n; pair = q }) t.lives) → named (record { at = me; peer = n; pair = q }) t.lives ≡ None
+            by : NamedBoth (first (is_of_sockets me n q.local q.remote) b.lives) (named (record { at = me; peer = n; pair = q }) t.tracks) → named (record { at = me; peer = n; pair = q }) t.tracks ≡ None
             by (Neither e f) = f
             by (Each l x e f one) = let nay : None ≡ Some l = sym empty ∙ e in absurd (cc nay)
 
@@ -257,7 +257,7 @@ module _ (number me n : ℕ) (busy : Option ℕ) (zero : Bool) (kept : List Kept
         go true e =
             let cleared = cleared_so heard t placed ReplyCame in (
               still_told me n s (state_hears Command.Rrp s) pasts pasts t (on true) (λ q. []) (λ q. false) (λ q. lives Command.Rrp q)
-                  (λ q a l. cleared.none (record { at = me; peer = n; pair = q }) (rw (eq-eqb me me refl, eq-eqb n n refl) refl) ∙ sym (ap (λ (o : Option followed.Life). text_at t.told (place_in o)) (none_named e q)))
+                  (λ q a l. cleared.none (record { at = me; peer = n; pair = q }) (rw (eq-eqb me me refl, eq-eqb n n refl) refl) ∙ sym (ap (λ (o : Option Track). text_at t.told (place_in o)) (none_named e q)))
                   (λ q a l. anew q a l (text_named (record { at = me; peer = n; pair = q }) (on true))) at,
               cleared.placed,
             )
@@ -292,7 +292,7 @@ module _ (number me n : ℕ) (busy : Option ℕ) (zero : Bool) (kept : List Kept
 
     none_asked : (q : Pair) (o : Option Pair) → is_mine q o false ≡ false
     none_asked q None = refl
-    none_asked q (Some p) = off (pairs.same q p)
+    none_asked q (Some p) = off (Pairs.same q p)
       where
         off : (x : Bool) → (x && false) ≡ false
         off true = refl
@@ -319,13 +319,13 @@ module _ (number me n : ℕ) (busy : Option ℕ) (zero : Bool) (kept : List Kept
           (λ q a l. stays.texts (record { at = me; peer = n; pair = q }))
           (λ q a l.
           let begins : is_mine q (leads_to c s.peer.ends) (is_request_of c) ≡ true = (lives c q).begins a l in
-          let mine : pairs.same q (record { local = local; remote = remote }) ≡ true = (and_parts (pairs.same q (record { local = local; remote = remote })) (is_request_of c) (sym (ap (λ (o : Option Pair). is_mine q o (is_request_of c)) leads) ∙ begins)).0 in
+          let mine : Pairs.same q (record { local = local; remote = remote }) ≡ true = (and_parts (Pairs.same q (record { local = local; remote = remote })) (is_request_of c) (sym (ap (λ (o : Option Pair). is_mine q o (is_request_of c)) leads) ∙ begins)).0 in
           stays.texts (record { at = me; peer = n; pair = q }) ∙ ap (λ (x : Pair). text_named (record { at = me; peer = n; pair = x }) t) (same_pair q local remote mine) ∙ silent)
           at,
       stays.placed,
     )
       where
-        same_pair : (q : Pair) (local remote : ℕ) → pairs.same q (record { local = local; remote = remote }) ≡ true → q ≡ record { local = local; remote = remote }
+        same_pair : (q : Pair) (local remote : ℕ) → Pairs.same q (record { local = local; remote = remote }) ≡ true → q ≡ record { local = local; remote = remote }
         same_pair q local remote e =
             let parts = and_parts (q.local == local) (q.remote == remote) e in
             ap (λ (x : ℕ). pair_with x q.remote) (eqb-true q.local local parts.0) ∙ ap (λ (x : ℕ). pair_with local x) (eqb-true q.remote remote parts.1)
@@ -335,10 +335,10 @@ module _ (number me n : ℕ) (busy : Option ℕ) (zero : Bool) (kept : List Kept
     cls_after my your u = unasked_after (Command.Cls my your) now refl so.placed (λ q a l. by q l (so.each (record { at = me; peer = n; pair = q })))
       where
         now : Tables
-        now = closed_at heard t (pair_place me n your my t.lives)
+        now = closed_at heard t (pair_place me n your my t.tracks)
 
         so : ClosedSo heard t placed your my now
-        so = closed_so heard t placed your my (pair_place me n your my t.lives) refl
+        so = closed_so heard t placed your my (pair_place me n your my t.tracks) refl
 
         by : (q : Pair) → is_live (get (state_hears (Command.Cls my your) s).peer.ends q) ≡ true
             → (text_named (record { at = me; peer = n; pair = q }) now ≡ text_named (record { at = me; peer = n; pair = q }) t) ⊎ IsOver heard t placed your my (record { at = me; peer = n; pair = q }) now
@@ -346,9 +346,9 @@ module _ (number me n : ℕ) (busy : Option ℕ) (zero : Bool) (kept : List Kept
         by q l (inl e) = e
         by q l (inr over) =
             let name : Name = record { at = me; peer = n; pair = q } in
-            let its = first_named name t.lives over.life over.was in
-            let is : q ≡ record { local = your; remote = my } = its_pair me n q your my over.life its over.pair in
-            let there = left_there me n s.peer.ends s.peer.echoes.awaited s.peer.phase.waiting b t (tells u) k.same q over.life over.was over.other_left in
+            let its = first_named name t.tracks over.track over.was in
+            let is : q ≡ record { local = your; remote = my } = its_pair me n q your my over.track its over.pair in
+            let there = left_there me n s.peer.ends s.peer.echoes.awaited s.peer.phase.waiting b t (tells u) k.same q over.track over.was over.other_left in
             let e : End = there.0 in
             let at_it : get s.peer.ends (record { local = your; remote = my }) ≡ Some e = ap (get s.peer.ends) (sym is) ∙ there.1.0 in
             let right : is_proper (record { local = your; remote = my }) ≡ true = proper (record { local = your; remote = my }) (ap is_some at_it) in
@@ -402,11 +402,11 @@ module _ (number me n : ℕ) (busy : Option ℕ) (zero : Bool) (kept : List Kept
             by : (o : Option ℕ) → place_with_sockets me n local remote b.lives ≡ o → life_found b.lives o ≡ Some life → life.rests ≡ false
             by None p f = absurd (cc f)
             by (Some p) q f =
-                let one : SameLife (life_in_place b.lives p) (life_at t.lives p) =
-                besides_at SameLife b.lives t.lives p (unasked_life 0 0 0 0) (new_life 0 0 0 0) (position-Some (is_of_sockets me n local remote) b.lives p (unasked_life 0 0 0 0) q).0 k.same.lives in
+                let one : SameLife (life_in_place b.lives p) (track_at t.tracks p) =
+                besides_at SameLife b.lives t.tracks p (unasked_life 0 0 0 0) (new_track 0 0 0 0) (position-Some (is_of_sockets me n local remote) b.lives p (unasked_life 0 0 0 0) q).0 k.same.lives in
                 let same : life_in_place b.lives p ≡ life = cc f in ap (λ (x : Life). x.rests) (sym same) ∙ one.awake
 
-    asking_stays : (receive send : ℕ) (request : asked.Request) → Stays t (after_asking heard receive send request t)
+    asking_stays : (receive send : ℕ) (request : Choice) → Stays t (after_asking heard receive send request t)
     asking_stays receive send request = go (is_right receive send request) (beq (is_of_receiver request) false)
       where
         go : (x y : Bool) → Stays t (if not x then t else if y then after_request heard receive send request t else after_request heard send receive request t)
@@ -471,17 +471,17 @@ module _ (number me n : ℕ) (busy : Option ℕ) (zero : Bool) (kept : List Kept
         thing (Command.Eco x) i e = idle_after (Command.Eco x) Thing.Eco i (found_parts (Command.Eco x) Thing.Eco e) refl refl
         thing (Command.Erp x) i e = idle_after (Command.Erp x) Thing.Erp i (found_parts (Command.Erp x) Thing.Erp e) refl refl
         thing (Command.Err x y) i e = idle_after (Command.Err x y) Thing.Err i (found_parts (Command.Err x y) Thing.Err e) refl refl
-        thing (Command.All x y z) i e = kept_after (Command.All x y z) Thing.All i (found_parts (Command.All x y z) Thing.All e) refl (granted_stays heard t placed true x y z (link_place me n true x t.lives) refl)
-        thing (Command.Ret x y z) i e = kept_after (Command.Ret x y z) Thing.Ret i (found_parts (Command.Ret x y z) Thing.Ret e) refl (returned_stays heard t placed false x y z (link_place me n false x t.lives) refl)
-        thing (Command.Cls x y) i e = thing_after (Command.Cls x y) Thing.Cls i (found_parts (Command.Cls x y) Thing.Cls e) (λ u r. cls_after x y u) (closed_so heard t placed y x (pair_place me n y x t.lives) refl).placed
+        thing (Command.All x y z) i e = kept_after (Command.All x y z) Thing.All i (found_parts (Command.All x y z) Thing.All e) refl (granted_stays heard t placed true x y z (link_place me n true x t.tracks) refl)
+        thing (Command.Ret x y z) i e = kept_after (Command.Ret x y z) Thing.Ret i (found_parts (Command.Ret x y z) Thing.Ret e) refl (returned_stays heard t placed false x y z (link_place me n false x t.tracks) refl)
+        thing (Command.Cls x y) i e = thing_after (Command.Cls x y) Thing.Cls i (found_parts (Command.Cls x y) Thing.Cls e) (λ u r. cls_after x y u) (closed_so heard t placed y x (pair_place me n y x t.tracks) refl).placed
         thing (Command.Rts receive send link) i e =
-            let st = asking_stays receive send (ask.Link link) in
+            let st = asking_stays receive send (Choice.Link link) in
             thing_after (Command.Rts receive send link) Thing.Rts i (found_parts (Command.Rts receive send link) Thing.Rts e)
             (λ u r. asked_after (Command.Rts receive send link) send receive (after_command heard (Command.Rts receive send link) t) refl refl st
             (asked_silent number me n false send receive (is_of_sexes receive send) (Command.Rts receive send link) (Link link) b t k.same.lives placed (asked_rule (Command.Rts receive send link) send receive (is_of_sexes receive send) (Link link) r)))
             st.placed
         thing (Command.Str send receive size) i e =
-            let st = asking_stays receive send (ask.Size size) in
+            let st = asking_stays receive send (Choice.Size size) in
             thing_after (Command.Str send receive size) Thing.Str i (found_parts (Command.Str send receive size) Thing.Str e)
             (λ u r. asked_after (Command.Str send receive size) receive send (after_command heard (Command.Str send receive size) t) refl refl st
             (asked_silent number me n false receive send (is_of_sexes receive send) (Command.Str send receive size) (Size size) b t k.same.lives placed (asked_rule (Command.Str send receive size) receive send (is_of_sexes receive send) (Size size) r)))

@@ -9,18 +9,18 @@ use Rattle.ncp_model.specs.End.{is_live}
 use Rattle.ncp_model.specs.Ends.{Ends}
 use Rattle.ncp_umpire.proofs.LinkOrder.{Sockets, same, about}
 use Rattle.ncp_umpire.proofs.Shapes.{Say, Ask, Leave}
-use Rattle.ncp_follow.specs.declared.life.Life.{Life}
+use Rattle.ncp_follow.specs.declared.track.Track.{Track}
 use Rattle.ncp_follow.specs.declared.session.Session.{Session}
 use Rattle.ncp_follow.specs.declared.tables.Tables.{Tables}
-use Rattle.ncp_follow.specs.declared.turn.Turn.{Turn}
-use Rattle.ncp_follow.specs.declared.request.Request.{Request}
+use Rattle.ncp_follow.specs.declared.sighting.Sighting.{Sighting}
+use Rattle.ncp_follow.specs.declared.choice.Choice.{Choice}
 use Rattle.ncp_follow.specs.Sessions.{is_heard}
 use Rattle.ncp_follow.specs.Tables.{pair_place, link_place, after_request, is_right, is_of_receiver, after_asking, closed_at}
 use Rattle.ncp_follow.specs.Followed.{after_command, heard_after, end_of_reset, tables_after, tables_after_all, session_after}
 use Rattle.ncp_proof_umpire_seen.proofs.OwnMoves.{says_of, all_says}
-use Rattle.ncp_proof_follow.proofs.Placed.{Name, named, text_named, Placed, Stays, stays_same}
-use Rattle.ncp_proof_follow.proofs.PlacedSteps.{after_request_stays, IsOver, ClosedSo, closed_so, granted_stays, returned_stays, cleared_so, cleared_named}
-use Rattle.ncp_proof_follow.proofs.LeftsStay.{LeftsStay, lefts_same, command_lefts}
+use Rattle.ncp_proof_follow_books.proofs.Placed.{Name, named, text_named, Placed, Stays, stays_same}
+use Rattle.ncp_proof_follow_books.proofs.PlacedSteps.{after_request_stays, IsOver, ClosedSo, closed_so, granted_stays, returned_stays, cleared_so, cleared_named}
+use Rattle.ncp_proof_follow_books.proofs.LeftsStay.{LeftsStay, lefts_same, command_lefts}
 use Rattle.ncp_proof_follow.proofs.HostMeets.{leaves_in}
 use Rattle.ncp_proof_follow.proofs.ControlComes.{first_named, its_pair}
 
@@ -55,7 +55,7 @@ cls_waits w my your (before, after, is) =
     here = subst (λ (b : Bool). leaves_in (if b then Leave ∷ about (my, your) (all_says after) else about (my, your) (all_says after)) ≡ true) (sym itself) refl
 
 module _ (number me n : ℕ) (m : Ends) (w : List Command) (start : Tables) where
-  abbrev pub saying : Turn
+  abbrev pub saying : Sighting
   saying = record { number = number; at = me; peer = n; sent = true }
 
   abbrev pub name : Pair → Name
@@ -63,60 +63,60 @@ module _ (number me n : ℕ) (m : Ends) (w : List Command) (start : Tables) wher
 
   -- an end that lives has heard; and none of which the other sent a CLS has one that waits
   abbrev pub NoneOver : Type 0
-  NoneOver = (q : Pair) (life : Life) → is_live (get m q) ≡ true → named (name q) start.lives ≡ Some life → life.peer_left ≡ true → leaves_in (about (q.local, q.remote) (all_says w)) ≡ true → ⊥
+  NoneOver = (q : Pair) (track : Track) → is_live (get m q) ≡ true → named (name q) start.tracks ≡ Some track → track.peer_left ≡ true → leaves_in (about (q.local, q.remote) (all_says w)) ≡ true → ⊥
 
   -- of each end that lives the text is as it was
   pub record GoneOut (t : Tables) : Type 0 where
     pub placed : Placed t
     pub texts : (q : Pair) → is_live (get m q) ≡ true → text_named (name q) t ≡ text_named (name q) start
-    pub lefts : LeftsStay false start.lives t.lives
+    pub lefts : LeftsStay false start.tracks t.tracks
 
   pub gone_begins : Placed start → GoneOut start
-  gone_begins p = record { placed = p; texts = λ q l. refl; lefts = lefts_same false start.lives }
+  gone_begins p = record { placed = p; texts = λ q l. refl; lefts = lefts_same false start.tracks }
 
-  lefts_then : (t now : Tables) → LeftsStay false start.lives t.lives → LeftsStay false t.lives now.lives → LeftsStay false start.lives now.lives
-  lefts_then t now k l j life e g = let was = l j life e g in k j was.life was.was was.gone
+  lefts_then : (t now : Tables) → LeftsStay false start.tracks t.tracks → LeftsStay false t.tracks now.tracks → LeftsStay false start.tracks now.tracks
+  lefts_then t now k l j track e g = let was = l j track e g in k j was.track was.was was.gone
 
   module _ (over : NoneOver) (reset_down : IsSaid w Command.Rst → (q : Pair) → is_live (get m q) ≡ false) where
-    asking_stays : (t : Tables) → Placed t → (receive send : ℕ) (request : Request) → Stays t (after_asking saying receive send request t)
-    asking_stays t p receive send request = go (is_right receive send request) (beq (is_of_receiver request) true)
+    asking_stays : (t : Tables) → Placed t → (receive send : ℕ) (choice : Choice) → Stays t (after_asking saying receive send choice t)
+    asking_stays t p receive send choice = go (is_right receive send choice) (beq (is_of_receiver choice) true)
       where
-        go : (x y : Bool) → Stays t (if not x then t else if y then after_request saying receive send request t else after_request saying send receive request t)
+        go : (x y : Bool) → Stays t (if not x then t else if y then after_request saying receive send choice t else after_request saying send receive choice t)
         go false y = stays_same t p
-        go true true = after_request_stays saying t p receive send request
-        go true false = after_request_stays saying t p send receive request
+        go true true = after_request_stays saying t p receive send choice
+        go true false = after_request_stays saying t p send receive choice
 
-    by_stays : (t now : Tables) → GoneOut t → Stays t now → LeftsStay false t.lives now.lives → GoneOut now
+    by_stays : (t now : Tables) → GoneOut t → Stays t now → LeftsStay false t.tracks now.tracks → GoneOut now
     by_stays t now k s l = record { placed = s.placed; texts = λ q a. s.texts (name q) ∙ k.texts q a; lefts = lefts_then t now k.lefts l }
 
     -- a CLS of the host
-    by_cls : (t : Tables) (my your : ℕ) → IsSaid w (Command.Cls my your) → GoneOut t → GoneOut (closed_at saying t (pair_place me n my your t.lives))
+    by_cls : (t : Tables) (my your : ℕ) → IsSaid w (Command.Cls my your) → GoneOut t → GoneOut (closed_at saying t (pair_place me n my your t.tracks))
     by_cls t my your said k = record { placed = so.placed; texts = λ q a. each q a (so.each (name q)) ∙ k.texts q a; lefts = lefts_then t now k.lefts (command_lefts saying t k.placed (Command.Cls my your)) }
       where
         now : Tables
-        now = closed_at saying t (pair_place me n my your t.lives)
+        now = closed_at saying t (pair_place me n my your t.tracks)
 
         so : ClosedSo saying t k.placed my your now
-        so = closed_so saying t k.placed my your (pair_place me n my your t.lives) refl
+        so = closed_so saying t k.placed my your (pair_place me n my your t.tracks) refl
 
         each : (q : Pair) → is_live (get m q) ≡ true → (text_named (name q) now ≡ text_named (name q) t) ⊎ IsOver saying t k.placed my your (name q) now → text_named (name q) now ≡ text_named (name q) t
         each q a (inl e) = e
         each q a (inr o) =
-            let was = k.lefts (name q) o.life o.was o.other_left in
-            let is : q ≡ record { local = my; remote = your } = its_pair me n q my your o.life (first_named (name q) t.lives o.life o.was) o.pair in
+            let was = k.lefts (name q) o.track o.was o.other_left in
+            let is : q ≡ record { local = my; remote = your } = its_pair me n q my your o.track (first_named (name q) t.tracks o.track o.was) o.pair in
             let waits : leaves_in (about (q.local, q.remote) (all_says w)) ≡ true = ap (λ (x : Pair). leaves_in (about (x.local, x.remote) (all_says w))) is ∙ cls_waits w my your said in
-            absurd (over q was.life a was.was was.gone waits)
+            absurd (over q was.track a was.was was.gone waits)
 
     obeyed : (t : Tables) (c : Command) → IsSaid w c → GoneOut t → GoneOut (after_command saying c t)
     obeyed t Command.Nop said k = k
-    obeyed t (Command.Rts receive send link) said k = by_stays t (after_command saying (Command.Rts receive send link) t) k (asking_stays t k.placed receive send (Request.Link link)) (command_lefts saying t k.placed (Command.Rts receive send link))
-    obeyed t (Command.Str send receive size) said k = by_stays t (after_command saying (Command.Str send receive size) t) k (asking_stays t k.placed receive send (Request.Size size)) (command_lefts saying t k.placed (Command.Str send receive size))
+    obeyed t (Command.Rts receive send link) said k = by_stays t (after_command saying (Command.Rts receive send link) t) k (asking_stays t k.placed receive send (Choice.Link link)) (command_lefts saying t k.placed (Command.Rts receive send link))
+    obeyed t (Command.Str send receive size) said k = by_stays t (after_command saying (Command.Str send receive size) t) k (asking_stays t k.placed receive send (Choice.Size size)) (command_lefts saying t k.placed (Command.Str send receive size))
     obeyed t (Command.Cls my your) said k = by_cls t my your said k
     obeyed t (Command.All link messages bits) said k =
-        by_stays t (after_command saying (Command.All link messages bits) t) k (granted_stays saying t k.placed false link messages bits (link_place me n false link t.lives) refl) (command_lefts saying t k.placed (Command.All link messages bits))
+        by_stays t (after_command saying (Command.All link messages bits) t) k (granted_stays saying t k.placed false link messages bits (link_place me n false link t.tracks) refl) (command_lefts saying t k.placed (Command.All link messages bits))
     obeyed t (Command.Gvb link fm fb) said k = k
     obeyed t (Command.Ret link messages bits) said k =
-        by_stays t (after_command saying (Command.Ret link messages bits) t) k (returned_stays saying t k.placed true link messages bits (link_place me n true link t.lives) refl) (command_lefts saying t k.placed (Command.Ret link messages bits))
+        by_stays t (after_command saying (Command.Ret link messages bits) t) k (returned_stays saying t k.placed true link messages bits (link_place me n true link t.tracks) refl) (command_lefts saying t k.placed (Command.Ret link messages bits))
     obeyed t (Command.Inr link) said k = k
     obeyed t (Command.Ins link) said k = k
     obeyed t (Command.Eco byte) said k = k
@@ -138,7 +138,7 @@ module _ (number me n : ℕ) (m : Ends) (w : List Command) (start : Tables) wher
         record {
           placed = so.placed;
           texts = λ q a. let nay : false ≡ true = sym (reset_down said q) ∙ a in absurd (cc nay);
-          lefts = λ j life e g. k.lefts j life (cleared_named saying t k.placed j life e) g;
+          lefts = λ j track e g. k.lefts j track (cleared_named saying t k.placed j track e) g;
         }
     item_goes t Command.Rrp σ said k = k
     item_goes t Command.Nop σ said k = heard_or_not t Command.Nop σ said k

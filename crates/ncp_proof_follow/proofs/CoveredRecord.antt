@@ -42,48 +42,48 @@ use Rattle.ncp_umpire.proofs.Passing.{to_host, goes_to}
 use Rattle.ncp_umpire.proofs.Following.{said_keeps, out_is, in_is, answer_is}
 use Rattle.ncp_follow.specs.declared.connection.End.TheVariants.{ReplyCame}
 use Rattle.ncp_follow.specs.declared.follower.Follower.{Follower}
-use Rattle.ncp_follow.specs.declared.lives.TheConstants.{MAX_LIVES}
-use Rattle.ncp_follow.specs.declared.saying.Reading as reads
+use Rattle.ncp_follow.specs.declared.tracks.TheConstants.{MAX_TRACKS}
+use Rattle.ncp_follow.specs.declared.saying.Payload.{Payload}
 use Rattle.ncp_follow.specs.declared.session.Session.{Session}
 use Rattle.ncp_follow.specs.declared.slots.TheConstants.{MAX_OUT}
 use Rattle.ncp_follow.specs.declared.tables.Tables.{Tables}
-use Rattle.ncp_follow.specs.declared.turn.Turn as told
+use Rattle.ncp_follow.specs.declared.sighting.Sighting.{Sighting}
 use Rattle.ncp_follow.specs.Sessions.{session_of, is_heard}
 use Rattle.ncp_follow.specs.Slots.{outs_with_message}
-use Rattle.ncp_follow.specs.Tables.{is_life_of, without, after_clearing, after_text}
-use Rattle.ncp_follow.specs.Followed.{after_command, end_of_reset, heard_after, tables_after, session_after, tables_after_all, read_tables, followed_reading, follower_after_said, follower_after_in, follower_after_answer, follower_after_read, follower_after_record}
+use Rattle.ncp_follow.specs.Tables.{is_track_of, without, after_clearing, after_text}
+use Rattle.ncp_follow.specs.Followed.{after_command, end_of_reset, heard_after, tables_after, session_after, tables_after_all, read_tables, payload_in, follower_after_said, follower_after_in, follower_after_answer, follower_after_read, follower_after_record}
 use Rattle.ncp_proof_umpire_seen.proofs.TidyBooks.{Tidy}
-use Rattle.ncp_proof_umpire_counts.proofs.BooksRead.{talk_reads, items_read}
-use Rattle.ncp_proof_umpire_counts.proofs.BooksRecord.{out_books, in_books, answer_books}
+use Rattle.ncp_proof_umpire_owes.proofs.BooksRead.{talk_reads, items_read}
+use Rattle.ncp_proof_umpire_owes.proofs.BooksRecord.{out_books, in_books, answer_books}
 use Rattle.ncp_proof_umpire_whole.proofs.NeverRests.{IsThing, by_kind, none_early}
 use Rattle.ncp_proof_umpire_whole.proofs.OwnBooks.{view_told}
-use Rattle.ncp_proof_follow.proofs.Besides.{Besides, besides_filter, besides_more, front_none, rest_none, map_none}
-use Rattle.ncp_proof_follow.proofs.SameLives.{SameLife, between_is}
-use Rattle.ncp_proof_follow.proofs.SameCommands.{Same}
+use Rattle.ncp_proof_follow_books.proofs.Besides.{Besides, besides_filter, besides_more, front_none, rest_none, map_none}
+use Rattle.ncp_proof_follow_books.proofs.SameLives.{SameLife, between_is}
+use Rattle.ncp_proof_follow_books.proofs.SameCommands.{Same}
 use Rattle.ncp_proof_follow.proofs.SameItems.{NoneBetween, Followed, heard_is, clears_so, none_over, item_followed}
-use Rattle.ncp_proof_follow.proofs.SameSessions.{IsRoom}
-use Rattle.ncp_proof_follow.proofs.SameReads.{reading_as, reading_is, HeardText, text_heard}
+use Rattle.ncp_proof_follow_books.proofs.SameSessions.{IsRoom}
+use Rattle.ncp_proof_follow.proofs.SameReads.{payload_as, reading_is, HeardText, text_heard}
 use Rattle.ncp_proof_follow.proofs.SameRecords.{Alike, alike_A, none_A, tables_out, came_alike}
-use Rattle.ncp_proof_follow.proofs.Covered.{OneCovered, Covered}
-use Rattle.ncp_proof_follow.proofs.SameCounts.{besides_both, command_covered, text_covered, cleared_covered, all_said_covered}
+use Rattle.ncp_proof_follow_books.proofs.Covered.{OneCovered, Covered}
+use Rattle.ncp_proof_follow_books.proofs.SameCounts.{besides_both, command_covered, text_covered, cleared_covered, all_said_covered}
 
-module _ (number at peer by : ℕ) (busy : Option ℕ) (zero : Bool) (kept : List Kept) (roomy : (n : ℕ) → nat_lt n MAX_BOOKS ≡ true → nat_lt n MAX_LIVES ≡ true) (sent : Bool) where
+module _ (number at peer by : ℕ) (busy : Option ℕ) (zero : Bool) (kept : List Kept) (roomy : (n : ℕ) → nat_lt n MAX_BOOKS ≡ true → nat_lt n MAX_TRACKS ≡ true) (sent : Bool) where
   abbrev judge : Turn
   judge = record { by = by; sent = sent; busy = busy; zero = zero }
 
   abbrev speaks : Talk
   speaks = record { at = at; peer = peer; sent = sent }
 
-  abbrev heard_at : told.Turn
+  abbrev heard_at : Sighting
   heard_at = record { number = number; at = at; peer = peer; sent = sent }
 
   -- where there is none between the two, nothing of what is judged is forgotten
   emptied_covered : (b : SeenBooks) (t : Tables) → NoneBetween at peer b → Same b t → Covered b t → Covered b (after_clearing heard_at ReplyCame t)
   emptied_covered b t none s (c, o) = (
-    subst (λ (ls : List Life). Besides (OneCovered b.dues) ls (without t.lives at peer)) (none_over number at peer by sent busy zero kept roomy b.lives none)
-        (besides_more (λ l m. SameLife l m × OneCovered b.dues l m) (OneCovered b.dues) (λ l m k. k.1) (filter (λ life. not (is_life_between at peer life)) b.lives) (without t.lives at peer)
-        (besides_filter (λ l m. SameLife l m × OneCovered b.dues l m) (λ life. not (is_life_between at peer life)) (λ life. not (is_life_of at peer life)) (λ l m k. ap not (between_is at peer l m k.0)) b.lives t.lives
-        (besides_both SameLife (OneCovered b.dues) b.lives t.lives s.lives c))),
+    subst (λ (ls : List Life). Besides (OneCovered b.dues) ls (without t.tracks at peer)) (none_over number at peer by sent busy zero kept roomy b.lives none)
+        (besides_more (λ l m. SameLife l m × OneCovered b.dues l m) (OneCovered b.dues) (λ l m k. k.1) (filter (λ life. not (is_life_between at peer life)) b.lives) (without t.tracks at peer)
+        (besides_filter (λ l m. SameLife l m × OneCovered b.dues l m) (λ life. not (is_life_between at peer life)) (λ life. not (is_track_of at peer life)) (λ l m k. ap not (between_is at peer l m k.0)) b.lives t.tracks
+        (besides_both SameLife (OneCovered b.dues) b.lives t.tracks s.lives c))),
     o,
   )
 
@@ -209,7 +209,7 @@ module _ (number at peer by : ℕ) (busy : Option ℕ) (zero : Bool) (kept : Lis
   pub read_covered : (message : Message) (reading : Reading) (v : View) (b : SeenBooks) (s : Session) (t : Tables) → b.full ≡ false → Tidy b → Followed at peer v b s t → Covered b t
       → read_findings (record { by = by; sent = sent; busy = busy; zero = zero }) (record { at = at; peer = peer; sent = sent }) kept message v b reading ≡ []
       → (books_after_read (record { by = by; sent = sent; busy = busy; zero = zero }) (record { at = at; peer = peer; sent = sent }) kept message v b reading).full ≡ false
-      → Covered (books_after_read (record { by = by; sent = sent; busy = busy; zero = zero }) (record { at = at; peer = peer; sent = sent }) kept message v b reading) (read_tables (reading_as reading) (record { number = number; at = at; peer = peer; sent = sent }) message s t)
+      → Covered (books_after_read (record { by = by; sent = sent; busy = busy; zero = zero }) (record { at = at; peer = peer; sent = sent }) kept message v b reading) (read_tables (payload_as reading) (record { number = number; at = at; peer = peer; sent = sent }) message s t)
   read_covered message Stop v b s t room tidy k cov none full = cov
   read_covered message Text v b s t room tidy k cov none full = go (is_heard s sent) refl
     where
@@ -250,7 +250,7 @@ module _ (number at peer by : ℕ) (busy : Option ℕ) (zero : Bool) (kept : Lis
 
 -- ---- a record
 
-module _ (number me n : ℕ) (small : me < 256) (few : n < 256) (roomy : (i : ℕ) → nat_lt i MAX_BOOKS ≡ true → nat_lt i MAX_LIVES ≡ true) (roomy_out : (i : ℕ) → nat_lt i MAX_KEPT ≡ true → nat_lt i MAX_OUT ≡ true) where
+module _ (number me n : ℕ) (small : me < 256) (few : n < 256) (roomy : (i : ℕ) → nat_lt i MAX_BOOKS ≡ true → nat_lt i MAX_TRACKS ≡ true) (roomy_out : (i : ℕ) → nat_lt i MAX_KEPT ≡ true → nat_lt i MAX_OUT ≡ true) where
   -- the same connections and dues
   renumbered_covered : (b : SeenBooks) (t : Tables) → Covered b t → Covered (next_number b) t
   renumbered_covered b t c = c
@@ -260,7 +260,7 @@ module _ (number me n : ℕ) (small : me < 256) (few : n < 256) (roomy : (i : �
     abbrev says : Turn
     says = turn_at A me n by sent
 
-    abbrev hears : told.Turn
+    abbrev hears : Sighting
     hears = record { number = number; at = me; peer = n; sent = sent }
 
     view_is : view_of A me n ≡ view_in A.views me n
@@ -272,8 +272,8 @@ module _ (number me n : ℕ) (small : me < 256) (few : n < 256) (roomy : (i : �
     said_covered : (m : Message) → said_findings A me n says true (Ok m) ≡ [] → A.books.full ≡ false → (after_said A me n says true (Ok m)).books.full ≡ false
         → Covered (after_said A me n says true (Ok m)).books (follower_after_said hears (Ok m) f).tables
     said_covered m unsaid room full =
-        subst (λ (p : Bool). Covered (after_said A me n says true (Ok m)).books (read_tables (followed_reading m) hears m (session_of p f.sessions me n) f.tables)) (sym k.part)
-        (subst (λ (r : reads.Reading). Covered (after_said A me n says true (Ok m)).books (read_tables r hears m (session_of false f.sessions me n) f.tables)) (sym (reading_is m))
+        subst (λ (p : Bool). Covered (after_said A me n says true (Ok m)).books (read_tables (payload_in m) hears m (session_of p f.sessions me n) f.tables)) (sym k.part)
+        (subst (λ (r : Payload). Covered (after_said A me n says true (Ok m)).books (read_tables r hears m (session_of false f.sessions me n) f.tables)) (sym (reading_is m))
         (read_covered number me n by (busy_link me n A.kept) (knows_zero A me n) A.kept roomy sent m (judged_reading m) (view_of A me n) A.books (session_of false f.sessions me n) f.tables room tidy before cov unsaid full))
 
     message_covered : (m : List Bool) (on : ℕ) → message_findings A me n says true on m ≡ [] → A.books.full ≡ false → (after_said A me n says true (message_in m)).books.full ≡ false
@@ -298,7 +298,7 @@ module _ (number me n : ℕ) (small : me < 256) (few : n < 256) (roomy : (i : �
     abbrev fresh : Bool
     fresh = fresh_out (sees u me) me n on m
 
-    abbrev message : told.Turn
+    abbrev message : Sighting
     message = record { number = number; at = me; peer = n; sent = true }
 
     is_said : after_record u ToImp me m ≡ after_said A me n by_me fresh (message_in m)

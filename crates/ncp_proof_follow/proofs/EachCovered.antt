@@ -30,10 +30,10 @@ use Rattle.ncp_proof_umpire_many.specs.Files.{findings_in}
 use Rattle.ncp_proof_umpire_many.proofs.Walk.{after_file}
 use Rattle.ncp_proof_umpire_whole.proofs.Parleys.{Known, turn_known}
 use Rattle.ncp_proof_umpire_whole.proofs.WholeWalk.{never, each_known}
-use Rattle.ncp_proof_follow.specs.ToldTexts.{followed_from}
-use Rattle.ncp_proof_follow.proofs.SameSessions.{few_room}
+use Rattle.ncp_proof_follow_books.specs.FileFollowed.{followed_from}
+use Rattle.ncp_proof_follow_books.proofs.SameSessions.{few_room}
 use Rattle.ncp_proof_follow.proofs.BothFollowed.{Beside, turn_beside, roomy, roomy_out, none_found, waits}
-use Rattle.ncp_proof_follow.proofs.Covered.{Covered}
+use Rattle.ncp_proof_follow_books.proofs.Covered.{Covered}
 use Rattle.ncp_proof_follow.proofs.CoveredRecord.{out_covered, in_covered, answer_covered}
 
 module _ (w : Hosts) (u : Umpire) (k : Known w u) (unfull : u.full ≡ false) (room : u.books.full ≡ false) (number : ℕ) (f : Follower) (beside : Beside w.number_a w.number_b u f) (cov : Covered u.books f.tables) where

@@ -1,9 +1,7 @@
 -- Each event of two hosts with the subnet between them keeps what is known of both, beside what is followed of their file: what
 -- is told at each interface is what the ends there have to do with.
-use Rattle.std.proofs.Common.{◌≡◌, ◌≤◌, ℕ, ◌+◌, ◌-◌, ◌^◌, ◌==◌, Bool, true, false, if◌then◌else◌, List, [], ◌∷◌, ◌++◌, length, Option, None, Some, Ok, Result, refl, sym, ap, ◌∙◌, subst, arith}
+use Rattle.std.proofs.Common.{◌≡◌, ℕ, ◌==◌, Bool, true, false, if◌then◌else◌, List, [], ◌∷◌, ◌++◌, length, Option, None, Some, Ok, Result, refl, sym, ap, ◌∙◌, subst}
 use Rattle.std.specs.FinMap.{get}
-use Rattle.std.specs.Prelude.{min, nat_lt}
-use Rattle.std.proofs.lemmas.Bool.Decides.{nat_tests}
 use Rattle.ncp_leader.specs.declared.leader.Leader.{Leader}
 use Rattle.ncp_leader.specs.declared.leader.Short.{Short}
 use Rattle.ncp_leader.specs.Leader.{leader_in}
@@ -47,7 +45,6 @@ use Rattle.ncp_umpire.specs.Judged.{record_findings, after_record}
 use Rattle.ncp_umpire.proofs.Passing.{Pass}
 use Rattle.ncp_follow.specs.declared.follower.Follower.{Follower}
 use Rattle.ncp_follow.specs.declared.tables.Tables.{Tables}
-use Rattle.ncp_follow.specs.declared.told.TheConstants.{MAX_TOLD}
 use Rattle.ncp_follow.specs.Tables.{has_place_told}
 use Rattle.ncp_follow.specs.Followed.{is_answer, follower_after_read, follower_after_record}
 use Rattle.ncp_proof_umpire.specs.Worlds.{comes_to, passes_between}
@@ -59,9 +56,9 @@ use Rattle.ncp_proof_umpire_many.proofs.Walk.{after_file, Steps}
 use Rattle.ncp_proof_umpire_many.specs.Files.{findings_in}
 use Rattle.ncp_proof_umpire_whole.proofs.Parleys.{Known, turn_known}
 use Rattle.ncp_proof_umpire_whole.proofs.WholeWalk.{never}
-use Rattle.ncp_proof_follow.specs.ToldTexts.{is_to_imp, followed_from}
-use Rattle.ncp_proof_follow.proofs.OpensSo.{AllOpened}
-use Rattle.ncp_proof_follow.proofs.Placed.{Placed}
+use Rattle.ncp_proof_follow_books.specs.FileFollowed.{followed_from}
+use Rattle.ncp_proof_follow_books.proofs.OpensSo.{AllOpened}
+use Rattle.ncp_proof_follow_books.proofs.Placed.{Placed}
 use Rattle.ncp_proof_follow.proofs.Telling.{Got, Given}
 use Rattle.ncp_proof_follow.proofs.HostLives.{told_lives}
 use Rattle.ncp_proof_follow.proofs.ControlComes.{AtHost, still_told}
@@ -69,31 +66,10 @@ use Rattle.ncp_proof_follow.proofs.CallsTold.{called_told}
 use Rattle.ncp_proof_follow.proofs.CameTold.{IsCovered}
 use Rattle.ncp_proof_follow.proofs.GoesTold.{goes_told}
 use Rattle.ncp_proof_follow.proofs.ComesTold.{comes_told}
-use Rattle.ncp_proof_follow.proofs.Elsewhere.{Away, record_away}
+use Rattle.ncp_proof_follow_books.proofs.Elsewhere.{Away, record_away}
+use Rattle.ncp_proof_follow_books.proofs.FilesKept.{FileKeeps, fewer_told, file_keeps}
 use Rattle.ncp_proof_follow.proofs.BothFollowed.{Beside, turn_beside, each_beside}
 use Rattle.ncp_proof_follow.proofs.ToldWalk.{histories_then, EachEvent, ToldAt}
-
--- ---- of all records of an event
-
-pub record FileKeeps (t now : Tables) : Type 0 where
-  pub placed : Placed now
-  pub opened : has_place_told now.told ≡ true → AllOpened t.lives → AllOpened now.lives
-  pub more : length t.told ≤ length now.told
-
-fewer_told : (n m : ℕ) → n ≤ m → nat_lt m MAX_TOLD ≡ true → nat_lt n MAX_TOLD ≡ true
-fewer_told n m l e = grind (arith, nat_tests)
-
-file_keeps : (number : ℕ) (file : List (ℕ × Way × List Bool)) (f : Follower) → Placed f.tables → FileKeeps f.tables (followed_from number file f).tables
-file_keeps number [] f k = record { placed = k; opened = λ h all. all; more = omega arith }
-file_keeps number (x ∷ xs) f k =
-    let mid : Follower = follower_after_record number (is_to_imp x.1) x.0 x.2 f in
-    let one : Away x.0 f.tables mid.tables = record_away number (is_to_imp x.1) x.0 x.2 f k in
-    let rest : FileKeeps mid.tables (followed_from (min (number + 1) (2 ^ 32 - 1)) xs mid).tables = file_keeps (min (number + 1) (2 ^ 32 - 1)) xs mid one.placed in
-    record {
-      placed = rest.placed;
-      opened = λ h all. rest.opened h (one.opened (fewer_told (length mid.tables.told) (length (followed_from (min (number + 1) (2 ^ 32 - 1)) xs mid).tables.told) rest.more h) all);
-      more = let a = one.more in let b = rest.more in omega arith;
-    }
 
 -- what is told at another interface
 at_away : (at me n : ℕ) (s : PeerState) (pasts : Pasts) (t now : Tables) → (me == at) ≡ false → Away at t now → AtHost me n s pasts t → AtHost me n s pasts now
@@ -208,7 +184,7 @@ module _ (Kept : Hosts → Umpire → Type 0) (known_of : (w : Hosts) (u : Umpir
     pub beside : Beside w.number_a w.number_b u f
     pub covered : Cover u.books f.tables
     pub placed : Placed f.tables
-    pub opened : has_place_told f.tables.told ≡ true → AllOpened f.tables.lives
+    pub opened : has_place_told f.tables.told ≡ true → AllOpened f.tables.tracks
     pub here : has_place_told f.tables.told ≡ true → AtHost w.number_a w.number_b (had_for w.number_b w.a) p.this f.tables
     pub there : has_place_told f.tables.told ≡ true → AtHost w.number_b w.number_a (had_for w.number_a w.b) p.that f.tables
 

@@ -5,7 +5,8 @@ use Rattle.std.specs.declared.cmp.Ordering.{Ordering}
 use Rattle.std.specs.declared.cmp.Ordering.TheVariants.{Less, Equal, Greater}
 use Rattle.std.specs.List.{count_by, filter}
 use Rattle.std.specs.Ordering.{is_eq, is_lt, eq_by_cmp}
-use Rattle.std.specs.FinMap.{empty, len-entries, len-empty, find, put, entries, entries_sorted, entries-insert, get, get-entries, get-remove, get-from_sorted, from_sorted, entries-from_sorted, same_map, insert, remove}
+use Rattle.std.specs.FinMap.{empty, len-entries, len-empty, find, entries, entries_sorted, entries-insert, get, get-entries, get-remove, get-from_sorted, from_sorted, entries-from_sorted, same_map, insert, remove}
+use Rattle.std.specs.FinMap
 use Rattle.std.specs.FinMap.Entries.{by_order, below_all, is_sorted, where_key, is_sorted-where_key, find-where_key}
 use Rattle.std.proofs.lemmas.Map.Views.{tells_apart}
 use Rattle.std.proofs.lemmas.List.Sums.{count_by-le-length, sum_by-cons}
@@ -17,8 +18,7 @@ use Rattle.ncp_model.specs.Pairs.{pair_cmp}
 use Rattle.ncp_model.specs.End.{End, is_over}
 use Rattle.ncp_model.specs.Act.{Act, Stays, Becomes, answer, end_after}
 use Rattle.ncp_model.specs.Texts.{Answer, hear_text, Rfnm, Incomplete}
-use Rattle.ncp_model.specs.Ends.{Ends, count, any, has_asked, is_by_peer, hears_link, uses_link, free_link, sender_on, receiver_on, pair_of, leads_to, hear, text_in, cut_in, answered_in, map_after, map_after_at, no_ends}
-use Rattle.ncp_model.specs.Ends as ends
+use Rattle.ncp_model.specs.Ends.{Ends, count, any, put, has_asked, is_by_peer, hears_link, uses_link, free_link, sender_on, receiver_on, pair_of, leads_to, hear, text_in, cut_in, answered_in, map_after, map_after_at, no_ends}
 use Rattle.ncp_model.specs.Happenings.{Happening, Happened, happens}
 use Rattle.ncp_model.specs.Peers.{Ask_to_send, Ask_to_receive, Close, Give, Take, Allocate, Call_back, Interrupt}
 use Rattle.ncp_model.specs.Phase.{is_resetting}
@@ -104,14 +104,14 @@ module _ (f : End → Bool) where
       first_below : T (is_lt (pair_cmp q x.0) && below_all pair_cmp q es) → (pair_cmp q x.0 ≡ Less) × T (below_all pair_cmp q es)
       first_below t = let p = both_parts (is_lt (pair_cmp q x.0)) (below_all pair_cmp q es) t in (is_less (pair_cmp q x.0) (subst T (sym p.0) tt), p.1)
 
-  put_count : (k : Pair) (e : End) (es : List (Pair × End)) → T (is_sorted pair_cmp es) → count_by holds (put pair_cmp k e es) + had (find pair_cmp k es) ≡ count_by holds es + one (f e)
+  put_count : (k : Pair) (e : End) (es : List (Pair × End)) → T (is_sorted pair_cmp es) → count_by holds (FinMap.put pair_cmp k e es) + had (find pair_cmp k es) ≡ count_by holds es + one (f e)
   put_count k e [] t = let c = count_cons holds (k, e) [] in omega (arith, c)
   put_count k e (x ∷ es) t =
       let sorted = both_parts (below_all pair_cmp x.0 es) (is_sorted pair_cmp es) t in
       go (pair_cmp k x.0) refl (subst T (sym sorted.0) tt) (put_count k e es sorted.1)
     where
-      go : (r : Ordering) → pair_cmp k x.0 ≡ r → T (below_all pair_cmp x.0 es) → count_by holds (put pair_cmp k e es) + had (find pair_cmp k es) ≡ count_by holds es + one (f e)
-          → count_by holds (by_order r ((k, e) ∷ x ∷ es) ((x.0, e) ∷ es) (x ∷ put pair_cmp k e es)) + had (cond (is_eq r) (Some x.1) (find pair_cmp k es)) ≡ count_by holds (x ∷ es) + one (f e)
+      go : (r : Ordering) → pair_cmp k x.0 ≡ r → T (below_all pair_cmp x.0 es) → count_by holds (FinMap.put pair_cmp k e es) + had (find pair_cmp k es) ≡ count_by holds es + one (f e)
+          → count_by holds (by_order r ((k, e) ∷ x ∷ es) ((x.0, e) ∷ es) (x ∷ FinMap.put pair_cmp k e es)) + had (cond (is_eq r) (Some x.1) (find pair_cmp k es)) ≡ count_by holds (x ∷ es) + one (f e)
       go Less l below rest =
           let c = count_cons holds (k, e) (x ∷ es) in
           let z = ap had (before_all k x.0 es l below) in omega (arith, c, z)
@@ -119,7 +119,7 @@ module _ (f : End → Bool) where
           let c = count_cons holds (x.0, e) es in
           let d = count_cons holds x es in omega (arith, c, d)
       go Greater l below rest =
-          let c = count_cons holds x (put pair_cmp k e es) in
+          let c = count_cons holds x (FinMap.put pair_cmp k e es) in
           let d = count_cons holds x es in omega (arith, c, d, rest)
 
   filter_count : (t : Pair × End → Bool) (es : List (Pair × End)) → count_by holds (filter t es) ≤ count_by holds es
@@ -151,7 +151,7 @@ is_change own by_peer before None = true
 is_change own by_peer None (Some f) = if f.asked then not own else not by_peer
 is_change own by_peer (Some e) (Some f) = if f.asked then e.asked || not own else not e.asked
 
-few_put : (m : Ends) (pair : Pair) (after : Option End) → is_change (nat_le MAX_OWN (count has_asked m)) (nat_le MAX_BY_PEER (count is_by_peer m)) (get m pair) after ≡ true → Few m → Few (ends.put m pair after)
+few_put : (m : Ends) (pair : Pair) (after : Option End) → is_change (nat_le MAX_OWN (count has_asked m)) (nat_le MAX_BY_PEER (count is_by_peer m)) (get m pair) after ≡ true → Few m → Few (put m pair after)
 few_put m pair None c few = record {
   own = let l = remove_count (λ e. e.asked) m pair in let k = few.own in omega (arith, l, k);
   by_peer = let l = remove_count (λ e. not e.asked) m pair in let k = few.by_peer in omega (arith, l, k);
@@ -304,7 +304,7 @@ few_after : {A : Type 0} (m : Ends) (pair : Pair) (act : Act A) → is_change (n
 few_after m pair (Stays a) c few = few
 few_after m pair (Becomes e a) c few = go (is_over e) (few_put m pair (if is_over e then None else Some e) c few)
   where
-    go : (b : Bool) → Few (ends.put m pair (if b then None else Some e)) → Few (if b then remove m pair else insert m pair e)
+    go : (b : Bool) → Few (put m pair (if b then None else Some e)) → Few (if b then remove m pair else insert m pair e)
     go true k = k
     go false k = k
 
@@ -404,7 +404,7 @@ few_hears_all (c ∷ cs) n few = few_hears_all cs (node_hears c n) (few_hears c 
 few_calls : (pair : Pair) (call : PairCall) (n : Node) → Few n.ends → Few (node_calls pair call n).ends
 few_calls pair call n few =
     either (λ (k : Node). Few k.ends) (is_up n.host) (happens_at pair (called call (is_full n.host.phase) n.ends) n) n
-    (few_kept (is_up (happens_at pair (called call (is_full n.host.phase) n.ends) n).host) (ends.put n.ends pair (happens pair (called call (is_full n.host.phase) n.ends) (get n.ends pair)).after)
+    (few_kept (is_up (happens_at pair (called call (is_full n.host.phase) n.ends) n).host) (put n.ends pair (happens pair (called call (is_full n.host.phase) n.ends) (get n.ends pair)).after)
     (few_put n.ends pair (happens pair (called call (is_full n.host.phase) n.ends) (get n.ends pair)).after (called_change pair call (is_full n.host.phase) n.ends) few)) few
 
 few_cuts : (on : ℕ) (o : Option (ℕ × List Bool)) (n : Node) → Few n.ends → Few (node_cuts on o n).ends

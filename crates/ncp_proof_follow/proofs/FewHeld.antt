@@ -31,13 +31,14 @@ use Rattle.ncp_proof_umpire_seen.proofs.Changed.{pair_at, kept_of}
 use Rattle.ncp_proof_umpire_seen.proofs.OwnMoves.{all_says}
 use Rattle.ncp_proof_umpire_seen.proofs.SeenBooks.{seen_of, rests_of, step}
 use Rattle.ncp_proof_umpire_counts.proofs.Counted.{PairsAgree}
-use Rattle.ncp_proof_umpire_whole.proofs.Tallied.{Owing, Echoes, Returning, has_echo, has_both, is_owed_of, receives_by}
-use Rattle.ncp_proof_umpire_whole.proofs.Said.{Said, say_of, after_say, after_said_by, after_run, facing_shape}
-use Rattle.ncp_proof_umpire_whole.proofs.Diamond.{same_back}
-use Rattle.ncp_proof_umpire_whole.proofs.UsersSaid.{same_self, one_side}
-use Rattle.ncp_proof_umpire_whole.proofs.DuesOwed.{AreDue, OwesRightly}
+use Rattle.ncp_proof_umpire_abreast.specs.Owing.{Owing, Echoes, Returning, has_echo, is_owed_of}
+use Rattle.ncp_proof_umpire_abreast.proofs.Tallied.{has_both, receives_by}
+use Rattle.ncp_proof_umpire_abreast.proofs.Said.{Said, say_of, after_say, after_said_by, after_run, facing_shape}
+use Rattle.ncp_proof_umpire_abreast.proofs.Diamond.{same_back}
+use Rattle.ncp_proof_umpire_abreast.proofs.UsersSaid.{same_self, one_side}
+use Rattle.ncp_proof_umpire_abreast.proofs.DuesOwed.{AreDue, OwesRightly}
 use Rattle.ncp_proof_umpire_whole.proofs.ReadAs.{ReadAs}
-use Rattle.ncp_proof_umpire_whole.proofs.Abreast.{Afloat, Abreast}
+use Rattle.ncp_proof_umpire_abreast.proofs.Abreast.{Afloat, Abreast}
 
 -- ---- lists
 

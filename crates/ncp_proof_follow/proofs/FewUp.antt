@@ -19,10 +19,10 @@ use Rattle.ncp_umpire.specs.Views.{awaits_reply}
 use Rattle.ncp_proof_umpire_talk.proofs.Spoken.{Tells}
 use Rattle.ncp_proof_umpire_many.proofs.Both.{there, own_seen}
 use Rattle.ncp_proof_umpire_many.proofs.Counts.{line}
-use Rattle.ncp_proof_umpire_whole.proofs.Said.{Said, SaidAlike, unspoken}
+use Rattle.ncp_proof_umpire_abreast.proofs.Said.{Said, SaidAlike, unspoken}
 use Rattle.ncp_proof_umpire_whole.proofs.ReadAs.{ReadAs}
 use Rattle.ncp_proof_umpire_whole.proofs.Hears.{hears}
-use Rattle.ncp_proof_umpire_whole.proofs.AbreastSteps.{turn_abreast}
+use Rattle.ncp_proof_umpire_abreast.proofs.AbreastSteps.{turn_abreast}
 use Rattle.ncp_proof_umpire_whole.proofs.Floats.{floats}
 use Rattle.ncp_proof_umpire_whole.proofs.Parleys.{ParleyOf, Known}
 use Rattle.ncp_proof_follow.proofs.EndsFew.{few_ends}

@@ -64,7 +64,7 @@ use Rattle.ncp_proof_umpire.proofs.HostSlots.{call_noted}
 use Rattle.ncp_proof_umpire.proofs.Fresh.{not_quiet}
 use Rattle.ncp_proof_umpire.proofs.Laid.{fitting_all, weighs}
 use Rattle.ncp_proof_umpire_seen.proofs.Elsewhere.{Alike}
-use Rattle.ncp_proof_umpire_counts.proofs.BooksRecord.{out_books, in_books, answer_books, record_alike}
+use Rattle.ncp_proof_umpire_owes.proofs.BooksRecord.{out_books, in_books, answer_books, record_alike}
 use Rattle.ncp_proof_umpire_many.proofs.Arrivals.{line_lost, line_told, is_told, goes_lost, comes_on, none_left, line_back, line_same, back_same}
 use Rattle.ncp_proof_umpire_many.proofs.AsRead.{items, control_of}
 use Rattle.ncp_proof_umpire_many.proofs.Between.{Leaves, leaves, Written, written, comes_led, AnswerLed, answer_leads}

@@ -7,27 +7,27 @@ use Rattle.ncp_model.specs.End.{is_live}
 use Rattle.ncp_host.specs.PeerState.{PeerState, new_state}
 use Rattle.ncp_transcript_two.specs.Between.{Hosts, new_hosts}
 use Rattle.ncp_transcript_two.specs.Watch.{no_histories}
-use Rattle.ncp_transcript_two.specs.Watch as watch
+use Rattle.ncp_transcript_two.specs.Watch.{Both}
 use Rattle.ncp_transcript_two.specs.Seen.{had_for}
 use Rattle.ncp_umpire.specs.declared.umpire.Umpire.{Umpire}
 use Rattle.ncp_umpire.specs.declared.view.View.{View}
 use Rattle.ncp_umpire.specs.Judged.{new_umpire}
 use Rattle.ncp_umpire.specs.Lives.{SeenBooks, unasked_life, life_in_place}
 use Rattle.ncp_follow.specs.declared.follower.Follower.{Follower}
-use Rattle.ncp_follow.specs.declared.life.Life.{Life}
+use Rattle.ncp_follow.specs.declared.track.Track.{Track}
 use Rattle.ncp_follow.specs.declared.tables.Tables.{Tables}
 use Rattle.ncp_follow.specs.Followed.{new_follower}
-use Rattle.ncp_follow.specs.Lives.{new_life, life_at}
+use Rattle.ncp_follow.specs.Tracks.{new_track, track_at}
 use Rattle.ncp_follow.specs.Sessions.{new_session}
-use Rattle.ncp_proof_umpire_many.proofs.Both
+use Rattle.ncp_proof_umpire_many.proofs.Both.{new_seen, new_had}
 use Rattle.ncp_proof_umpire_whole.proofs.NeverRests.{new_awake}
 use Rattle.ncp_proof_umpire_whole.proofs.Parleys.{Known}
 use Rattle.ncp_proof_follow.specs.ToldTexts.{FollowTellsWhatWasGot}
-use Rattle.ncp_proof_follow.proofs.Besides.{besides_length, besides_at}
+use Rattle.ncp_proof_follow_books.proofs.Besides.{besides_length, besides_at}
 use Rattle.ncp_proof_follow.proofs.SameItems.{InTouch}
 use Rattle.ncp_proof_follow.proofs.SameRecords.{Alike}
-use Rattle.ncp_proof_follow.proofs.Placed.{placed_begins}
-use Rattle.ncp_proof_follow.proofs.Covered.{OneCovered, OpenCovered, Covered, covered_begins}
+use Rattle.ncp_proof_follow_books.proofs.Placed.{placed_begins}
+use Rattle.ncp_proof_follow_books.proofs.Covered.{OneCovered, OpenCovered, Covered, covered_begins}
 use Rattle.ncp_proof_follow.proofs.ControlComes.{AtHost, none_lives}
 use Rattle.ncp_proof_follow.proofs.CameTold.{IsCovered}
 use Rattle.ncp_proof_follow.proofs.BothFollowed.{Beside}
@@ -39,16 +39,16 @@ use Rattle.ncp_proof_follow.proofs.ToldWalk.{follow_tells}
 
 -- ---- what is covered
 
-place_within : (ms : List Life) (p : ℕ) → is_some (get_or ms p (new_life 0 0 0 0)).place ≡ true → p < length ms
+place_within : (ms : List Track) (p : ℕ) → is_some (get_or ms p (new_track 0 0 0 0)).place ≡ true → p < length ms
 place_within [] p e = absurd (cc e)
 place_within (m ∷ ms) zero e = omega arith
 place_within (m ∷ ms) (suc p) e = let rest = place_within ms p e in omega arith
 
 is_covered : (b : SeenBooks) (t : Tables) → Covered b t → IsCovered b t
 is_covered b t c p e =
-    let within : p < length b.lives = subst (λ (n : ℕ). p < n) (besides_length (OneCovered b.dues) b.lives t.lives c.0) (place_within t.lives p e) in
-    let one : OneCovered b.dues (life_in_place b.lives p) (life_at t.lives p) = besides_at (OneCovered b.dues) b.lives t.lives p (unasked_life 0 0 0 0) (new_life 0 0 0 0) within c.0 in
-    let o : OpenCovered b.dues (life_in_place b.lives p) (life_at t.lives p) = one.1 e in (o.messages, o.bits)
+    let within : p < length b.lives = subst (λ (n : ℕ). p < n) (besides_length (OneCovered b.dues) b.lives t.tracks c.0) (place_within t.tracks p e) in
+    let one : OneCovered b.dues (life_in_place b.lives p) (track_at t.tracks p) = besides_at (OneCovered b.dues) b.lives t.tracks p (unasked_life 0 0 0 0) (new_track 0 0 0 0) within c.0 in
+    let o : OpenCovered b.dues (life_in_place b.lives p) (track_at t.tracks p) = one.1 e in (o.messages, o.bits)
 
 -- ---- the beginning
 
@@ -57,7 +57,7 @@ alike_begins me n = record {
   part = refl;
   outs = tt;
   same = record { lives = tt; calm = refl };
-  touch = subst (λ (v : View). InTouch v (new_session false me n)) (sym (Both.new_seen me n)) (record { awake = new_awake; host_began = refl; peer_began = refl; host_waits = refl; peer_waits = refl });
+  touch = subst (λ (v : View). InTouch v (new_session false me n)) (sym (new_seen me n)) (record { awake = new_awake; host_began = refl; peer_began = refl; host_waits = refl; peer_waits = refl });
 }
 
 beside_begins : (a b : ℕ) → Beside a b (new_umpire false) (new_follower false)
@@ -77,7 +77,7 @@ unfull_of w u k = k.1.unfilled
 room_of : (w : Hosts) (u : Umpire) → Held w u → u.books.full ≡ false
 room_of w u k = k.1.open_books
 
-abbrev All_held : Hosts → watch.Both → Umpire → Follower → Type 0
+abbrev All_held : Hosts → Both → Umpire → Follower → Type 0
 All_held = Holds Held known_of unfull_of room_of turn_held each_held Covered is_covered each_covered
 
 all_begins : (a b : ℕ) → a ≢ b → a < 256 → b < 256 → All_held (new_hosts a b) no_histories (new_umpire false) (new_follower false)
@@ -87,8 +87,8 @@ all_begins a b d k l = record {
   covered = covered_begins;
   placed = placed_begins;
   opened = λ h j life e w. absurd (cc e);
-  here = λ h. host_begins a b (had_for b (new_hosts a b).a) (new_follower false).tables (Both.new_had b);
-  there = λ h. host_begins b a (had_for a (new_hosts a b).b) (new_follower false).tables (Both.new_had a);
+  here = λ h. host_begins a b (had_for b (new_hosts a b).a) (new_follower false).tables (new_had b);
+  there = λ h. host_begins b a (had_for a (new_hosts a b).b) (new_follower false).tables (new_had a);
 }
 
 pub follow_told : FollowTellsWhatWasGot

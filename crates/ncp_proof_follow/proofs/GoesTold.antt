@@ -47,16 +47,16 @@ use Rattle.ncp_umpire.specs.Views.{awaits_reply}
 use Rattle.ncp_umpire.specs.Judged.{sees, fresh_out, record_findings, after_record}
 use Rattle.ncp_umpire.proofs.LinkOrder.{about}
 use Rattle.ncp_follow.specs.declared.follower.Follower.{Follower}
-use Rattle.ncp_follow.specs.declared.life.Life.{Life}
-use Rattle.ncp_follow.specs.declared.saying.Reading as followed_kind
+use Rattle.ncp_follow.specs.declared.track.Track.{Track}
+use Rattle.ncp_follow.specs.declared.saying.Payload.{Payload}
 use Rattle.ncp_follow.specs.declared.session.Session.{Session}
 use Rattle.ncp_follow.specs.declared.tables.Tables.{Tables}
-use Rattle.ncp_follow.specs.declared.turn.Turn.{Turn}
-use Rattle.ncp_follow.specs.Lives.{life_at}
+use Rattle.ncp_follow.specs.declared.sighting.Sighting.{Sighting}
+use Rattle.ncp_follow.specs.Tracks.{track_at}
 use Rattle.ncp_follow.specs.Sessions.{session_of, is_heard}
 use Rattle.ncp_follow.specs.Slots.{outs_with_message}
 use Rattle.ncp_follow.specs.Tables.{after_text}
-use Rattle.ncp_follow.specs.Followed.{tables_after_all, followed_reading, read_tables, follower_after_said, follower_after_record}
+use Rattle.ncp_follow.specs.Followed.{tables_after_all, payload_in, read_tables, follower_after_said, follower_after_record}
 use Rattle.ncp_proof_umpire.proofs.Laid.{weighs, fitting_all}
 use Rattle.ncp_proof_umpire.proofs.PhaseSeen.{Seen}
 use Rattle.ncp_proof_umpire_seen.proofs.OwnMoves.{all_says}
@@ -67,11 +67,11 @@ use Rattle.ncp_proof_umpire_many.proofs.Both.{control_said}
 use Rattle.ncp_proof_umpire_many.proofs.Both
 use Rattle.ncp_proof_umpire_many.proofs.OwnOut
 use Rattle.ncp_proof_umpire_whole.proofs.Parleys.{Known}
-use Rattle.ncp_proof_follow.proofs.SameReads.{reading_as, reading_is}
-use Rattle.ncp_proof_follow.proofs.SameSessions.{few_room}
+use Rattle.ncp_proof_follow.proofs.SameReads.{payload_as, reading_is}
+use Rattle.ncp_proof_follow_books.proofs.SameSessions.{few_room}
 use Rattle.ncp_proof_follow.proofs.SameRecords.{tables_out, heard_out}
-use Rattle.ncp_proof_follow.proofs.OpensSo.{AllOpened}
-use Rattle.ncp_proof_follow.proofs.Placed.{named, text_named, Placed}
+use Rattle.ncp_proof_follow_books.proofs.OpensSo.{AllOpened}
+use Rattle.ncp_proof_follow_books.proofs.Placed.{named, text_named, Placed}
 use Rattle.ncp_proof_follow.proofs.PeerLives.{SoundAll}
 use Rattle.ncp_proof_follow.proofs.HostLives.{HostLives, gone_by, out_lives}
 use Rattle.ncp_proof_follow.proofs.HostAsks.{live_heard}
@@ -104,8 +104,8 @@ none_said w e (before, after, is) =
     too_few : (x y z : ℕ) → x ≡ 0 → x ≡ y + z → 1 ≤ z → ⊥
     too_few x y z a b c = omega arith
 
-module _ (w : Hosts) (u : Umpire) (k : Known w u) (unfull : u.full ≡ false) (room : u.books.full ≡ false) (number : ℕ) (f : Follower) (beside : Beside w.number_a w.number_b u f) (placed : Placed f.tables) (all : AllOpened f.tables.lives)
-    (covered : (p : ℕ) → is_some (life_at f.tables.lives p).place ≡ true → ((life_in_place u.books.lives p).messages ≤ (life_at f.tables.lives p).left.messages) × ((life_in_place u.books.lives p).bits ≤ (life_at f.tables.lives p).left.bits))
+module _ (w : Hosts) (u : Umpire) (k : Known w u) (unfull : u.full ≡ false) (room : u.books.full ≡ false) (number : ℕ) (f : Follower) (beside : Beside w.number_a w.number_b u f) (placed : Placed f.tables) (all : AllOpened f.tables.tracks)
+    (covered : (p : ℕ) → is_some (track_at f.tables.tracks p).place ≡ true → ((life_in_place u.books.lives p).messages ≤ (track_at f.tables.tracks p).left.messages) × ((life_in_place u.books.lives p).bits ≤ (track_at f.tables.tracks p).left.bits))
     (m : List Bool) (q : next_output w.a ≡ Some m) (full : (after_record u ToImp w.number_a m).full ≡ false) (after_room : (after_record u ToImp w.number_a m).books.full ≡ false) (unfound : record_findings u ToImp w.number_a m ≡ []) (pasts : Pasts) where
   abbrev a : ℕ
   a = w.number_a
@@ -137,7 +137,7 @@ module _ (w : Hosts) (u : Umpire) (k : Known w u) (unfull : u.full ≡ false) (r
   abbrev sent_on : ℕ → Follower
   sent_on on = record f { outs = outs_with_message f.outs a b on m }
 
-  abbrev saying : Turn
+  abbrev saying : Sighting
   saying = record { number = number; at = a; peer = b; sent = true }
 
   abbrev After : ℕ → Tables → Type 0
@@ -185,10 +185,10 @@ module _ (w : Hosts) (u : Umpire) (k : Known w u) (unfull : u.full ≡ false) (r
         (kept_on on f.tables (λ p. ap (λ (x : LinkSlot). gone_by st pasts sound p x on) e) (λ p x. refl))
 
     -- it is read
-    read_now : (x : Message) → slot_at st.slots on ≡ Slot.Empty → message_in m ≡ Ok x → now ≡ read_tables (followed_reading x) saying x σ f.tables
+    read_now : (x : Message) → slot_at st.slots on ≡ Slot.Empty → message_in m ≡ Ok x → now ≡ read_tables (payload_in x) saying x σ f.tables
     read_now x e reads =
         tables_now ∙ ap (λ (y : Bool). (if y then (follower_after_said saying (message_in m) (sent_on on)).tables else f.tables)) (is_fresh ∙ ap is_empty e)
-        ∙ ap (λ (r : Result Message MessageFault). (follower_after_said saying r (sent_on on)).tables) reads ∙ ap (λ (p : Bool). read_tables (followed_reading x) saying x (session_of p f.sessions a b) f.tables) beside.this.part
+        ∙ ap (λ (r : Result Message MessageFault). (follower_after_said saying r (sent_on on)).tables) reads ∙ ap (λ (p : Bool). read_tables (payload_in x) saying x (session_of p f.sessions a b) f.tables) beside.this.part
 
     module _ (u_up : up st.peer.phase ≡ true) where
       tells : Tells a b st.peer.ends st.peer.echoes.awaited st.peer.phase.waiting u.books
@@ -214,7 +214,7 @@ module _ (w : Hosts) (u : Umpire) (k : Known w u) (unfull : u.full ≡ false) (r
           go true e = seen.stands.phased.none_waits e
           go false e = zero_of (rsts st.peer.phase.waiting) (bit st.peer.phase.wait) (seen.stands.phased.even e (seen.stands.phased.sure rests)) (ap bit unwaiting)
 
-      over : (p : Pair) (life : Life) → is_live (get st.peer.ends p) ≡ true → named (record { at = a; peer = b; pair = p }) f.tables.lives ≡ Some life → life.peer_left ≡ true → leaves_in (about (p.local, p.remote) (all_says st.peer.phase.waiting)) ≡ true → ⊥
+      over : (p : Pair) (life : Track) → is_live (get st.peer.ends p) ≡ true → named (record { at = a; peer = b; pair = p }) f.tables.tracks ≡ Some life → life.peer_left ≡ true → leaves_in (about (p.local, p.remote) (all_says st.peer.phase.waiting)) ≡ true → ⊥
       over p life live there left waiting = go (get st.peer.ends p) refl live
         where
           go : (o : Option End) → get st.peer.ends p ≡ o → is_live o ≡ true → ⊥
@@ -288,7 +288,7 @@ module _ (w : Hosts) (u : Umpire) (k : Known w u) (unfull : u.full ≡ false) (r
 
               is : now ≡ after_text saying on t.0 t.1 f.tables
               is =
-                  read_now x e reads ∙ ap (λ (y : followed_kind.Reading). read_tables y saying x σ f.tables) (reading_is x ∙ ap reading_as is_text)
+                  read_now x e reads ∙ ap (λ (y : Payload). read_tables y saying x σ f.tables) (reading_is x ∙ ap payload_as is_text)
                   ∙ ap (λ (y : Bool). if y then after_text saying on t.0 t.1 f.tables else f.tables) heard
 
     gone_on : is_wrong_link on ≡ false → Gone now

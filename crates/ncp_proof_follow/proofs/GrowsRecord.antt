@@ -45,8 +45,8 @@ use Rattle.ncp_umpire.specs.Talked.{talk_of, reaches, act_reaches, clears, after
 use Rattle.ncp_umpire.specs.Texts.{books_after_text}
 use Rattle.ncp_umpire.specs.Judged.{view_of, slot_of_link, same_of, is_slot_out, fresh_out, view_after_out, umpire_after_out, with_answer, umpire_after_answer, judges_coming, with_coming, after_in, is_roomy, items_said, turn_at, books_after_read, after_said, out_finding, unsent_finding, said_findings, message_findings, event_findings, record_findings, after_event, after_record, sees}
 use Rattle.ncp_proof_umpire_seen.proofs.Elsewhere.{Alike, alike_same}
-use Rattle.ncp_proof_umpire_counts.proofs.BooksRead.{said_alikes}
-use Rattle.ncp_proof_follow.proofs.GrowsBooks.{Grows, grows_none, grows_both, grows_more, item_grows, text_grows, cleared_grows, said_grows}
+use Rattle.ncp_proof_umpire_owes.proofs.BooksRead.{said_alikes}
+use Rattle.ncp_proof_follow_books.proofs.GrowsBooks.{Grows, grows_none, grows_both, grows_more, item_grows, text_grows, cleared_grows, said_grows}
 
 -- ---- how many commands a control text has
 

@@ -21,11 +21,11 @@ use Rattle.ncp_umpire.specs.Lives.{SeenBooks}
 use Rattle.ncp_umpire.specs.Judged.{record_findings, after_record}
 use Rattle.ncp_umpire.proofs.Passing.{Pass}
 use Rattle.ncp_proof_umpire_many.proofs.Counts.{line}
-use Rattle.ncp_proof_umpire_whole.proofs.Said.{Said}
+use Rattle.ncp_proof_umpire_abreast.proofs.Said.{Said}
 use Rattle.ncp_proof_umpire_whole.proofs.Parleys.{Known, turn_known}
 use Rattle.ncp_proof_umpire_whole.proofs.ReadAs.{ReadAs}
 use Rattle.ncp_proof_umpire_whole.proofs.WholeWalk.{never}
-use Rattle.ncp_proof_follow.proofs.GrowsBooks.{AskedOnce}
+use Rattle.ncp_proof_follow_books.proofs.GrowsBooks.{AskedOnce}
 use Rattle.ncp_proof_follow.proofs.GrowsRecord.{IsBetween, IsOfTwo, EachKept, record_widens, leader_link}
 use Rattle.ncp_proof_follow.proofs.NeverFull.{Tame, tame_widens, FewBetween, Roomy, has_room_now, kept_few, stays_open}
 use Rattle.ncp_proof_follow.proofs.Fewer.{lives_at, others_in, Fewer, turn_fewer}

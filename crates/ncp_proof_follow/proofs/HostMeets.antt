@@ -25,9 +25,9 @@ use Rattle.ncp_umpire.proofs.Shapes.{Shape, Say, Ask, Leave, Agrees, others_of, 
 use Rattle.ncp_umpire.proofs.LinkOrder.{Sockets, about}
 use Rattle.ncp_umpire.proofs.BooksAt.{HasSockets}
 use Rattle.ncp_umpire.proofs.Seeing.{seen}
-use Rattle.ncp_follow.specs.declared.life.Life as followed
+use Rattle.ncp_follow.specs.declared.track.Track.{Track}
 use Rattle.ncp_follow.specs.declared.tables.Tables.{Tables}
-use Rattle.ncp_follow.specs.Lives.{is_pair}
+use Rattle.ncp_follow.specs.Tracks.{is_pair}
 use Rattle.ncp_proof_umpire_seen.proofs.KeptEnds.{of_end, kept}
 use Rattle.ncp_proof_umpire_seen.proofs.OwnMoves.{all_says}
 use Rattle.ncp_proof_umpire_seen.proofs.Changed.{pair_at, kept_of}
@@ -42,20 +42,20 @@ use Rattle.ncp_proof_umpire_counts.proofs.LinkCounts.{Lasting, receiver_counted}
 use Rattle.ncp_proof_umpire_counts.proofs.LinksOpen.{Reaches, open_shape}
 use Rattle.ncp_proof_umpire_counts.proofs.LinksCome.{reach, counts_are, links_unrested}
 use Rattle.ncp_proof_umpire_talk.proofs.Spoken.{Tells}
-use Rattle.ncp_proof_follow.proofs.SameLives.{SameLife, SameLives, pair_is}
-use Rattle.ncp_proof_follow.proofs.Calmly.{none_rests}
-use Rattle.ncp_proof_follow.proofs.SameCommands.{Same}
-use Rattle.ncp_proof_follow.proofs.SameTexts.{TextLed}
-use Rattle.ncp_proof_follow.proofs.TextsAt.{text_at}
-use Rattle.ncp_proof_follow.proofs.Placed.{Name, named, place_in, text_named, Placed}
+use Rattle.ncp_proof_follow_books.proofs.SameLives.{SameLife, SameLives, pair_is}
+use Rattle.ncp_proof_follow_books.proofs.Calmly.{none_rests}
+use Rattle.ncp_proof_follow_books.proofs.SameCommands.{Same}
+use Rattle.ncp_proof_follow_books.proofs.SameTexts.{TextLed}
+use Rattle.ncp_proof_follow_books.proofs.TextsAt.{text_at}
+use Rattle.ncp_proof_follow_books.proofs.Placed.{Name, named, place_in, text_named, Placed}
 
 -- ---- the connection of a name, as it is judged and as it is followed
 
-pub data NamedBoth (judged : Option Life) (told : Option followed.Life) : Type 0 where
+pub data NamedBoth (judged : Option Life) (told : Option Track) : Type 0 where
   Neither : judged ≡ None → told ≡ None → NamedBoth judged told
-  Each : (l : Life) → (m : followed.Life) → judged ≡ Some l → told ≡ Some m → SameLife l m → NamedBoth judged told
+  Each : (l : Life) → (m : Track) → judged ≡ Some l → told ≡ Some m → SameLife l m → NamedBoth judged told
 
-pub named_both : (at peer : ℕ) (q : Pair) (ls : List Life) (ms : List followed.Life) → SameLives ls ms → NamedBoth (first (is_of_sockets at peer q.local q.remote) ls) (first (is_pair at peer q.local q.remote) ms)
+pub named_both : (at peer : ℕ) (q : Pair) (ls : List Life) (ms : List Track) → SameLives ls ms → NamedBoth (first (is_of_sockets at peer q.local q.remote) ls) (first (is_pair at peer q.local q.remote) ms)
 named_both at peer q [] [] k = Neither refl refl
 named_both at peer q [] (m ∷ ms) k = absurd k
 named_both at peer q (l ∷ ls) [] k = absurd k
@@ -106,13 +106,13 @@ module _ (me n : ℕ) (m : Ends) (awaited : Bool) (w : List Command) (b : SeenBo
   abbrev pub name : Pair → Name
   name q = record { at = me; peer = n; pair = q }
 
-  both : (q : Pair) → NamedBoth (life_seen me n b (q.local, q.remote)) (named (name q) t.lives)
-  both q = named_both me n q b.lives t.lives same.lives
+  both : (q : Pair) → NamedBoth (life_seen me n b (q.local, q.remote)) (named (name q) t.tracks)
+  both q = named_both me n q b.lives t.tracks same.lives
 
   awake : (q : Pair) → rests_of me n b (q.local, q.remote) ≡ false
   awake q = go (both q)
     where
-      go : NamedBoth (life_seen me n b (q.local, q.remote)) (named (name q) t.lives) → rests_of me n b (q.local, q.remote) ≡ false
+      go : NamedBoth (life_seen me n b (q.local, q.remote)) (named (name q) t.tracks) → rests_of me n b (q.local, q.remote) ≡ false
       go (Neither e f) = ap is_resting e
       go (Each l x e f one) = ap is_resting e ∙ one.awake
 
@@ -131,12 +131,12 @@ module _ (me n : ℕ) (m : Ends) (awaited : Bool) (w : List Command) (b : SeenBo
   pub call_silent : (placed : Placed t) (q : Pair) (e : End) → get m q ≡ Some e → e.heard ≡ true → e.asked ≡ false → text_named (name q) t ≡ []
   call_silent placed q e g h a = go (both q)
     where
-      go : NamedBoth (life_seen me n b (q.local, q.remote)) (named (name q) t.lives) → text_named (name q) t ≡ []
-      go (Neither x f) = ap (λ (o : Option followed.Life). text_at t.told (place_in o)) f
+      go : NamedBoth (life_seen me n b (q.local, q.remote)) (named (name q) t.tracks) → text_named (name q) t ≡ []
+      go (Neither x f) = ap (λ (o : Option Track). text_at t.told (place_in o)) f
       go (Each l x lived f one) = by x.place refl
         where
           by : (o : Option ℕ) → x.place ≡ o → text_named (name q) t ≡ []
-          by None p = ap (λ (o : Option followed.Life). text_at t.told (place_in o)) f ∙ ap (text_at t.told) p
+          by None p = ap (λ (o : Option Track). text_at t.told (place_in o)) f ∙ ap (text_at t.told) p
           by (Some p) d =
               let whole = placed.whole (name q) x p f d in
               let linked : is_some l.link ≡ true = ap (λ (y : Option ℕ). is_some y) (sym one.link) ∙ whole.0 in
@@ -153,17 +153,17 @@ module _ (me n : ℕ) (m : Ends) (awaited : Bool) (w : List Command) (b : SeenBo
 
   -- ---- an end that lives, of which the other sent a CLS: none of it waits
 
-  pub none_over : (q : Pair) (e : End) (x : followed.Life) → get m q ≡ Some e → e.heard ≡ true → named (name q) t.lives ≡ Some x → x.peer_left ≡ true → leaves_in (about (q.local, q.remote) (all_says w)) ≡ true → ⊥
+  pub none_over : (q : Pair) (e : End) (x : Track) → get m q ≡ Some e → e.heard ≡ true → named (name q) t.tracks ≡ Some x → x.peer_left ≡ true → leaves_in (about (q.local, q.remote) (all_says w)) ≡ true → ⊥
   none_over q e x g h f c l = go (both q)
     where
       others : (k : ℕ) × (others_of (kept_of m (q.local, q.remote)) ≡ Some k)
       others = heard_others q e g h
 
-      go : NamedBoth (life_seen me n b (q.local, q.remote)) (named (name q) t.lives) → ⊥
+      go : NamedBoth (life_seen me n b (q.local, q.remote)) (named (name q) t.tracks) → ⊥
       go (Neither y z) = let nay : Some x ≡ None = sym f ∙ z in cc nay
       go (Each y z lived told one) =
           let is : x ≡ z = cc (sym f ∙ told) in
-          let closed : is_closed (seen_of me n b (q.local, q.remote)) ≡ true = ap (λ (o : Option Life). is_closed (seen o)) lived ∙ sym one.peer_left ∙ ap (λ (v : followed.Life). v.peer_left) (sym is) ∙ c in
+          let closed : is_closed (seen_of me n b (q.local, q.remote)) ≡ true = ap (λ (o : Option Life). is_closed (seen o)) lived ∙ sym one.peer_left ∙ ap (λ (v : Track). v.peer_left) (sym is) ∙ c in
           none_leaves (about (q.local, q.remote) (all_says w)) (kept_of m (q.local, q.remote)) (seen_of me n b (q.local, q.remote)) others.0 l closed others.1 (agrees q)
 
   -- ---- a text comes

@@ -19,7 +19,7 @@ use Rattle.ncp_umpire.specs.Slots.{is_of}
 use Rattle.ncp_umpire.specs.Judged.{new_umpire, record_findings, after_record}
 use Rattle.ncp_proof_umpire_talk.proofs.Spoken.{Clear}
 use Rattle.ncp_proof_umpire_many.proofs.Tells.{Tells}
-use Rattle.ncp_proof_follow.proofs.GrowsBooks.{HasPlaces, AskedOnce}
+use Rattle.ncp_proof_follow_books.proofs.GrowsBooks.{HasPlaces, AskedOnce}
 use Rattle.ncp_proof_follow.proofs.GrowsRecord.{EachKept, IsOfTwo, IsBetween, Widens, record_widens}
 
 -- ---- counts of what passes a test

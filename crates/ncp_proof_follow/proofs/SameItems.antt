@@ -24,18 +24,18 @@ use Rattle.ncp_umpire.specs.Allocation.{number_rules}
 use Rattle.ncp_umpire.specs.Talked.{reaches, clears, talk_finding, number_findings, after_talk, all_findings, talked_findings, after_talked}
 use Rattle.ncp_follow.specs.declared.connection.End.{End}
 use Rattle.ncp_follow.specs.declared.connection.End.TheVariants.{ReplyCame}
-use Rattle.ncp_follow.specs.declared.lives.TheConstants.{MAX_LIVES}
+use Rattle.ncp_follow.specs.declared.tracks.TheConstants.{MAX_TRACKS}
 use Rattle.ncp_follow.specs.declared.session.Session.{Session}
 use Rattle.ncp_follow.specs.declared.tables.Tables.{Tables}
 use Rattle.ncp_follow.specs.Sessions.{is_heard, session_after_reset, session_after_reply}
-use Rattle.ncp_follow.specs.Tables.{is_life_of, without, after_clearing}
+use Rattle.ncp_follow.specs.Tables.{is_track_of, without, after_clearing}
 use Rattle.ncp_follow.specs.Followed.{after_command, heard_after, end_of_reset, tables_after, session_after, tables_after_all, session_after_all}
-use Rattle.ncp_proof_umpire_counts.proofs.BooksRead.{talk_reads, items_read}
+use Rattle.ncp_proof_umpire_owes.proofs.BooksRead.{talk_reads, items_read}
 use Rattle.ncp_proof_umpire_whole.proofs.NeverRests.{Awake, IsThing, by_kind, own_reset, own_reply, their_reset, their_reply, none_early, thing_leaves}
-use Rattle.ncp_proof_follow.proofs.Besides.{besides_filter, front_none, rest_none, map_none}
-use Rattle.ncp_proof_follow.proofs.SameLives.{SameLife, SameLives, between_is}
-use Rattle.ncp_proof_follow.proofs.Calmly.{any_fewer}
-use Rattle.ncp_proof_follow.proofs.SameCommands.{Same, talk, turn, command_same}
+use Rattle.ncp_proof_follow_books.proofs.Besides.{besides_filter, front_none, rest_none, map_none}
+use Rattle.ncp_proof_follow_books.proofs.SameLives.{SameLife, SameLives, between_is}
+use Rattle.ncp_proof_follow_books.proofs.Calmly.{any_fewer}
+use Rattle.ncp_proof_follow_books.proofs.SameCommands.{Same, talk, sighting, command_same}
 
 -- ---- two hosts, as they are judged and as they are followed
 
@@ -70,7 +70,7 @@ clears_if true z false Even t e = refl
 clears_if true z true Waiting t e = refl
 clears_if true z false Waiting t e = refl
 
-module _ (number at peer by : ℕ) (sent : Bool) (busy : Option ℕ) (zero : Bool) (kept : List Kept) (roomy : (n : ℕ) → nat_lt n MAX_BOOKS ≡ true → nat_lt n MAX_LIVES ≡ true) where
+module _ (number at peer by : ℕ) (sent : Bool) (busy : Option ℕ) (zero : Bool) (kept : List Kept) (roomy : (n : ℕ) → nat_lt n MAX_BOOKS ≡ true → nat_lt n MAX_TRACKS ≡ true) where
   abbrev pub judged : Turn
   judged = record { by = by; sent = sent; busy = busy; zero = zero }
 
@@ -113,9 +113,9 @@ module _ (number at peer by : ℕ) (sent : Bool) (busy : Option ℕ) (zero : Boo
   pub clears_so : (v : View) → Awake v → clears judged Reset v ≡ true
   clears_so v a = clears_if v.told zero sent v.host.wait a.told a.own_even
 
-  cleared_same : (end : End) (b : SeenBooks) (t : Tables) → Same b t → Same (books_cleared at peer b) (after_clearing (turn number at peer sent kept roomy) end t)
+  cleared_same : (end : End) (b : SeenBooks) (t : Tables) → Same b t → Same (books_cleared at peer b) (after_clearing (sighting number at peer sent kept roomy) end t)
   cleared_same end b t s = record {
-    lives = besides_filter SameLife (λ life. not (is_life_between at peer life)) (λ life. not (is_life_of at peer life)) (λ l m one. ap not (between_is at peer l m one)) b.lives t.lives s.lives;
+    lives = besides_filter SameLife (λ life. not (is_life_between at peer life)) (λ life. not (is_track_of at peer life)) (λ l m one. ap not (between_is at peer l m one)) b.lives t.tracks s.lives;
     calm = any_fewer (λ one. not (is_mark_between at peer one)) b.marks s.calm;
   }
 
@@ -141,10 +141,10 @@ module _ (number at peer by : ℕ) (sent : Bool) (busy : Option ℕ) (zero : Boo
       go true rest e = absurd (cc e)
       go false rest e = ap (λ (xs : List Life). l ∷ xs) (rest e)
 
-  emptied_same : (b : SeenBooks) (t : Tables) → NoneBetween at peer b → Same b t → Same b (after_clearing (turn number at peer sent kept roomy) ReplyCame t)
+  emptied_same : (b : SeenBooks) (t : Tables) → NoneBetween at peer b → Same b t → Same b (after_clearing (sighting number at peer sent kept roomy) ReplyCame t)
   emptied_same b t n s =
       let c = cleared_same ReplyCame b t s in
-      record { lives = subst (λ (ls : List Life). SameLives ls (without t.lives at peer)) (none_over b.lives n) c.lives; calm = s.calm }
+      record { lives = subst (λ (ls : List Life). SameLives ls (without t.tracks at peer)) (none_over b.lives n) c.lives; calm = s.calm }
 
   -- ---- the view after an RST, and after an RRP
 
@@ -156,7 +156,7 @@ module _ (number at peer by : ℕ) (sent : Bool) (busy : Option ℕ) (zero : Boo
 
 -- ---- an item
 
-module _ (number at peer by : ℕ) (busy : Option ℕ) (zero : Bool) (kept : List Kept) (roomy : (n : ℕ) → nat_lt n MAX_BOOKS ≡ true → nat_lt n MAX_LIVES ≡ true) where
+module _ (number at peer by : ℕ) (busy : Option ℕ) (zero : Bool) (kept : List Kept) (roomy : (n : ℕ) → nat_lt n MAX_BOOKS ≡ true → nat_lt n MAX_TRACKS ≡ true) where
   abbrev pub Judges : Bool → Turn
   Judges sent = judged number at peer by sent busy zero kept roomy
 
@@ -211,11 +211,11 @@ module _ (number at peer by : ℕ) (busy : Option ℕ) (zero : Bool) (kept : Lis
 
   abbrev pub Item : Bool → Result Command CommandFault → View → SeenBooks → Session → Tables → Type 0
   Item sent item v b s t =
-      Followed at peer (after_item (Judges sent) item v) (after_talk (Judges sent) (talk number at peer sent kept roomy) kept item v b) (session_after (turn number at peer sent kept roomy) item s) (tables_after (turn number at peer sent kept roomy) item s t)
+      Followed at peer (after_item (Judges sent) item v) (after_talk (Judges sent) (talk number at peer sent kept roomy) kept item v b) (session_after (sighting number at peer sent kept roomy) item s) (tables_after (sighting number at peer sent kept roomy) item s t)
 
   rst_item : (sent : Bool) (v : View) (b : SeenBooks) (s : Session) (t : Tables) → Followed at peer v b s t → reset_findings (Judges sent) v ≡ [] → Item sent (Ok Command.Rst) v b s t
   rst_item sent v b s t k none =
-      subst (λ (x : Bool). Followed at peer (view_after_reset (Judges sent) v) (if x then books_cleared at peer b else b) (session_after_reset s sent) (after_clearing (turn number at peer sent kept roomy) (end_of_reset sent) t))
+      subst (λ (x : Bool). Followed at peer (view_after_reset (Judges sent) v) (if x then books_cleared at peer b else b) (session_after_reset s sent) (after_clearing (sighting number at peer sent kept roomy) (end_of_reset sent) t))
       (sym (clears_so number at peer by sent busy zero kept roomy v k.touch.awake))
       (record {
         touch = reset_touch sent v s k.touch none;
@@ -234,7 +234,7 @@ module _ (number at peer by : ℕ) (busy : Option ℕ) (zero : Bool) (kept : Lis
       right true y e = e
       right false y e = absurd (cc e)
 
-      go : (x : Bool) → (not sent && s.host_waits) ≡ x → Same b (if x then after_clearing (turn number at peer sent kept roomy) ReplyCame t else t)
+      go : (x : Bool) → (not sent && s.host_waits) ≡ x → Same b (if x then after_clearing (sighting number at peer sent kept roomy) ReplyCame t else t)
       go true e = emptied_same number at peer by sent busy zero kept roomy b t (k.none (sym k.touch.host_waits ∙ right (not sent) s.host_waits e)) k.same
       go false e = k.same
 
@@ -243,7 +243,7 @@ module _ (number at peer by : ℕ) (busy : Option ℕ) (zero : Bool) (kept : Lis
       → option_to_list (if reaches (Judges sent) what v then option_map (broken_by (Judges sent)) (spoken_rule (talk number at peer sent kept roomy) kept (Ok c) b) else None) ≡ []
       → (if reaches (Judges sent) what v then map (broken_by (Judges sent)) (spoken_numbers (talk number at peer sent kept roomy) (Ok c) b) else []) ≡ []
       → (if reaches (Judges sent) what v then books_after_command (talk number at peer sent kept roomy) kept c b else b).full ≡ false
-      → Followed at peer (after_thing (Judges sent) what v) (if reaches (Judges sent) what v then books_after_command (talk number at peer sent kept roomy) kept c b else b) s (heard_after (turn number at peer sent kept roomy) c s t)
+      → Followed at peer (after_thing (Judges sent) what v) (if reaches (Judges sent) what v then books_after_command (talk number at peer sent kept roomy) kept c b else b) s (heard_after (sighting number at peer sent kept roomy) c s t)
   thing_item sent c what v b s t room k timely ruled numbered full =
       subst (λ (w : View). Followed at peer w (now (reaches (Judges sent) what v)) s (if is_heard s sent then obeyed else t)) (sym (thing_leaves (Judges sent) what v early))
       (subst (λ (x : Bool). Followed at peer v (now (reaches (Judges sent) what v)) s (if x then obeyed else t)) (sym heard)
@@ -259,7 +259,7 @@ module _ (number at peer by : ℕ) (busy : Option ℕ) (zero : Bool) (kept : Lis
       now x = if x then books_after_command (talk number at peer sent kept roomy) kept c b else b
 
       obeyed : Tables
-      obeyed = after_command (turn number at peer sent kept roomy) c t
+      obeyed = after_command (sighting number at peer sent kept roomy) c t
 
       unruled : (o : Option Rule) → option_to_list (option_map (broken_by (Judges sent)) o) ≡ [] → o ≡ None
       unruled None e = refl
@@ -313,7 +313,7 @@ module _ (number at peer by : ℕ) (busy : Option ℕ) (zero : Bool) (kept : Lis
           → option_to_list (early_finding (Judges sent) what v) ++ option_to_list (if reaches (Judges sent) what v then option_map (broken_by (Judges sent)) (spoken_rule (talk number at peer sent kept roomy) kept (Ok c) b) else None)
           ++ (if reaches (Judges sent) what v then map (broken_by (Judges sent)) (spoken_numbers (talk number at peer sent kept roomy) (Ok c) b) else []) ≡ []
           → (if reaches (Judges sent) what v then books_after_command (talk number at peer sent kept roomy) kept c b else b).full ≡ false
-          → Followed at peer (after_thing (Judges sent) what v) (if reaches (Judges sent) what v then books_after_command (talk number at peer sent kept roomy) kept c b else b) s (heard_after (turn number at peer sent kept roomy) c s t)
+          → Followed at peer (after_thing (Judges sent) what v) (if reaches (Judges sent) what v then books_after_command (talk number at peer sent kept roomy) kept c b else b) s (heard_after (sighting number at peer sent kept roomy) c s t)
       other c what none full =
           let e : List Finding = option_to_list (early_finding (Judges sent) what v) in
           let r : List Finding = option_to_list (if reaches (Judges sent) what v then option_map (broken_by (Judges sent)) (spoken_rule (talk number at peer sent kept roomy) kept (Ok c) b) else None) in
@@ -341,7 +341,7 @@ module _ (number at peer by : ℕ) (busy : Option ℕ) (zero : Bool) (kept : Lis
 
   pub items_followed : (sent : Bool) (items : List (Result Command CommandFault)) (v : View) (b : SeenBooks) (s : Session) (t : Tables) → Followed at peer v b s t
       → talked_findings (Judges sent) (talk number at peer sent kept roomy) kept items v b ≡ [] → (after_talked (Judges sent) (talk number at peer sent kept roomy) kept items v b).full ≡ false
-      → Followed at peer (after_items (Judges sent) items v) (after_talked (Judges sent) (talk number at peer sent kept roomy) kept items v b) (session_after_all (turn number at peer sent kept roomy) items s) (tables_after_all (turn number at peer sent kept roomy) items s t)
+      → Followed at peer (after_items (Judges sent) items v) (after_talked (Judges sent) (talk number at peer sent kept roomy) kept items v b) (session_after_all (sighting number at peer sent kept roomy) items s) (tables_after_all (sighting number at peer sent kept roomy) items s t)
   items_followed sent [] v b s t k none full = k
   items_followed sent (item ∷ items) v b s t k none full =
       let here : List Finding = all_findings (Judges sent) (talk number at peer sent kept roomy) kept item v b in
@@ -351,4 +351,4 @@ module _ (number at peer by : ℕ) (busy : Option ℕ) (zero : Bool) (kept : Lis
       let room : mid.full ≡ false = (items_read at peer (Judges sent) kept items next mid).room full in
       let before : b.full ≡ false = (talk_reads at peer (Judges sent) kept item v b).room room in
       let one = item_followed sent item v b s t before k (front_none here rest none) room in
-      items_followed sent items next mid (session_after (turn number at peer sent kept roomy) item s) (tables_after (turn number at peer sent kept roomy) item s t) one (rest_none here rest none) full
+      items_followed sent items next mid (session_after (sighting number at peer sent kept roomy) item s) (tables_after (sighting number at peer sent kept roomy) item s t) one (rest_none here rest none) full

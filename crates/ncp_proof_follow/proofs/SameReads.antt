@@ -21,29 +21,29 @@ use Rattle.ncp_umpire.specs.Texts.{text_rules, books_after_text}
 use Rattle.ncp_umpire.specs.Speaking.{is_admission, after_all_said}
 use Rattle.ncp_umpire.specs.Talked.{reaches, talked_findings, after_talked, tells_left_out, left_out_findings, after_left_out, text_findings}
 use Rattle.ncp_umpire.specs.Judged.{is_roomy, items_said, control_findings, after_control, read_findings, after_read, books_after_read}
-use Rattle.ncp_follow.specs.declared.lives.TheConstants.{MAX_LIVES}
-use Rattle.ncp_follow.specs.declared.saying.Reading as followed
-use Rattle.ncp_follow.specs.declared.saying.Reading.TheVariants as read
+use Rattle.ncp_follow.specs.declared.tracks.TheConstants.{MAX_TRACKS}
+use Rattle.ncp_follow.specs.declared.saying.Payload.{Payload}
+use Rattle.ncp_follow.specs.declared.saying.Payload.{Payload}
 use Rattle.ncp_follow.specs.declared.session.Session.{Session}
 use Rattle.ncp_follow.specs.declared.tables.Tables.{Tables}
 use Rattle.ncp_follow.specs.Sessions.{is_heard, with_stray}
 use Rattle.ncp_follow.specs.Tables.{after_text}
-use Rattle.ncp_follow.specs.Followed.{is_text_told, text_session, followed_reading, read_session, read_tables}
+use Rattle.ncp_follow.specs.Followed.{is_text_told, text_session, payload_in, read_session, read_tables}
 use Rattle.ncp_proof_umpire_whole.proofs.NeverRests.{none_early, thing_leaves, room_leaves}
-use Rattle.ncp_proof_follow.proofs.Besides.{front_none, rest_none, map_none}
-use Rattle.ncp_proof_follow.proofs.Calmly.{Calmly, calmly, none_rests, any_fewer}
-use Rattle.ncp_proof_follow.proofs.SameCommands.{Same, calmly_same, talk, turn}
+use Rattle.ncp_proof_follow_books.proofs.Besides.{front_none, rest_none, map_none}
+use Rattle.ncp_proof_follow_books.proofs.Calmly.{Calmly, calmly, none_rests, any_fewer}
+use Rattle.ncp_proof_follow_books.proofs.SameCommands.{Same, calmly_same, talk, sighting}
 use Rattle.ncp_proof_follow.proofs.SameItems.{InTouch, Followed, heard_is, Judges, items_followed}
-use Rattle.ncp_proof_follow.proofs.SameTexts.{TextLed, text_led, text_same}
+use Rattle.ncp_proof_follow_books.proofs.SameTexts.{TextLed, text_led, text_same}
 
 -- ---- what is read: control on link 0, texts on the links of connections
 
-abbrev pub reading_as : Reading → followed.Reading
-reading_as Stop = read.Nothing
-reading_as Text = read.Text
-reading_as Control = read.Control
+abbrev pub payload_as : Reading → Payload
+payload_as Stop = Payload.Nothing
+payload_as Text = Payload.Text
+payload_as Control = Payload.Control
 
-pub reading_is : (message : Message) → followed_reading message ≡ reading_as (judged_reading message)
+pub reading_is : (message : Message) → payload_in message ≡ payload_as (judged_reading message)
 reading_is message = go (message.leader.link == 0) refl (message.size == 8)
   where
     link : ℕ
@@ -56,16 +56,16 @@ reading_is message = go (message.leader.link == 0) refl (message.size == 8)
     unused_zero : (link == 0) ≡ true → is_unused link ≡ false
     unused_zero z = ap is_unused (eqb-true link 0 z)
 
-    by : (x : Bool) → (if not x then read.Text else read.Nothing) ≡ reading_as (if x then Stop else Text)
+    by : (x : Bool) → (if not x then Payload.Text else Payload.Nothing) ≡ payload_as (if x then Stop else Text)
     by true = refl
     by false = refl
 
     go : (z : Bool) → (link == 0) ≡ z → (e : Bool)
-        → (if z then if e then read.Control else read.Nothing else if nat_le 2 link && nat_le link 71 then read.Text else read.Nothing)
-        ≡ reading_as (if is_unused link then Stop else if not z then Text else if e then Control else Stop)
-    go true z true = sym (ap (λ (x : Bool). reading_as (if x then Stop else Control)) (unused_zero z))
-    go true z false = sym (ap (λ (x : Bool). reading_as (if x then Stop else Stop)) (unused_zero z))
-    go false z e = ap (λ (x : Bool). if x then read.Text else read.Nothing) (ranged z) ∙ by (is_unused link)
+        → (if z then if e then Payload.Control else Payload.Nothing else if nat_le 2 link && nat_le link 71 then Payload.Text else Payload.Nothing)
+        ≡ payload_as (if is_unused link then Stop else if not z then Text else if e then Control else Stop)
+    go true z true = sym (ap (λ (x : Bool). payload_as (if x then Stop else Control)) (unused_zero z))
+    go true z false = sym (ap (λ (x : Bool). payload_as (if x then Stop else Stop)) (unused_zero z))
+    go false z e = ap (λ (x : Bool). if x then Payload.Text else Payload.Nothing) (ranged z) ∙ by (is_unused link)
 
 -- ---- a session in which a text is heard or not
 
@@ -87,7 +87,7 @@ left_room at peer turn room v b = go (tells_left_out turn room v b)
     go true = refl
     go false = refl
 
-module _ (number at peer by : ℕ) (busy : Option ℕ) (zero : Bool) (kept : List Kept) (roomy : (n : ℕ) → nat_lt n MAX_BOOKS ≡ true → nat_lt n MAX_LIVES ≡ true) (sent : Bool) where
+module _ (number at peer by : ℕ) (busy : Option ℕ) (zero : Bool) (kept : List Kept) (roomy : (n : ℕ) → nat_lt n MAX_BOOKS ≡ true → nat_lt n MAX_TRACKS ≡ true) (sent : Bool) where
   abbrev pub Reader : Turn
   Reader = Judges number at peer by busy zero kept roomy sent
 
@@ -95,8 +95,8 @@ module _ (number at peer by : ℕ) (busy : Option ℕ) (zero : Bool) (kept : Lis
     -- what is known after it
     abbrev pub ReadSo : Message → Reading → Type 0
     ReadSo message reading =
-        InTouch (after_read reading Reader message.text v) (read_session (reading_as reading) (turn number at peer sent kept roomy) message s t)
-        × Same (books_after_read Reader (talk number at peer sent kept roomy) kept message v b reading) (read_tables (reading_as reading) (turn number at peer sent kept roomy) message s t)
+        InTouch (after_read reading Reader message.text v) (read_session (payload_as reading) (sighting number at peer sent kept roomy) message s t)
+        × Same (books_after_read Reader (talk number at peer sent kept roomy) kept message v b reading) (read_tables (payload_as reading) (sighting number at peer sent kept roomy) message s t)
 
     control_so : (message : Message) → control_findings Reader (talk number at peer sent kept roomy) kept message.text v b ≡ []
         → (after_control Reader (talk number at peer sent kept roomy) kept message.text v b).full ≡ false → ReadSo message Control
@@ -115,10 +115,10 @@ module _ (number at peer by : ℕ) (busy : Option ℕ) (zero : Bool) (kept : Lis
         mid = after_talked Reader (talk number at peer sent kept roomy) kept items v b
 
         done : Session
-        done = read_session read.Control (turn number at peer sent kept roomy) message s t
+        done = read_session Payload.Control (sighting number at peer sent kept roomy) message s t
 
         after : Tables
-        after = read_tables read.Control (turn number at peer sent kept roomy) message s t
+        after = read_tables Payload.Control (sighting number at peer sent kept roomy) message s t
 
         found : List Finding
         found = talked_findings Reader (talk number at peer sent kept roomy) kept items v b
@@ -160,7 +160,7 @@ module _ (number at peer by : ℕ) (busy : Option ℕ) (zero : Bool) (kept : Lis
         if_so false e none = absurd (cc e)
 
     text_so : (message : Message) → b.full ≡ false → read_findings Reader (talk number at peer sent kept roomy) kept message v b Text ≡ [] → ReadSo message Text
-    text_so message full none = (subst (λ (w : View). InTouch w (text_session (turn number at peer sent kept roomy) link message.text s t)) (sym (thing_leaves Reader Thing.Text v h.early)) (touch (is_text_told (turn number at peer sent kept roomy) link s t)), same (is_heard s sent) refl)
+    text_so message full none = (subst (λ (w : View). InTouch w (text_session (sighting number at peer sent kept roomy) link message.text s t)) (sym (thing_leaves Reader Thing.Text v h.early)) (touch (is_text_told (sighting number at peer sent kept roomy) link s t)), same (is_heard s sent) refl)
       where
         link : ℕ
         link = message.leader.link
@@ -173,14 +173,14 @@ module _ (number at peer by : ℕ) (busy : Option ℕ) (zero : Bool) (kept : Lis
         touch false = stray_touch v s sent (length message.text) k.touch
 
         same : (x : Bool) → is_heard s sent ≡ x
-            → Same (if reaches Reader Thing.Text v then books_after_text (talk number at peer sent kept roomy) link message b else b) (if is_heard s sent then after_text (turn number at peer sent kept roomy) link message.size message.text t else t)
+            → Same (if reaches Reader Thing.Text v then books_after_text (talk number at peer sent kept roomy) link message b else b) (if is_heard s sent then after_text (sighting number at peer sent kept roomy) link message.size message.text t else t)
         same true e =
-            subst (λ (x : Bool). Same (if x then books_after_text (talk number at peer sent kept roomy) link message b else b) (if is_heard s sent then after_text (turn number at peer sent kept roomy) link message.size message.text t else t)) (h.heard)
-            (subst (λ (x : Bool). Same (if x then books_after_text (talk number at peer sent kept roomy) link message b else b) (if x then after_text (turn number at peer sent kept roomy) link message.size message.text t else t)) (sym e)
+            subst (λ (x : Bool). Same (if x then books_after_text (talk number at peer sent kept roomy) link message b else b) (if is_heard s sent then after_text (sighting number at peer sent kept roomy) link message.size message.text t else t)) (h.heard)
+            (subst (λ (x : Bool). Same (if x then books_after_text (talk number at peer sent kept roomy) link message b else b) (if x then after_text (sighting number at peer sent kept roomy) link message.size message.text t else t)) (sym e)
             (text_same (talk number at peer sent kept roomy) link message b number t k.same (h.led e)))
         same false e =
-            subst (λ (x : Bool). Same (if x then books_after_text (talk number at peer sent kept roomy) link message b else b) (if is_heard s sent then after_text (turn number at peer sent kept roomy) link message.size message.text t else t)) (h.heard)
-            (subst (λ (x : Bool). Same (if x then books_after_text (talk number at peer sent kept roomy) link message b else b) (if x then after_text (turn number at peer sent kept roomy) link message.size message.text t else t)) (sym e) k.same)
+            subst (λ (x : Bool). Same (if x then books_after_text (talk number at peer sent kept roomy) link message b else b) (if is_heard s sent then after_text (sighting number at peer sent kept roomy) link message.size message.text t else t)) (h.heard)
+            (subst (λ (x : Bool). Same (if x then books_after_text (talk number at peer sent kept roomy) link message b else b) (if x then after_text (sighting number at peer sent kept roomy) link message.size message.text t else t)) (sym e) k.same)
 
     pub read_so : (message : Message) (reading : Reading) → b.full ≡ false → read_findings Reader (talk number at peer sent kept roomy) kept message v b reading ≡ []
         → (books_after_read Reader (talk number at peer sent kept roomy) kept message v b reading).full ≡ false → ReadSo message reading

@@ -28,23 +28,23 @@ use Rattle.ncp_umpire.specs.Events.{is_answer, event_behind, event_of}
 use Rattle.ncp_umpire.specs.Judged.{next_number, sees, view_of, knows_zero, out_rule, is_fresh, changes_slot, view_after_out, slot_of_link, by_host, out_finding, fresh_out, umpire_after_out, with_answer, umpire_after_answer, judges_coming, with_coming, unsent_finding, after_in, turn_at, read_findings, after_read, books_after_read, said_findings, after_said, message_findings, event_findings, record_findings, after_record}
 use Rattle.ncp_umpire.proofs.Passing.{to_host, goes_to}
 use Rattle.ncp_umpire.proofs.Following.{said_keeps, out_is, in_is, answer_is}
-use Rattle.ncp_follow.specs.declared.lives.TheConstants.{MAX_LIVES}
+use Rattle.ncp_follow.specs.declared.tracks.TheConstants.{MAX_TRACKS}
 use Rattle.ncp_follow.specs.declared.slots.TheConstants.{MAX_OUT}
-use Rattle.ncp_follow.specs.declared.saying.Reading as followed
+use Rattle.ncp_follow.specs.declared.saying.Payload.{Payload}
 use Rattle.ncp_follow.specs.declared.session.Session.{Session}
 use Rattle.ncp_follow.specs.declared.follower.Follower.{Follower}
-use Rattle.ncp_follow.specs.declared.turn.Turn as told
+use Rattle.ncp_follow.specs.declared.sighting.Sighting.{Sighting}
 use Rattle.ncp_follow.specs.Sessions.{session_of, with_session, is_heard}
 use Rattle.ncp_follow.specs.Slots.{is_repeat, place_on, outs_with_message, outs_with_answer}
-use Rattle.ncp_follow.specs.Followed.{followed_reading, read_session, read_tables, follower_after_said, follower_after_out, follower_after_in, follower_after_answer, follower_after_read, follower_after_record}
+use Rattle.ncp_follow.specs.Followed.{payload_in, read_session, read_tables, follower_after_said, follower_after_out, follower_after_in, follower_after_answer, follower_after_read, follower_after_record}
 use Rattle.ncp_proof_umpire.proofs.PhaseSeen.{view_same, view_length}
 use Rattle.ncp_proof_umpire_whole.proofs.NeverRests.{out_awake}
-use Rattle.ncp_proof_follow.proofs.Besides.{front_none, rest_none}
-use Rattle.ncp_proof_follow.proofs.SameCommands.{Same}
+use Rattle.ncp_proof_follow_books.proofs.Besides.{front_none, rest_none}
+use Rattle.ncp_proof_follow_books.proofs.SameCommands.{Same}
 use Rattle.ncp_proof_follow.proofs.SameItems.{InTouch, NoneBetween, Followed}
-use Rattle.ncp_proof_follow.proofs.SameOuts.{SameOuts, sent_same, fresh_is, come_same, answer_same}
-use Rattle.ncp_proof_follow.proofs.SameReads.{reading_as, reading_is, ReadSo, read_so, HeardText, text_heard}
-use Rattle.ncp_proof_follow.proofs.SameSessions.{or_session, session_found, Hosts, session_hosts, read_hosts, IsRoom, put_found}
+use Rattle.ncp_proof_follow_books.proofs.SameOuts.{SameOuts, sent_same, fresh_is, come_same, answer_same}
+use Rattle.ncp_proof_follow.proofs.SameReads.{payload_as, reading_is, ReadSo, read_so, HeardText, text_heard}
+use Rattle.ncp_proof_follow_books.proofs.SameSessions.{or_session, session_found, Hosts, session_hosts, read_hosts, IsRoom, put_found}
 
 -- what judges, and what follows, at the interface of a host, of another
 pub record Alike (me n : ℕ) (u : Umpire) (f : Follower) : Type 0 where
@@ -73,14 +73,14 @@ view_told u at peer t f = ap (λ (b : Bool). record v { told = b }) (ap (λ (b :
     open_told true = refl
     open_told false = refl
 
-module _ (number me n : ℕ) (small : me < 256) (few : n < 256) (roomy : (i : ℕ) → nat_lt i MAX_BOOKS ≡ true → nat_lt i MAX_LIVES ≡ true) (roomy_out : (i : ℕ) → nat_lt i MAX_KEPT ≡ true → nat_lt i MAX_OUT ≡ true) where
+module _ (number me n : ℕ) (small : me < 256) (few : n < 256) (roomy : (i : ℕ) → nat_lt i MAX_BOOKS ≡ true → nat_lt i MAX_TRACKS ≡ true) (roomy_out : (i : ℕ) → nat_lt i MAX_KEPT ≡ true → nat_lt i MAX_OUT ≡ true) where
   -- ---- what a message says
 
   module _ (sent : Bool) (by : ℕ) (A : Umpire) (f : Follower) (k : Alike me n A f) (long : length A.views ≡ VIEWS) (unfull : A.full ≡ false) (none : awaits_reply (view_in A.views me n).host.wait ≡ true → NoneBetween me n A.books) (seat : IsRoom me n f.sessions) where
     abbrev turn : Turn
     turn = turn_at A me n by sent
 
-    abbrev heard : told.Turn
+    abbrev heard : Sighting
     heard = record { number = number; at = me; peer = n; sent = sent }
 
     view_is : view_of A me n ≡ view_in A.views me n
@@ -91,13 +91,13 @@ module _ (number me n : ℕ) (small : me < 256) (few : n < 256) (roomy : (i : �
 
     pub said_so : (m : Message) → said_findings A me n turn true (Ok m) ≡ [] → A.books.full ≡ false → (after_said A me n turn true (Ok m)).books.full ≡ false → Then me n (after_said A me n turn true (Ok m)) f (follower_after_said heard (Ok m) f)
     said_so m unsaid room full =
-        subst (λ (p : Bool). Then me n now f (after_as p (followed_reading m))) (sym k.part)
-        (subst (λ (r : followed.Reading). Then me n now f (after_as false r)) (sym (reading_is m))
+        subst (λ (p : Bool). Then me n now f (after_as p (payload_in m))) (sym k.part)
+        (subst (λ (r : Payload). Then me n now f (after_as false r)) (sym (reading_is m))
         (record {
           alike = record {
             part = k.part;
             outs = k.outs;
-            same = subst (λ (w : View). Same (books_after_read turn (talk_of me n turn) A.kept m w A.books reading) (read_tables (reading_as reading) heard m session f.tables)) (sym view_is) read.1;
+            same = subst (λ (w : View). Same (books_after_read turn (talk_of me n turn) A.kept m w A.books reading) (read_tables (payload_as reading) heard m session f.tables)) (sym view_is) read.1;
             touch = subst (λ (w : View). InTouch w (session_of false (with_session f.sessions done) me n)) (sym seen) (subst (λ (s : Session). InTouch (after_read reading turn m.text v) s) (sym here) read.0);
           };
           seats = Put done hosts refl;
@@ -116,16 +116,16 @@ module _ (number me n : ℕ) (small : me < 256) (few : n < 256) (roomy : (i : �
         session = session_of false f.sessions me n
 
         done : Session
-        done = read_session (reading_as reading) heard m session f.tables
+        done = read_session (payload_as reading) heard m session f.tables
 
-        after_as : Bool → followed.Reading → Follower
+        after_as : Bool → Payload → Follower
         after_as p r = record f {
           sessions = with_session f.sessions (read_session r heard m (session_of p f.sessions me n) f.tables);
           tables = read_tables r heard m (session_of p f.sessions me n) f.tables;
         }
 
         hosts : Hosts me n done
-        hosts = read_hosts me n (reading_as reading) heard m session f.tables (session_hosts me n f.sessions)
+        hosts = read_hosts me n (payload_as reading) heard m session f.tables (session_hosts me n f.sessions)
 
         here : session_of false (with_session f.sessions done) me n ≡ done
         here = session_found me n (with_session f.sessions done) ∙ ap (or_session me n) (put_found me n done f.sessions hosts seat)
@@ -266,7 +266,7 @@ module _ (number me n : ℕ) (small : me < 256) (few : n < 256) (roomy : (i : �
           fresh_is me n on m u.kept f.outs k.outs unruled ∙ ap (λ (x : Slot). not (is_fresh x same)) (sym there_is)
           ∙ ap (λ (b : Bool). not (b || is_fresh there same)) (sym unfull)
 
-      abbrev message : told.Turn
+      abbrev message : Sighting
       message = record { number = number; at = me; peer = n; sent = true }
 
       read_out : (x : Bool) → message_findings A me n by_me x on m ≡ [] → (after_said A me n by_me x (message_in m)).books.full ≡ false

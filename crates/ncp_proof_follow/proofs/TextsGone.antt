@@ -23,27 +23,27 @@ use Rattle.ncp_umpire.specs.declared.life.Topic.{Topic}
 use Rattle.ncp_umpire.specs.Lives.{SeenBooks, unasked_life, life_in_place, is_marked}
 use Rattle.ncp_umpire.specs.Texts.{text_lead}
 use Rattle.ncp_umpire.proofs.BooksAt.{HasSockets}
-use Rattle.ncp_follow.specs.declared.life.Life as followed
+use Rattle.ncp_follow.specs.declared.track.Track.{Track}
 use Rattle.ncp_follow.specs.declared.tables.Tables.{Tables}
-use Rattle.ncp_follow.specs.declared.turn.Turn.{Turn}
-use Rattle.ncp_follow.specs.Lives.{new_life, is_used, takes_bits, life_at}
+use Rattle.ncp_follow.specs.declared.sighting.Sighting.{Sighting}
+use Rattle.ncp_follow.specs.Tracks.{new_track, is_used, takes_bits, track_at}
 use Rattle.ncp_follow.specs.Tables.{link_place, said_at, after_text}
 use Rattle.ncp_proof_umpire_seen.proofs.LinksReach.{Led, led_sender}
 use Rattle.ncp_proof_umpire_seen.proofs.OwnMoves.{sockets_of}
 use Rattle.ncp_proof_umpire_seen.proofs.TidyBooks.{Tidy}
 use Rattle.ncp_proof_umpire_counts.proofs.LinkPlaces.{OpensAt}
-use Rattle.ncp_proof_umpire_counts.proofs.LinksGo.{own_talk}
-use Rattle.ncp_proof_umpire_counts.proofs.TextGoes.{MaySend, may_send_is, SentOf, sent_of, opens, open_rules_none}
+use Rattle.ncp_proof_umpire_owes.proofs.LinksGo.{own_talk}
+use Rattle.ncp_proof_umpire_owes.proofs.TextGoes.{MaySend, may_send_is, SentOf, sent_of, opens, open_rules_none}
 use Rattle.ncp_proof_umpire_talk.proofs.Spoken.{Tells}
-use Rattle.ncp_proof_follow.proofs.Besides.{besides_length, besides_at}
-use Rattle.ncp_proof_follow.proofs.SameLives.{SameLife}
-use Rattle.ncp_proof_follow.proofs.Calmly.{none_rests}
-use Rattle.ncp_proof_follow.proofs.SameCommands.{Same}
-use Rattle.ncp_proof_follow.proofs.SameTexts.{TextLed, text_led, text_place}
-use Rattle.ncp_proof_follow.proofs.OtherAt.{first_here}
-use Rattle.ncp_proof_follow.proofs.OpensSo.{AllOpened}
-use Rattle.ncp_proof_follow.proofs.Placed.{Name, has_name, text_named, Placed}
-use Rattle.ncp_proof_follow.proofs.PlacedSteps.{SaidSo, said_so}
+use Rattle.ncp_proof_follow_books.proofs.Besides.{besides_length, besides_at}
+use Rattle.ncp_proof_follow_books.proofs.SameLives.{SameLife}
+use Rattle.ncp_proof_follow_books.proofs.Calmly.{none_rests}
+use Rattle.ncp_proof_follow_books.proofs.SameCommands.{Same}
+use Rattle.ncp_proof_follow_books.proofs.SameTexts.{TextLed, text_led, text_place}
+use Rattle.ncp_proof_follow_books.proofs.OtherAt.{first_here}
+use Rattle.ncp_proof_follow_books.proofs.OpensSo.{AllOpened}
+use Rattle.ncp_proof_follow_books.proofs.Placed.{Name, has_name, text_named, Placed}
+use Rattle.ncp_proof_follow_books.proofs.PlacedSteps.{SaidSo, said_so}
 use Rattle.ncp_proof_follow.proofs.PeerLives.{SoundAll, mine, text_cut}
 use Rattle.ncp_proof_follow.proofs.HostLives.{HostLives, gone_by, out_lives}
 use Rattle.ncp_proof_follow.proofs.HostAsks.{out_steady}
@@ -76,11 +76,11 @@ cut_from on m t a = go (sender_on on m) refl a
 stored_enough : (e : End) → bytes_to_send e * e.size ≤ length e.stored
 stored_enough e = grind arith
 
-module _ (number me n : ℕ) (s : PeerState) (pasts : Pasts) (sound : SoundAll s.peer.ends) (good : Good s.peer.ends) (b : SeenBooks) (t : Tables) (same : Same b t) (tidy : Tidy b) (room : b.full ≡ false) (placed : Placed t) (all : AllOpened t.lives)
+module _ (number me n : ℕ) (s : PeerState) (pasts : Pasts) (sound : SoundAll s.peer.ends) (good : Good s.peer.ends) (b : SeenBooks) (t : Tables) (same : Same b t) (tidy : Tidy b) (room : b.full ≡ false) (placed : Placed t) (all : AllOpened t.tracks)
     (awaited : Bool) (w : List Command) (tells : Tells me n s.peer.ends awaited w b) (on : ℕ) (message : Message) (out : List Bool) (cut : ℕ × List Bool) (made : answer (cut_in on s.peer.ends) ≡ Some cut)
     (sized : message.size ≡ cut.0) (worded : message.text ≡ cut.1)
-    (covered : (p : ℕ) → is_some (life_at t.lives p).place ≡ true → ((life_in_place b.lives p).messages ≤ (life_at t.lives p).left.messages) × ((life_in_place b.lives p).bits ≤ (life_at t.lives p).left.bits)) where
-  abbrev sent : Turn
+    (covered : (p : ℕ) → is_some (track_at t.tracks p).place ≡ true → ((life_in_place b.lives p).messages ≤ (track_at t.tracks p).left.messages) × ((life_in_place b.lives p).bits ≤ (track_at t.tracks p).left.bits)) where
+  abbrev sent : Sighting
   sent = record { number = number; at = me; peer = n; sent = true }
 
   abbrev now : Tables
@@ -121,8 +121,8 @@ module _ (number me n : ℕ) (s : PeerState) (pasts : Pasts) (sound : SoundAll s
   abbrev judged : Life
   judged = life_in_place b.lives k.place
 
-  abbrev told : followed.Life
-  told = life_at t.lives k.place
+  abbrev told : Track
+  told = track_at t.tracks k.place
 
   is_place : open_at.user.place ≡ k.place
   is_place = cc (sym open_at.leads ∙ k.lead)
@@ -133,14 +133,14 @@ module _ (number me n : ℕ) (s : PeerState) (pasts : Pasts) (sound : SoundAll s
       same_life : life_in_place b.lives open_at.user.place ≡ of_it.life
       same_life = cc (sym open_at.user.seen ∙ of_it.seen)
 
-  found : link_place me n true on t.lives ≡ Some k.place
+  found : link_place me n true on t.tracks ≡ Some k.place
   found = text_place (own_talk me n) on message b t k same.lives
 
-  within : k.place < length t.lives
-  within = (position-Some (is_used me n true on) t.lives k.place (new_life 0 0 0 0) found).0
+  within : k.place < length t.tracks
+  within = (position-Some (is_used me n true on) t.tracks k.place (new_track 0 0 0 0) found).0
 
   one : SameLife judged told
-  one = besides_at SameLife b.lives t.lives k.place (unasked_life 0 0 0 0) (new_life 0 0 0 0) (subst (λ (x : ℕ). k.place < x) (besides_length SameLife b.lives t.lives same.lives) within) same.lives
+  one = besides_at SameLife b.lives t.tracks k.place (unasked_life 0 0 0 0) (new_track 0 0 0 0) (subst (λ (x : ℕ). k.place < x) (besides_length SameLife b.lives t.tracks same.lives) within) same.lives
 
   so : SaidSo sent t placed told message.size message.text now
   so = subst (λ (o : Option ℕ). SaidSo sent t placed told message.size message.text (said_at message.size message.text t o)) (sym found) (said_so sent t placed true on message.size message.text k.place found)
@@ -156,7 +156,7 @@ module _ (number me n : ℕ) (s : PeerState) (pasts : Pasts) (sound : SoundAll s
       takes_it told message.size (length message.text) (ap (λ (o : Option ℕ). is_some o) (one.link ∙ ap (λ (x : Life). x.link) judged_is ∙ of_it.given))
       (one.size ∙ ap (λ (x : Life). x.size) judged_is ∙ of_it.sized ∙ ap (λ (x : ℕ). Some x) (sym (sized ∙ c.size))) (one.host_left ∙ ap (λ (x : Life). x.host_left) judged_is ∙ of_it.left)
       (one.peer_left ∙ ap (λ (x : Life). x.peer_left) judged_is ∙ of_it.cls)
-      (all (name c.pair) told (first_here (has_name (name c.pair)) t.lives k.place (new_life 0 0 0 0) within (placed.unique (name c.pair)) is_its))
+      (all (name c.pair) told (first_here (has_name (name c.pair)) t.tracks k.place (new_track 0 0 0 0) within (placed.unique (name c.pair)) is_its))
       (λ e. let d = covered k.place e in covers_it judged told (length message.text) k.enough d.0 d.1)
 
   module _ (slot : slot_at s.slots on ≡ Slot.Empty) (z : (on == 0) ≡ false) where

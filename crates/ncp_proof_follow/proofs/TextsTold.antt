@@ -25,23 +25,23 @@ use Rattle.ncp_transcript_two.specs.Watch.{pasts_after_text}
 use Rattle.ncp_umpire.specs.declared.life.Life.{Life}
 use Rattle.ncp_umpire.specs.Lives.{SeenBooks, unasked_life, life_in_place}
 use Rattle.ncp_umpire.specs.Texts.{uses_too_much}
-use Rattle.ncp_follow.specs.declared.life.Life as followed
+use Rattle.ncp_follow.specs.declared.track.Track.{Track}
 use Rattle.ncp_follow.specs.declared.tables.Tables.{Tables}
-use Rattle.ncp_follow.specs.declared.turn.Turn.{Turn}
+use Rattle.ncp_follow.specs.declared.sighting.Sighting.{Sighting}
 use Rattle.ncp_follow.specs.Amounts.{covers}
 use Rattle.ncp_follow.specs.Connections.{text_with}
-use Rattle.ncp_follow.specs.Lives.{new_life, is_used, is_given, nobody_left, is_whole, takes_bits, life_at}
+use Rattle.ncp_follow.specs.Tracks.{new_track, is_used, is_given, nobody_left, is_whole, takes_bits, track_at}
 use Rattle.ncp_follow.specs.Tables.{link_place, said_at, after_text}
 use Rattle.ncp_proof_umpire_seen.proofs.Proper.{ProperEnds}
 use Rattle.ncp_proof_umpire_talk.proofs.Spoken.{Tells}
-use Rattle.ncp_proof_follow.proofs.Besides.{besides_length, besides_at}
-use Rattle.ncp_proof_follow.proofs.SameLives.{SameLife}
-use Rattle.ncp_proof_follow.proofs.SameCommands.{Same}
-use Rattle.ncp_proof_follow.proofs.SameTexts.{TextLed, text_place}
-use Rattle.ncp_proof_follow.proofs.OtherAt.{first_here}
-use Rattle.ncp_proof_follow.proofs.OpensSo.{AllOpened}
-use Rattle.ncp_proof_follow.proofs.Placed.{Name, has_name, text_named, Placed, name_is}
-use Rattle.ncp_proof_follow.proofs.PlacedSteps.{SaidSo, said_so}
+use Rattle.ncp_proof_follow_books.proofs.Besides.{besides_length, besides_at}
+use Rattle.ncp_proof_follow_books.proofs.SameLives.{SameLife}
+use Rattle.ncp_proof_follow_books.proofs.SameCommands.{Same}
+use Rattle.ncp_proof_follow_books.proofs.SameTexts.{TextLed, text_place}
+use Rattle.ncp_proof_follow_books.proofs.OtherAt.{first_here}
+use Rattle.ncp_proof_follow_books.proofs.OpensSo.{AllOpened}
+use Rattle.ncp_proof_follow_books.proofs.Placed.{Name, has_name, text_named, Placed, name_is}
+use Rattle.ncp_proof_follow_books.proofs.PlacedSteps.{SaidSo, said_so}
 use Rattle.ncp_proof_follow.proofs.PeerLives.{SoundAll, mine, text_took}
 use Rattle.ncp_proof_follow.proofs.HostLives.{HostLives, got_lives}
 use Rattle.ncp_proof_follow.proofs.Telling.{got_step, given_step, with_none}
@@ -59,14 +59,14 @@ all_same : (a b c d : ℕ) → (a == a && b == b && c == c && d == d) ≡ true
 all_same a b c d = rw (eq-eqb a a refl, eq-eqb b b refl, eq-eqb c c refl, eq-eqb d d refl) refl
 
 -- the name of a connection, by its sockets
-pub named_so : (me n c d : ℕ) (m : followed.Life) → m.at ≡ me → m.peer ≡ n → m.local ≡ c → m.remote ≡ d → has_name (record { at = me; peer = n; pair = record { local = c; remote = d } }) m ≡ true
+pub named_so : (me n c d : ℕ) (m : Track) → m.at ≡ me → m.peer ≡ n → m.local ≡ c → m.remote ≡ d → has_name (record { at = me; peer = n; pair = record { local = c; remote = d } }) m ≡ true
 named_so me n c d m at peer local remote =
     ap (λ (z : ℕ). z == me && m.peer == n && m.local == c && m.remote == d) at ∙ ap (λ (z : ℕ). me == me && z == n && m.local == c && m.remote == d) peer
     ∙ ap (λ (z : ℕ). me == me && n == n && z == c && m.remote == d) local ∙ ap (λ (z : ℕ). me == me && n == n && c == c && z == d) remote ∙ all_same me n c d
 
 -- ---- what is told, where a text is of the connection of this pair
 
-module _ (me n : ℕ) (turn : Turn) (t now : Tables) (placed : Placed t) (its_pair : Pair) (life : followed.Life) (size : ℕ) (text : List Bool) (said : SaidSo turn t placed life size text now) where
+module _ (me n : ℕ) (sighting : Sighting) (t now : Tables) (placed : Placed t) (its_pair : Pair) (life : Track) (size : ℕ) (text : List Bool) (said : SaidSo sighting t placed life size text now) where
   abbrev name : Pair → Name
   name q = record { at = me; peer = n; pair = q }
 
@@ -124,7 +124,7 @@ open_one : (x y : Bool) → (x || (false && y)) ≡ false → x ≡ false
 open_one true y e = absurd (cc e)
 open_one false y e = refl
 
-pub covers_it : (l : Life) (m : followed.Life) (bits : ℕ) → uses_too_much bits l ≡ false → l.messages ≤ m.left.messages → l.bits ≤ m.left.bits → covers m.left bits ≡ true
+pub covers_it : (l : Life) (m : Track) (bits : ℕ) → uses_too_much bits l ≡ false → l.messages ≤ m.left.messages → l.bits ≤ m.left.bits → covers m.left bits ≡ true
 covers_it l m bits e a b = go (l.messages == 0) refl (nat_lt l.bits bits) refl e
   where
     some : (l.messages == 0) ≡ false → 0 < l.messages
@@ -142,7 +142,7 @@ covers_it l m bits e a b = go (l.messages == 0) refl (nat_lt l.bits bits) refl e
         by k = grind (arith, nat_tests)
 
 -- a connection as it is followed, that is whole and has so much left
-pub takes_it : (m : followed.Life) (size bits : ℕ) → is_some m.link ≡ true → m.size ≡ Some size → m.host_left ≡ false → m.peer_left ≡ false → (is_whole m ≡ true → is_some m.place ≡ true) → (is_some m.place ≡ true → covers m.left bits ≡ true)
+pub takes_it : (m : Track) (size bits : ℕ) → is_some m.link ≡ true → m.size ≡ Some size → m.host_left ≡ false → m.peer_left ≡ false → (is_whole m ≡ true → is_some m.place ≡ true) → (is_some m.place ≡ true → covers m.left bits ≡ true)
     → (is_some m.place && takes_bits m size bits) ≡ true
 takes_it m size bits link sized host peer opened covered =
     ap (λ (x : Bool). x && takes_bits m size bits) place
@@ -160,29 +160,29 @@ takes_it m size bits link sized host peer opened covered =
 
 -- ---- it comes
 
-module _ (number me n : ℕ) (s : PeerState) (pasts : Pasts) (sound : SoundAll s.peer.ends) (good : Good s.peer.ends) (b : SeenBooks) (t : Tables) (same : Same b t) (placed : Placed t) (all : AllOpened t.lives)
+module _ (number me n : ℕ) (s : PeerState) (pasts : Pasts) (sound : SoundAll s.peer.ends) (good : Good s.peer.ends) (b : SeenBooks) (t : Tables) (same : Same b t) (placed : Placed t) (all : AllOpened t.tracks)
     (awaited : Bool) (w : List Command) (tells : Tells me n s.peer.ends awaited w b) (on : ℕ) (head : List Bool) (message : Message) (k : TextLed (record { at = me; peer = n; sent = false }) on message b)
-    (covered : is_some (life_at t.lives k.place).place ≡ true → ((life_in_place b.lives k.place).messages ≤ (life_at t.lives k.place).left.messages) × ((life_in_place b.lives k.place).bits ≤ (life_at t.lives k.place).left.bits)) where
-  abbrev heard : Turn
+    (covered : is_some (track_at t.tracks k.place).place ≡ true → ((life_in_place b.lives k.place).messages ≤ (track_at t.tracks k.place).left.messages) × ((life_in_place b.lives k.place).bits ≤ (track_at t.tracks k.place).left.bits)) where
+  abbrev heard : Sighting
   heard = record { number = number; at = me; peer = n; sent = false }
 
   abbrev judged : Life
   judged = life_in_place b.lives k.place
 
-  abbrev told : followed.Life
-  told = life_at t.lives k.place
+  abbrev told : Track
+  told = track_at t.tracks k.place
 
   abbrev now : Tables
   now = after_text heard on message.size message.text t
 
-  found : link_place me n false on t.lives ≡ Some k.place
+  found : link_place me n false on t.tracks ≡ Some k.place
   found = text_place (record { at = me; peer = n; sent = false }) on message b t k same.lives
 
-  within : k.place < length t.lives
-  within = (position-Some (is_used me n false on) t.lives k.place (new_life 0 0 0 0) found).0
+  within : k.place < length t.tracks
+  within = (position-Some (is_used me n false on) t.tracks k.place (new_track 0 0 0 0) found).0
 
   one : SameLife judged told
-  one = besides_at SameLife b.lives t.lives k.place (unasked_life 0 0 0 0) (new_life 0 0 0 0) (subst (λ (x : ℕ). k.place < x) (besides_length SameLife b.lives t.lives same.lives) within) same.lives
+  one = besides_at SameLife b.lives t.tracks k.place (unasked_life 0 0 0 0) (new_track 0 0 0 0) (subst (λ (x : ℕ). k.place < x) (besides_length SameLife b.lives t.tracks same.lives) within) same.lives
 
   so : SaidSo heard t placed told message.size message.text now
   so = subst (λ (o : Option ℕ). SaidSo heard t placed told message.size message.text (said_at message.size message.text t o)) (sym found) (said_so heard t placed false on message.size message.text k.place found)
@@ -253,5 +253,5 @@ module _ (number me n : ℕ) (s : PeerState) (pasts : Pasts) (sound : SoundAll s
             taken : (is_some told.place && takes_bits told message.size (length message.text)) ≡ true
             taken =
                 takes_it told message.size (length message.text) (ap (λ (o : Option ℕ). is_some o) one.link ∙ k.linked) (one.size ∙ k.size) (one.host_left ∙ host) (one.peer_left ∙ open_one judged.peer_left judged.peer_left k.stays)
-                (all (record { at = me; peer = n; pair = its }) told (first_here (has_name (record { at = me; peer = n; pair = its })) t.lives k.place (new_life 0 0 0 0) within (placed.unique (record { at = me; peer = n; pair = its })) is_its))
+                (all (record { at = me; peer = n; pair = its }) told (first_here (has_name (record { at = me; peer = n; pair = its })) t.tracks k.place (new_track 0 0 0 0) within (placed.unique (record { at = me; peer = n; pair = its })) is_its))
                 (λ e. let c = covered e in covers_it judged told (length message.text) k.enough c.0 c.1)

@@ -38,9 +38,10 @@ use Rattle.ncp_follow.specs.Followed.{new_follower, follower_after_record}
 use Rattle.ncp_follow.specs.Tables.{has_place_told}
 use Rattle.ncp_proof_umpire.specs.Worlds.{passes_between, world_file}
 use Rattle.ncp_proof_umpire_many.proofs.Walk.{after_file}
-use Rattle.ncp_proof_follow.specs.TextTold.{text_told}
-use Rattle.ncp_proof_follow.specs.ToldTexts.{is_to_imp, followed_from, ToldIsGot, GotIsTold, ToldIsGiven, ToldTwice, IsTold, FollowTellsWhatWasGot}
-use Rattle.ncp_proof_follow.proofs.Placed.{text_named, text_is}
+use Rattle.ncp_proof_follow_books.specs.TextTold.{text_told}
+use Rattle.ncp_proof_follow_books.specs.FileFollowed.{is_to_imp, followed_from}
+use Rattle.ncp_proof_follow.specs.ToldTexts.{ToldIsGot, GotIsTold, ToldIsGiven, ToldTwice, IsTold, FollowTellsWhatWasGot}
+use Rattle.ncp_proof_follow_books.proofs.Placed.{text_named, text_is}
 use Rattle.ncp_proof_follow.proofs.Telling.{Got, GivenSo, take_with}
 use Rattle.ncp_proof_follow.proofs.ControlComes.{AtHost}
 

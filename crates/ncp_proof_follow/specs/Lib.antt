@@ -1,3 +1,1 @@
-pub mod TextTold
 pub mod ToldTexts
-pub mod Examples

@@ -1,5 +1,5 @@
 -- What the text is that is told of a connection, in the file of what passes the interfaces of two hosts.
-use Rattle.std.specs.Prelude.{◌≡◌, ◌≢◌, ◌<◌, ℕ, ◌+◌, ◌-◌, ◌^◌, min, Bool, true, false, List, [], ◌∷◌, ◌++◌, length, take}
+use Rattle.std.specs.Prelude.{◌≡◌, ◌≢◌, ◌<◌, ℕ, Bool, true, false, List, ◌++◌, length, take}
 use Rattle.std.specs.FinMap.{get}
 use Rattle.ncp_bits.specs.declared.bits.TheConstants.{MAX_BITS}
 use Rattle.ncp_model.specs.declared.pair.Pair.{Pair}
@@ -15,25 +15,12 @@ use Rattle.ncp_transcript_two.specs.Between.{new_hosts}
 use Rattle.ncp_transcript_two.specs.Transcript.{Noted_world, new_world, AreSteps}
 use Rattle.ncp_transcript_two.specs.Seen.{seen}
 use Rattle.ncp_transcript_two.specs.OfRules.{histories_of}
-use Rattle.ncp_umpire.specs.declared.way.Way.{Way}
-use Rattle.ncp_umpire.specs.declared.way.Way.TheVariants.{ToImp, FromImp}
 use Rattle.ncp_proof_umpire.specs.Worlds.{world_file}
 use Rattle.ncp_follow.specs.declared.told.TheConstants.{MAX_TOLD}
 use Rattle.ncp_follow.specs.declared.follower.Follower.{Follower}
-use Rattle.ncp_follow.specs.Followed.{follower_after_record, new_follower}
-use Rattle.ncp_proof_follow.specs.TextTold.{text_told}
-
--- ---- a file is followed
-
-abbrev pub is_to_imp : Way → Bool
-is_to_imp ToImp = true
-is_to_imp FromImp = false
-
--- its records have numbers from this one on; a number stays at the largest
-abbrev pub followed_from : ℕ → List (ℕ × Way × List Bool) → Follower → Follower
-followed_from number [] follower = follower
-followed_from number (one ∷ more) follower =
-    followed_from (min (number + 1) (2 ^ 32 - 1)) more (follower_after_record number (is_to_imp one.1) one.0 one.2 follower)
+use Rattle.ncp_follow.specs.Followed.{new_follower}
+use Rattle.ncp_proof_follow_books.specs.TextTold.{text_told}
+use Rattle.ncp_proof_follow_books.specs.FileFollowed.{followed_from}
 
 -- ---- what it is, of a pair from this host to that one
 

@@ -1,6 +1,6 @@
 -- What a host makes of a connection by a call, and by the answer to a text of it: words that are right of what it had, and behind
 -- them is what it has.
-use Rattle.std.proofs.Common.{◌≡◌, ℕ, ◌+◌, ◌%◌, ◌==◌, ◌≤◌, Bool, true, false, not, ◌&&◌, ◌||◌, if◌then◌else◌, List, [], ◌∷◌, ◌++◌, length, Option, None, Some, is_some, Result, Ok, Err, eq-eqb, refl, sym, ap, ◌∙◌, subst, arith}
+use Rattle.std.proofs.Common.{◌≡◌, ℕ, ◌+◌, ◌≤◌, Bool, true, false, not, ◌&&◌, ◌||◌, if◌then◌else◌, List, [], ◌∷◌, ◌++◌, Option, None, Some, is_some, Result, Ok, eq-eqb, refl, sym, ap, ◌∙◌, subst, arith}
 use Rattle.std.specs.Prelude.{nat_le, drop, take}
 use Rattle.std.specs.List.{filter}
 use Rattle.std.proofs.lemmas.Bool.{and_parts}
@@ -8,11 +8,11 @@ use Rattle.ncp_terms.specs.declared.command.Command.{Command}
 use Rattle.ncp_terms.specs.declared.command.Command.TheVariants.{Rts, Str, All, Gvb, Inr, Ins}
 use Rattle.ncp_model.specs.declared.pair.Pair.{Pair}
 use Rattle.ncp_model.specs.declared.call_fault.CallFault.{CallFault}
-use Rattle.ncp_model.specs.declared.limits.TheConstants.{MAX_OWN, MAX_ROOM}
+use Rattle.ncp_model.specs.declared.limits.TheConstants.{MAX_ROOM}
 use Rattle.ncp_model.specs.Pairs.{sends, receives, is_proper, is_send, is_receive}
 use Rattle.ncp_model.specs.End.{End, or_new, is_over, is_going}
-use Rattle.ncp_model.specs.Act.{Act, Stays, Becomes, answer, end_after, leaves, closing, is_room, made_by_call, made_by_close, made_by_take, made_if_any}
-use Rattle.ncp_model.specs.Calls.{asked_to_send, asked_to_receive, ask_send, ask_receive, bits_to_take, emptied, is_too_much, interrupting, fits}
+use Rattle.ncp_model.specs.Act.{Act, Stays, Becomes, answer, end_after, leaves, closing, made_by_call, made_by_close, made_by_take, made_if_any}
+use Rattle.ncp_model.specs.Calls.{asked_to_send, asked_to_receive, ask_send, ask_receive, may_ask_send, may_ask_receive, may_close, may_give, may_take, take_bits, may_allocate, may_call_back, may_interrupt, bits_to_take, emptied, is_too_much, interrupting}
 use Rattle.ncp_model.specs.Texts.{Rfnm, Incomplete, Dead}
 use Rattle.ncp_model.specs.Happenings.{Happening, happens}
 use Rattle.std.specs.FinMap.{get}
@@ -21,6 +21,7 @@ use Rattle.ncp_proof_watch.specs.Sound.{SoundAt}
 use Rattle.ncp_proof_watch.specs.Limits.{InLimitsAt}
 use Rattle.ncp_umpire.specs.Lives.{SeenBooks, is_senders, is_number_given}
 use Rattle.ncp_umpire.proofs.Shapes.{Shape, Ask, Leave, legal, own_step}
+use Rattle.ncp_proof_umpire_seen.proofs.Reasons.{either_way, send_asks, receive_asks, asks_going, close_is, take_is, allocate_is, call_back_is, interrupt_is}
 use Rattle.ncp_proof_umpire_seen.proofs.KeptEnds.{of_end, kept, may_ask, number_if}
 use Rattle.ncp_proof_umpire_seen.proofs.OwnMoves.{sockets_of, no_sender}
 use Rattle.ncp_proof_umpire_counts.proofs.Words.{Word, Speaks, Grants, Recalls, Hints, Count, link_given, is_open_on, is_within, names_at_rest, count_after, Agreed, IsCounted, IsUncounted, FitsEnd, Fits, Hidden, LinkHidden, has_link_of, asked_too, asked_there, NoneCounted}
@@ -426,91 +427,36 @@ HasRoom None = Unit {0}
 HasRoom (Some e) = e.room ≤ MAX_ROOM
 
 worded_send : (pair : Pair) (of_size room own : ℕ) (full : Bool) (before : Option End) → WordedBy pair before made_by_call (ask_send pair of_size room own full before)
-worded_send pair of_size room own full before = go (sends pair) refl (of_size == 0) (is_room room) (e.asked && not (is_going e)) (is_going e) (nat_le MAX_OWN own) full refl (may_ask true of_size before)
-  where
-    e : End
-    e = or_new before
-
-    go : (s : Bool) → sends pair ≡ s → (z r a g o f : Bool) → is_going e ≡ g
-        → (◌≡◌ {A = Result (Unit {0}) CallFault} (if a then Err CallFault.AlreadyAsked else if g then Err CallFault.Closing else Ok tt) (Ok tt) → legal (Ask of_size) (kept true before) ≡ true)
-        → WordedBy pair before made_by_call
-        (if not s then Stays (Err CallFault.BadSex)
-        else if z then Stays (Err CallFault.BadSize)
-        else if not r then Stays (Err CallFault.BadRoom)
-        else if a then Stays (Err CallFault.AlreadyAsked)
-        else if g then Stays (Err CallFault.Closing)
-        else if o then Stays (Err CallFault.TableFull)
-        else if f then Stays (Err CallFault.QueueFull)
-        else Becomes (asked_to_send of_size room e) (Ok (Str pair.local pair.remote of_size)))
-    go false y z r a g o f k w = stays_worded pair before
-    go true y true r a g o f k w = stays_worded pair before
-    go true y false false a g o f k w = stays_worded pair before
-    go true y false true true g o f k w = stays_worded pair before
-    go true y false true false true o f k w = stays_worded pair before
-    go true y false true false false true f k w = stays_worded pair before
-    go true y false true false false false true k w = stays_worded pair before
-    go true y false true false false false false k w = sends_worded pair of_size room before y k (w refl)
+worded_send pair of_size room own full before =
+    either_way (WordedBy pair before made_by_call) (may_ask_send pair of_size room own full before) (Becomes (asked_to_send of_size room (or_new before)) (Ok (Str pair.local pair.remote of_size))) (λ fault. stays_worded pair before)
+    (λ p. let it = send_asks own full before pair of_size room p in sends_worded pair of_size room before it.0 (asks_going (or_new before) it.1) (may_ask true of_size before it.1))
 
 worded_receive : (pair : Pair) (room on own : ℕ) (full : Bool) (before : Option End) → WordedBy pair before made_by_call (ask_receive pair room on own full before)
-worded_receive pair room on own full before = go (receives pair) refl (is_room room) (e.asked && not (is_going e)) (is_going e) (nat_le MAX_OWN own) full refl (may_ask false on before)
-  where
-    e : End
-    e = or_new before
-
-    go : (s : Bool) → receives pair ≡ s → (r a g o f : Bool) → is_going e ≡ g
-        → (◌≡◌ {A = Result (Unit {0}) CallFault} (if a then Err CallFault.AlreadyAsked else if g then Err CallFault.Closing else Ok tt) (Ok tt) → legal (Ask on) (kept false before) ≡ true)
-        → WordedBy pair before made_by_call
-        (if not s then Stays (Err CallFault.BadSex)
-        else if not r then Stays (Err CallFault.BadRoom)
-        else if a then Stays (Err CallFault.AlreadyAsked)
-        else if g then Stays (Err CallFault.Closing)
-        else if o then Stays (Err CallFault.TableFull)
-        else if f then Stays (Err CallFault.QueueFull)
-        else Becomes (asked_to_receive on room e) (Ok (Rts pair.local pair.remote on)))
-    go false y r a g o f k w = stays_worded pair before
-    go true y false a g o f k w = stays_worded pair before
-    go true y true true g o f k w = stays_worded pair before
-    go true y true false true o f k w = stays_worded pair before
-    go true y true false false true f k w = stays_worded pair before
-    go true y true false false false true k w = stays_worded pair before
-    go true y true false false false false k w = receives_worded pair on room before y k (w refl)
+worded_receive pair room on own full before =
+    either_way (WordedBy pair before made_by_call) (may_ask_receive pair room own full before) (Becomes (asked_to_receive on room (or_new before)) (Ok (Rts pair.local pair.remote on))) (λ fault. stays_worded pair before)
+    (λ p. let it = receive_asks own full before pair room p in receives_worded pair on room before it.0 (asks_going (or_new before) it.1) (may_ask false on before it.1))
 
 module _ (pair : Pair) (e : End) where
   worded_close : (full : Bool) → Worded pair (Some e) (happens pair (Happening.Closes full) (Some e)).after (happens pair (Happening.Closes full) (Some e)).made
-  worded_close full = go e.left (e.leaving && sends pair) full (sends pair && e.busy) refl
+  worded_close full =
+      either_way (WordedBy pair (Some e) made_by_close) (may_close pair full e) (if sends pair && e.busy then Becomes (record e { leaving = true; stored = [] }) (Ok None) else Becomes (leaves e) (Ok (Some (closing pair)))) (λ fault. stays_worded pair (Some e))
+      (λ p. go (sends pair && e.busy) (close_is e pair full p))
     where
-      go : (l g f b : Bool) → e.left ≡ l
-          → WordedBy {A = Result (Option Command) CallFault} pair (Some e) made_by_close (if l || g then Stays (Err CallFault.Closing) else if f then Stays (Err CallFault.QueueFull) else if b then Becomes (record e { leaving = true; stored = [] }) (Ok None) else Becomes (leaves e) (Ok (Some (closing pair))))
-      go true g f b k = stays_worded pair (Some e)
-      go false true f b k = stays_worded pair (Some e)
-      go false false true b k = stays_worded pair (Some e)
-      go false false false true k = going_worded pair e (record e { leaving = true; stored = [] }) refl
-      go false false false false k = leaves_worded pair e e k
+      go : (b : Bool) → e.left ≡ false → WordedBy {A = Result (Option Command) CallFault} pair (Some e) made_by_close (if b then Becomes (record e { leaving = true; stored = [] }) (Ok None) else Becomes (leaves e) (Ok (Some (closing pair))))
+      go true k = going_worded pair e (record e { leaving = true; stored = [] }) refl
+      go false k = leaves_worded pair e e k
 
   same_but_stored : (stored : List Bool) → SameNumbers e (record e { stored = stored })
   same_but_stored stored = record { messages = refl; bits = refl; recall = refl; link = refl; asked = refl; heard = refl; going = λ k. k }
 
   worded_give : (text : List Bool) → Worded pair (Some e) (happens pair (Happening.Gives text) (Some e)).after (happens pair (Happening.Gives text) (Some e)).made
-  worded_give text = go (is_going e) (e.asked && e.heard) (sends pair) (length text % e.size == 0) (fits text e)
+  worded_give text = either_way (WordedBy pair (Some e) (λ _. [])) (may_give pair text e) (Becomes (record e { stored = e.stored ++ text }) done) (λ fault. stays_worded pair (Some e)) (λ p. same_worded pair e (record e { stored = e.stored ++ text }) (same_but_stored (e.stored ++ text)))
     where
-      now : End
-      now = record e { stored = e.stored ++ text }
-
       done : Result (Unit {0}) CallFault
       done = Ok tt
 
-      go : (g o s w f : Bool)
-          → WordedBy {A = Result (Unit {0}) CallFault} pair (Some e) (λ _. [])
-          (if g then Stays (Err CallFault.Closing) else if not o then Stays (Err CallFault.NotOpen) else if not s then Stays (Err CallFault.WrongEnd) else if not w then Stays (Err CallFault.NotWhole) else if not f then Stays (Err CallFault.NoRoom) else Becomes now done)
-      go true o s w f = stays_worded pair (Some e)
-      go false false s w f = stays_worded pair (Some e)
-      go false true false w f = stays_worded pair (Some e)
-      go false true true false f = stays_worded pair (Some e)
-      go false true true true false = stays_worded pair (Some e)
-      go false true true true true = same_worded pair e now (same_but_stored (e.stored ++ text))
-
   worded_take : (bytes : ℕ) → Worded pair (Some e) (happens pair (Happening.Takes bytes) (Some e)).after (happens pair (Happening.Takes bytes) (Some e)).made
-  worded_take bytes = go e.left e.opened (receives pair) (e.leaving && emptied e count) refl
+  worded_take bytes = either_way (WordedBy pair (Some e) made_by_take) (may_take pair e) (take_bits pair count e) (λ fault. stays_worded pair (Some e)) (λ p. go (e.leaving && emptied e count) (take_is e pair p))
     where
       count : ℕ
       count = bits_to_take bytes e
@@ -518,56 +464,24 @@ module _ (pair : Pair) (e : End) where
       now : End
       now = record e { stored = drop count e.stored }
 
-      go : (l o r d : Bool) → e.left ≡ l
-          → WordedBy {A = Result (List Bool × Option Command) CallFault} pair (Some e) made_by_take
-          (if l then Stays (Err CallFault.Closing) else if not o then Stays (Err CallFault.NotOpen) else if not r then Stays (Err CallFault.WrongEnd)
-          else if d then Becomes (leaves e) (Ok (take count e.stored, Some (closing pair))) else Becomes now (Ok (take count e.stored, None)))
-      go true o r d k = stays_worded pair (Some e)
-      go false false r d k = stays_worded pair (Some e)
-      go false true false d k = stays_worded pair (Some e)
-      go false true true true k = leaves_worded pair e e k
-      go false true true false k = same_worded pair e now (same_but_stored (drop count e.stored))
+      go : (d : Bool) → e.left ≡ false
+          → WordedBy {A = Result (List Bool × Option Command) CallFault} pair (Some e) made_by_take (if d then Becomes (leaves e) (Ok (take count e.stored, Some (closing pair))) else Becomes now (Ok (take count e.stored, None)))
+      go true k = leaves_worded pair e e k
+      go false k = same_worded pair e now (same_but_stored (drop count e.stored))
 
   worded_allocate : (messages bits : ℕ) (full : Bool) → e.room ≤ MAX_ROOM → Worded pair (Some e) (happens pair (Happening.Allocates messages bits full) (Some e)).after (happens pair (Happening.Allocates messages bits full) (Some e)).made
-  worded_allocate messages bits full room = go (is_going e) refl (e.asked && e.heard) refl (receives pair) refl (is_too_much messages bits e) refl full
-    where
-      now : End
-      now = record e { messages = e.messages + messages; bits = e.bits + bits }
-
-      go : (g : Bool) → is_going e ≡ g → (o : Bool) → (e.asked && e.heard) ≡ o → (r : Bool) → receives pair ≡ r → (t : Bool) → is_too_much messages bits e ≡ t → (f : Bool)
-          → WordedBy pair (Some e) made_by_call
-          (if g then Stays (Err CallFault.Closing) else if not o then Stays (Err CallFault.NotOpen) else if not r then Stays (Err CallFault.WrongEnd) else if t then Stays (Err CallFault.TooMuch) else if f then Stays (Err CallFault.QueueFull)
-          else Becomes now (Ok (Command.All e.link messages bits)))
-      go true x o y r z t v f = stays_worded pair (Some e)
-      go false x false y r z t v f = stays_worded pair (Some e)
-      go false x true y false z t v f = stays_worded pair (Some e)
-      go false x true y true z true v f = stays_worded pair (Some e)
-      go false x true y true z false v true = stays_worded pair (Some e)
-      go false x true y true z false v false = grants_worded pair e z x y messages bits room v
+  worded_allocate messages bits full room =
+      either_way (WordedBy pair (Some e) made_by_call) (may_allocate pair messages bits full e) (Becomes (record e { messages = e.messages + messages; bits = e.bits + bits }) (Ok (All e.link messages bits))) (λ fault. stays_worded pair (Some e))
+      (λ p. let it = allocate_is e pair messages bits full p in grants_worded pair e it.2 it.0 it.1 messages bits room it.3)
 
   worded_call_back : (messages bits : ℕ) (full : Bool) → Worded pair (Some e) (happens pair (Happening.Calls_back messages bits full) (Some e)).after (happens pair (Happening.Calls_back messages bits full) (Some e)).made
-  worded_call_back messages bits full = go (is_going e) refl (e.asked && e.heard) refl (receives pair) refl e.recall refl full
-    where
-      go : (g : Bool) → is_going e ≡ g → (o : Bool) → (e.asked && e.heard) ≡ o → (r : Bool) → receives pair ≡ r → (t : Bool) → e.recall ≡ t → (f : Bool)
-          → WordedBy pair (Some e) made_by_call
-          (if g then Stays (Err CallFault.Closing) else if not o then Stays (Err CallFault.NotOpen) else if not r then Stays (Err CallFault.WrongEnd) else if t then Stays (Err CallFault.Busy) else if f then Stays (Err CallFault.QueueFull)
-          else Becomes (record e { recall = true }) (Ok (Command.Gvb e.link messages bits)))
-      go true x o y r z t v f = stays_worded pair (Some e)
-      go false x false y r z t v f = stays_worded pair (Some e)
-      go false x true y false z t v f = stays_worded pair (Some e)
-      go false x true y true z true v f = stays_worded pair (Some e)
-      go false x true y true z false v true = stays_worded pair (Some e)
-      go false x true y true z false v false = recalls_worded pair e z x y messages bits v
+  worded_call_back messages bits full =
+      either_way (WordedBy pair (Some e) made_by_call) (may_call_back pair full e) (Becomes (record e { recall = true }) (Ok (Gvb e.link messages bits))) (λ fault. stays_worded pair (Some e))
+      (λ p. let it = call_back_is e pair full p in recalls_worded pair e it.2 it.0 it.1 messages bits it.3)
 
   worded_interrupt : (full : Bool) → HasSex pair (Some e) → Worded pair (Some e) (happens pair (Happening.Interrupts full) (Some e)).after (happens pair (Happening.Interrupts full) (Some e)).made
-  worded_interrupt full sex = go (is_going e) refl (e.asked && e.heard) refl full
-    where
-      go : (g : Bool) → is_going e ≡ g → (o : Bool) → (e.asked && e.heard) ≡ o → (f : Bool)
-          → WordedBy pair (Some e) made_by_call (if g then Stays (Err CallFault.Closing) else if not o then Stays (Err CallFault.NotOpen) else if f then Stays (Err CallFault.QueueFull) else Becomes e (Ok (interrupting pair e)))
-      go true x o y f = stays_worded pair (Some e)
-      go false x false y f = stays_worded pair (Some e)
-      go false x true y true = stays_worded pair (Some e)
-      go false x true y false = hints_worded pair e sex x y
+  worded_interrupt full sex =
+      either_way (WordedBy pair (Some e) made_by_call) (may_interrupt full e) (Becomes e (Ok (interrupting pair e))) (λ fault. stays_worded pair (Some e)) (λ p. let it = interrupt_is e full p in hints_worded pair e sex it.0 it.1)
 
   -- an RFNM
   worded_taken : (e.leaving ≡ true → e.left ≡ false) → Worded pair (Some e) (happens pair (Happening.Is_answered Rfnm) (Some e)).after (happens pair (Happening.Is_answered Rfnm) (Some e)).made

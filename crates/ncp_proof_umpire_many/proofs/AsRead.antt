@@ -1,5 +1,5 @@
 -- A message of one of two hosts as it is read at an interface: of commands, and of a text.
-use Rattle.std.proofs.Common.{◌≡◌, ◌≢◌, ℕ, ◌<◌, ◌==◌, Bool, true, false, not, ◌&&◌, if◌then◌else◌, List, [], ◌∷◌, ◌++◌, length, All, Option, None, Result, Ok, get_or-set_other, refl, sym, ap, ◌∙◌, arith}
+use Rattle.std.proofs.Common.{◌≡◌, ℕ, ◌<◌, ◌==◌, Bool, true, false, not, ◌&&◌, if◌then◌else◌, List, [], ◌∷◌, ◌++◌, length, All, Option, None, Result, Ok, refl, sym, ap, ◌∙◌, arith}
 use Rattle.ncp_numbers.specs.Numbers.{bits_of}
 use Rattle.ncp_numbers.specs.Bytes.{bits_of_bytes}
 use Rattle.ncp_numbers.proofs.Packing.{bytes_of-bits_of_bytes}
@@ -19,8 +19,7 @@ use Rattle.ncp_umpire.specs.declared.finding.Thing.{Thing}
 use Rattle.ncp_umpire.specs.declared.umpire.Umpire.{Umpire}
 use Rattle.ncp_umpire.specs.declared.view.View.{View}
 use Rattle.ncp_umpire.specs.Slots.{place_of}
-use Rattle.ncp_umpire.specs.Tables.{index_of, view_in, with_view}
-use Rattle.ncp_umpire.specs.Views.{new_view}
+use Rattle.ncp_umpire.specs.Tables.{view_in}
 use Rattle.ncp_umpire.specs.Messages.{is_unused, judged_reading, rule_of_message}
 use Rattle.ncp_umpire.specs.Phases.{early_finding, after_thing, item_findings, after_item, items_findings, after_items}
 use Rattle.ncp_umpire.specs.Judged.{view_of, knows_zero, turn_at, items_said, said_findings, after_read, after_in, judges_coming, with_coming}

@@ -1,13 +1,13 @@
 -- What a host keeps of a connection, as a shape: what a call makes of it, and what a request or a CLS that comes.
-use Rattle.std.proofs.Common.{◌≡◌, ℕ, Bool, true, false, not, ◌&&◌, ◌||◌, if◌then◌else◌, Option, None, Some, is_some, Result, Ok, Err, refl, ap, ◌∙◌}
+use Rattle.std.proofs.Common.{◌≡◌, ℕ, Bool, true, false, not, ◌&&◌, ◌||◌, if◌then◌else◌, Option, None, Some, is_some, refl, ap, ◌∙◌}
 use Rattle.std.proofs.lemmas.Bool.{and_parts}
-use Rattle.ncp_model.specs.declared.call_fault.CallFault.{CallFault}
 use Rattle.ncp_model.specs.declared.call_fault.CallFault.TheVariants.{AlreadyAsked, Closing}
 use Rattle.ncp_model.specs.End.{End, or_new, is_over}
 use Rattle.ncp_model.specs.Act.{Becomes, end_after, leaves}
 use Rattle.ncp_model.specs.Commands.{heard_link, heard_size}
-use Rattle.ncp_model.specs.Calls.{asked_to_send, asked_to_receive, end_to_ask}
+use Rattle.ncp_model.specs.Calls.{refuse, ◌>>◌, asked_to_send, asked_to_receive, end_to_ask}
 use Rattle.ncp_umpire.proofs.Shapes.{Shape, Ask, Leave, legal, own_step, their_legal, their_step}
+use Rattle.ncp_proof_umpire_seen.proofs.Reasons.{Passes}
 
 -- a receiver asks with its link, a sender with its size
 abbrev pub number_if : Bool → ℕ → Option ℕ
@@ -55,12 +55,11 @@ asks_link on room None = refl
 asks_link on room (Some e) = refl
 
 -- where an end may ask, it has not asked, nor left
-pub may_ask : (sending : Bool) (n : ℕ) (before : Option End) → ◌≡◌ {A = Result (Unit {0}) CallFault} (end_to_ask (or_new before)) (Ok tt) → legal (Ask n) (kept sending before) ≡ true
+pub may_ask : (sending : Bool) (n : ℕ) (before : Option End) → Passes (end_to_ask (or_new before)) → legal (Ask n) (kept sending before) ≡ true
 may_ask sending n None e = refl
 may_ask sending n (Some x) e = go x.asked x.leaving x.left (if sending then x.size else x.link) e
   where
-    go : (a g l : Bool) (k : ℕ) → ◌≡◌ {A = Result (Unit {0}) CallFault} (if a && not (g || l) then Err AlreadyAsked else if g || l then Err Closing else Ok tt) (Ok tt)
-        → (not (is_some (number_if a k)) && not l) ≡ true
+    go : (a g l : Bool) (k : ℕ) → Passes (refuse AlreadyAsked (a && not (g || l)) >> refuse Closing (g || l)) → (not (is_some (number_if a k)) && not l) ≡ true
     go true true l k e = absurd (cc e)
     go true false true k e = absurd (cc e)
     go true false false k e = absurd (cc e)

@@ -1,3 +1,4 @@
+pub mod Reasons
 pub mod KeptEnds
 pub mod Tallies
 pub mod OwnMoves

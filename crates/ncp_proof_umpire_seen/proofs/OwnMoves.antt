@@ -1,7 +1,7 @@
 -- What a host says of a connection by all that happens at its end, but for the requests and the CLS that come: nothing, and
 -- the shape stays as it is; or one thing that it may say, and the shape is that after it.
-use Rattle.std.proofs.Common.{◌≡◌, ℕ, ◌==◌, ◌+◌, ◌-◌, ◌*◌, ◌%◌, Bool, true, false, not, ◌&&◌, ◌||◌, if◌then◌else◌, List, [], ◌∷◌, ◌++◌, length, Option, None, Some, Result, Ok, Err, refl, sym, ap, ◌∙◌, subst, arith}
-use Rattle.std.specs.Prelude.{nat_lt, nat_le, min, drop, take}
+use Rattle.std.proofs.Common.{◌≡◌, ℕ, ◌==◌, ◌+◌, ◌-◌, ◌*◌, Bool, true, false, not, ◌&&◌, ◌||◌, if◌then◌else◌, List, [], ◌∷◌, ◌++◌, length, Option, None, Some, Result, Ok, refl, sym, ap, ◌∙◌, subst, arith}
+use Rattle.std.specs.Prelude.{nat_lt, min, drop, take}
 use Rattle.ncp_terms.specs.declared.command.Command.{Command}
 use Rattle.ncp_terms.specs.declared.command.Command.TheVariants.{Rts, Str, Cls}
 use Rattle.ncp_model.specs.declared.pair.Pair.{Pair}
@@ -9,11 +9,11 @@ use Rattle.ncp_model.specs.declared.outcomes.Heard.{Heard}
 use Rattle.ncp_model.specs.declared.outcomes.Heard.TheVariants.{Nothing, Reply, Late}
 use Rattle.ncp_model.specs.declared.outcomes.Took.{Took}
 use Rattle.ncp_model.specs.declared.call_fault.CallFault.{CallFault}
-use Rattle.ncp_model.specs.declared.limits.TheConstants.{MAX_OWN, MAX_MESSAGES, MAX_AMOUNT, MAX_COUNT}
+use Rattle.ncp_model.specs.declared.limits.TheConstants.{MAX_MESSAGES, MAX_AMOUNT, MAX_COUNT}
 use Rattle.ncp_model.specs.Pairs.{sends, receives}
 use Rattle.ncp_model.specs.End.{End, or_new, is_over, is_going}
-use Rattle.ncp_model.specs.Act.{Act, Stays, Becomes, answer, end_after, leaves, closing, error_of, is_room, made_by_call, made_by_close, made_by_take, made_by_hearing, made_if_any, wrong_parameters, not_connected}
-use Rattle.ncp_model.specs.Calls.{asked_to_send, asked_to_receive, ask_send, ask_receive, bits_to_take, emptied, is_too_much, interrupting, fits}
+use Rattle.ncp_model.specs.Act.{Act, Stays, Becomes, answer, end_after, leaves, closing, error_of, made_by_call, made_by_close, made_by_take, made_by_hearing, made_if_any, wrong_parameters, not_connected}
+use Rattle.ncp_model.specs.Calls.{asked_to_send, asked_to_receive, ask_send, ask_receive, may_ask_send, may_ask_receive, may_close, may_give, may_take, take_bits, may_allocate, may_call_back, may_interrupt, bits_to_take, emptied, interrupting}
 use Rattle.ncp_model.specs.Amounts.{back}
 use Rattle.ncp_model.specs.Commands.{at_open, all_at, gvb_at, ret_at, interrupted}
 use Rattle.ncp_model.specs.Texts.{Rfnm, Incomplete, Dead, made_by_text, hear_text, may_send, bytes_to_send}
@@ -21,6 +21,7 @@ use Rattle.ncp_model.specs.Happenings.{Happening, happens}
 use Rattle.ncp_proof_watch.specs.Sound.{SoundAt}
 use Rattle.ncp_umpire.proofs.Shapes.{Shape, Say, Ask, Leave, legal, own_step}
 use Rattle.ncp_umpire.proofs.LinkOrder.{Sockets}
+use Rattle.ncp_proof_umpire_seen.proofs.Reasons.{either_way, send_asks, receive_asks, asks_going, close_is, take_is}
 use Rattle.ncp_proof_umpire_seen.proofs.KeptEnds.{of_end, kept, asks_size, asks_link, may_ask, leaves_is, may_leave, still}
 
 -- what a command of the host says of a connection
@@ -66,56 +67,29 @@ unleft e g = go e.leaving e.left g
     go false false k = refl
 
 pub asks_to_send : (pair : Pair) (of_size room own : ℕ) (full : Bool) (before : Option End) → By (sends pair) pair before made_by_call (ask_send pair of_size room own full before)
-asks_to_send pair of_size room own full before = go (sends pair) (of_size == 0) (is_room room) (e.asked && not (is_going e)) (is_going e) (nat_le MAX_OWN own) full refl (may_ask true of_size before)
+asks_to_send pair of_size room own full before = either_way (By (sends pair) pair before made_by_call) (may_ask_send pair of_size room own full before) (Becomes now (Ok said)) (λ fault. Silent refl refl)
+    (λ p. let it = send_asks own full before pair of_size room p in subst (λ (b : Bool). By b pair before made_by_call (Becomes now (Ok said))) (sym it.0)
+    (Says (Ask of_size) refl (may_ask true of_size before it.1) (lasts true now (unleft (or_new before) (asks_going (or_new before) it.1)) ∙ asks_size of_size room before)))
   where
-    e : End
-    e = or_new before
+    now : End
+    now = asked_to_send of_size room (or_new before)
 
-    go : (s z r a g o f : Bool) → is_going e ≡ g → (◌≡◌ {A = Result (Unit {0}) CallFault} (if a then Err CallFault.AlreadyAsked else if g then Err CallFault.Closing else Ok tt) (Ok tt) → legal (Ask of_size) (kept true before) ≡ true)
-        → By s pair before made_by_call
-        (if not s then Stays (Err CallFault.BadSex)
-        else if z then Stays (Err CallFault.BadSize)
-        else if not r then Stays (Err CallFault.BadRoom)
-        else if a then Stays (Err CallFault.AlreadyAsked)
-        else if g then Stays (Err CallFault.Closing)
-        else if o then Stays (Err CallFault.TableFull)
-        else if f then Stays (Err CallFault.QueueFull)
-        else Becomes (asked_to_send of_size room e) (Ok (Str pair.local pair.remote of_size)))
-    go false z r a g o f k w = Silent refl refl
-    go true true r a g o f k w = Silent refl refl
-    go true false false a g o f k w = Silent refl refl
-    go true false true true g o f k w = Silent refl refl
-    go true false true false true o f k w = Silent refl refl
-    go true false true false false true f k w = Silent refl refl
-    go true false true false false false true k w = Silent refl refl
-    go true false true false false false false k w = Says (Ask of_size) refl (w refl) (lasts true (asked_to_send of_size room e) (unleft e k) ∙ asks_size of_size room before)
+    said : Command
+    said = Str pair.local pair.remote of_size
 
 pub no_sender : (pair : Pair) → receives pair ≡ true → sends pair ≡ false
 no_sender pair r = grind arith
 
 pub asks_to_receive : (pair : Pair) (room on own : ℕ) (full : Bool) (before : Option End) → By (sends pair) pair before made_by_call (ask_receive pair room on own full before)
-asks_to_receive pair room on own full before = go (receives pair) (is_room room) (e.asked && not (is_going e)) (is_going e) (nat_le MAX_OWN own) full refl (may_ask false on before) (no_sender pair)
+asks_to_receive pair room on own full before = either_way (By (sends pair) pair before made_by_call) (may_ask_receive pair room own full before) (Becomes now (Ok said)) (λ fault. Silent refl refl)
+    (λ p. let it = receive_asks own full before pair room p in subst (λ (b : Bool). By b pair before made_by_call (Becomes now (Ok said))) (sym (no_sender pair it.0))
+    (Says (Ask on) refl (may_ask false on before it.1) (lasts false now (unleft (or_new before) (asks_going (or_new before) it.1)) ∙ asks_link on room before)))
   where
-    e : End
-    e = or_new before
+    now : End
+    now = asked_to_receive on room (or_new before)
 
-    go : (s r a g o f : Bool) → is_going e ≡ g → (◌≡◌ {A = Result (Unit {0}) CallFault} (if a then Err CallFault.AlreadyAsked else if g then Err CallFault.Closing else Ok tt) (Ok tt) → legal (Ask on) (kept false before) ≡ true)
-        → (s ≡ true → sends pair ≡ false) → By (sends pair) pair before made_by_call
-        (if not s then Stays (Err CallFault.BadSex)
-        else if not r then Stays (Err CallFault.BadRoom)
-        else if a then Stays (Err CallFault.AlreadyAsked)
-        else if g then Stays (Err CallFault.Closing)
-        else if o then Stays (Err CallFault.TableFull)
-        else if f then Stays (Err CallFault.QueueFull)
-        else Becomes (asked_to_receive on room e) (Ok (Rts pair.local pair.remote on)))
-    go false r a g o f k w h = Silent refl refl
-    go true false a g o f k w h = Silent refl refl
-    go true true true g o f k w h = Silent refl refl
-    go true true false true o f k w h = Silent refl refl
-    go true true false false true f k w h = Silent refl refl
-    go true true false false false true k w h = Silent refl refl
-    go true true false false false false k w h = subst (λ (b : Bool). By b pair before made_by_call (Becomes (asked_to_receive on room e) (Ok (Rts pair.local pair.remote on)))) (sym (h refl))
-        (Says (Ask on) refl (w refl) (lasts false (asked_to_receive on room e) (unleft e k) ∙ asks_link on room before))
+    said : Command
+    said = Rts pair.local pair.remote on
 
 -- ---- all else that happens at an end that is there
 
@@ -129,18 +103,15 @@ module _ (sending : Bool) (pair : Pair) (e : End) (sound : SoundAt pair (Some e)
   leaving {A} made_by now a n k s = Says Leave n (may_leave sending e k) (leaves_is {A = A} sending now a ∙ ap (λ (x : Shape). own_step Leave (Some x)) s)
 
   pub closes : (full : Bool) → Moved sending pair (Some e) (happens pair (Happening.Closes full) (Some e)).after (happens pair (Happening.Closes full) (Some e)).made
-  closes full = go e.left (e.leaving && sends pair) full (sends pair && e.busy) refl
+  closes full = either_way (By sending pair (Some e) made_by_close) (may_close pair full e) (if sends pair && e.busy then Becomes (record e { leaving = true; stored = [] }) (Ok None) else Becomes (leaves e) (Ok (Some (closing pair)))) (λ fault. Silent refl refl)
+      (λ p. go (sends pair && e.busy) (close_is e pair full p))
     where
-      go : (l g f b : Bool) → e.left ≡ l
-          → By {A = Result (Option Command) CallFault} sending pair (Some e) made_by_close (if l || g then Stays (Err CallFault.Closing) else if f then Stays (Err CallFault.QueueFull) else if b then Becomes (record e { leaving = true; stored = [] }) (Ok None) else Becomes (leaves e) (Ok (Some (closing pair))))
-      go true g f b k = Silent refl refl
-      go false true f b k = Silent refl refl
-      go false false true b k = Silent refl refl
-      go false false false true k = quiet made_by_close (record e { leaving = true; stored = [] }) (Ok None) refl refl
-      go false false false false k = leaving made_by_close e (Ok (Some (closing pair))) refl k refl
+      go : (b : Bool) → e.left ≡ false → By {A = Result (Option Command) CallFault} sending pair (Some e) made_by_close (if b then Becomes (record e { leaving = true; stored = [] }) (Ok None) else Becomes (leaves e) (Ok (Some (closing pair))))
+      go true k = quiet made_by_close (record e { leaving = true; stored = [] }) (Ok None) refl refl
+      go false k = leaving made_by_close e (Ok (Some (closing pair))) refl k refl
 
   pub gives : (text : List Bool) → Moved sending pair (Some e) (happens pair (Happening.Gives text) (Some e)).after (happens pair (Happening.Gives text) (Some e)).made
-  gives text = go (is_going e) (e.asked && e.heard) (sends pair) (length text % e.size == 0) (fits text e)
+  gives text = either_way (By sending pair (Some e) (λ _. [])) (may_give pair text e) (Becomes now done) (λ fault. Silent refl refl) (λ p. quiet (λ _. []) now done refl refl)
     where
       now : End
       now = record e { stored = e.stored ++ text }
@@ -148,18 +119,8 @@ module _ (sending : Bool) (pair : Pair) (e : End) (sound : SoundAt pair (Some e)
       done : Result (Unit {0}) CallFault
       done = Ok tt
 
-      go : (g o s w f : Bool)
-          → By {A = Result (Unit {0}) CallFault} sending pair (Some e) (λ _. [])
-          (if g then Stays (Err CallFault.Closing) else if not o then Stays (Err CallFault.NotOpen) else if not s then Stays (Err CallFault.WrongEnd) else if not w then Stays (Err CallFault.NotWhole) else if not f then Stays (Err CallFault.NoRoom) else Becomes now done)
-      go true o s w f = Silent refl refl
-      go false false s w f = Silent refl refl
-      go false true false w f = Silent refl refl
-      go false true true false f = Silent refl refl
-      go false true true true false = Silent refl refl
-      go false true true true true = quiet (λ _. []) now done refl refl
-
   pub takes_text : (bytes : ℕ) → Moved sending pair (Some e) (happens pair (Happening.Takes bytes) (Some e)).after (happens pair (Happening.Takes bytes) (Some e)).made
-  takes_text bytes = go e.left e.opened (receives pair) (e.leaving && emptied e count) refl
+  takes_text bytes = either_way (By sending pair (Some e) made_by_take) (may_take pair e) (take_bits pair count e) (λ fault. Silent refl refl) (λ p. go (e.leaving && emptied e count) (take_is e pair p))
     where
       count : ℕ
       count = bits_to_take bytes e
@@ -167,60 +128,28 @@ module _ (sending : Bool) (pair : Pair) (e : End) (sound : SoundAt pair (Some e)
       now : End
       now = record e { stored = drop count e.stored }
 
-      go : (l o r d : Bool) → e.left ≡ l
-          → By {A = Result (List Bool × Option Command) CallFault} sending pair (Some e) made_by_take
-          (if l then Stays (Err CallFault.Closing) else if not o then Stays (Err CallFault.NotOpen) else if not r then Stays (Err CallFault.WrongEnd)
-          else if d then Becomes (leaves e) (Ok (take count e.stored, Some (closing pair))) else Becomes now (Ok (take count e.stored, None)))
-      go true o r d k = Silent refl refl
-      go false false r d k = Silent refl refl
-      go false true false d k = Silent refl refl
-      go false true true true k = leaving made_by_take e (Ok (take count e.stored, Some (closing pair))) refl k refl
-      go false true true false k = quiet made_by_take now (Ok (take count e.stored, None)) refl refl
+      go : (d : Bool) → e.left ≡ false
+          → By {A = Result (List Bool × Option Command) CallFault} sending pair (Some e) made_by_take (if d then Becomes (leaves e) (Ok (take count e.stored, Some (closing pair))) else Becomes now (Ok (take count e.stored, None)))
+      go true k = leaving made_by_take e (Ok (take count e.stored, Some (closing pair))) refl k refl
+      go false k = quiet made_by_take now (Ok (take count e.stored, None)) refl refl
 
   pub allocates : (messages bits : ℕ) (full : Bool) → Moved sending pair (Some e) (happens pair (Happening.Allocates messages bits full) (Some e)).after (happens pair (Happening.Allocates messages bits full) (Some e)).made
-  allocates messages bits full = go (is_going e) (e.asked && e.heard) (receives pair) (is_too_much messages bits e) full
+  allocates messages bits full = either_way (By sending pair (Some e) made_by_call) (may_allocate pair messages bits full e) (Becomes now (Ok (Command.All e.link messages bits))) (λ fault. Silent refl refl)
+      (λ p. quiet made_by_call now (Ok (Command.All e.link messages bits)) refl refl)
     where
       now : End
       now = record e { messages = e.messages + messages; bits = e.bits + bits }
 
-      go : (g o r t f : Bool)
-          → By sending pair (Some e) made_by_call
-          (if g then Stays (Err CallFault.Closing) else if not o then Stays (Err CallFault.NotOpen) else if not r then Stays (Err CallFault.WrongEnd) else if t then Stays (Err CallFault.TooMuch) else if f then Stays (Err CallFault.QueueFull)
-          else Becomes now (Ok (Command.All e.link messages bits)))
-      go true o r t f = Silent refl refl
-      go false false r t f = Silent refl refl
-      go false true false t f = Silent refl refl
-      go false true true true f = Silent refl refl
-      go false true true false true = Silent refl refl
-      go false true true false false = quiet made_by_call now (Ok (Command.All e.link messages bits)) refl refl
-
   pub calls_back : (messages bits : ℕ) (full : Bool) → Moved sending pair (Some e) (happens pair (Happening.Calls_back messages bits full) (Some e)).after (happens pair (Happening.Calls_back messages bits full) (Some e)).made
-  calls_back messages bits full = go (is_going e) (e.asked && e.heard) (receives pair) e.recall full
-    where
-      go : (g o r t f : Bool)
-          → By sending pair (Some e) made_by_call
-          (if g then Stays (Err CallFault.Closing) else if not o then Stays (Err CallFault.NotOpen) else if not r then Stays (Err CallFault.WrongEnd) else if t then Stays (Err CallFault.Busy) else if f then Stays (Err CallFault.QueueFull)
-          else Becomes (record e { recall = true }) (Ok (Command.Gvb e.link messages bits)))
-      go true o r t f = Silent refl refl
-      go false false r t f = Silent refl refl
-      go false true false t f = Silent refl refl
-      go false true true true f = Silent refl refl
-      go false true true false true = Silent refl refl
-      go false true true false false = quiet made_by_call (record e { recall = true }) (Ok (Command.Gvb e.link messages bits)) refl refl
+  calls_back messages bits full = either_way (By sending pair (Some e) made_by_call) (may_call_back pair full e) (Becomes (record e { recall = true }) (Ok (Command.Gvb e.link messages bits))) (λ fault. Silent refl refl)
+      (λ p. quiet made_by_call (record e { recall = true }) (Ok (Command.Gvb e.link messages bits)) refl refl)
 
   pub interrupts : (full : Bool) → Moved sending pair (Some e) (happens pair (Happening.Interrupts full) (Some e)).after (happens pair (Happening.Interrupts full) (Some e)).made
-  interrupts full = go (is_going e) (e.asked && e.heard) full
+  interrupts full = either_way (By sending pair (Some e) made_by_call) (may_interrupt full e) (Becomes e (Ok (interrupting pair e))) (λ fault. Silent refl refl) (λ p. quiet made_by_call e (Ok (interrupting pair e)) (unsaid (sends pair)) refl)
     where
       unsaid : (b : Bool) → all_says ((if b then Command.Ins e.link else Command.Inr e.link) ∷ []) ≡ []
       unsaid true = refl
       unsaid false = refl
-
-      go : (g o f : Bool)
-          → By sending pair (Some e) made_by_call (if g then Stays (Err CallFault.Closing) else if not o then Stays (Err CallFault.NotOpen) else if f then Stays (Err CallFault.QueueFull) else Becomes e (Ok (interrupting pair e)))
-      go true o f = Silent refl refl
-      go false false f = Silent refl refl
-      go false true true = Silent refl refl
-      go false true false = quiet made_by_call e (Ok (interrupting pair e)) (unsaid (sends pair)) refl
 
   pub text_goes : Moved sending pair (Some e) (happens pair Happening.Text_goes_out (Some e)).after (happens pair Happening.Text_goes_out (Some e)).made
   text_goes = go (may_send pair e)

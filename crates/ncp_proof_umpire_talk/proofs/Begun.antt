@@ -37,9 +37,10 @@ use Rattle.ncp_proof_umpire_counts.proofs.Plain.{Plain, returns_due}
 use Rattle.ncp_proof_umpire_counts.proofs.PlainSteps.{plain_shapes}
 use Rattle.ncp_proof_umpire_counts.proofs.TextErrors.{AllAdmitted, admitted_wider}
 use Rattle.ncp_proof_umpire_counts.proofs.Counted.{is_worded, counted_begins, counted_wider}
-use Rattle.ncp_proof_umpire_counts.proofs.Owed.{Item, nothing_ended, Owed, owed_within, owed_of}
-use Rattle.ncp_proof_umpire_counts.proofs.OwedItems.{item_of, items, sent_rests, links_sent, items_of, gone_of, OwedBy, items_alike}
-use Rattle.ncp_proof_umpire_counts.proofs.OwedSteps.{owed_said}
+use Rattle.ncp_proof_umpire_owes.specs.Owed.{Item, nothing_ended, Owed}
+use Rattle.ncp_proof_umpire_owes.proofs.Owed.{owed_within, owed_of}
+use Rattle.ncp_proof_umpire_owes.proofs.OwedItems.{item_of, items, sent_rests, links_sent, items_of, gone_of, OwedBy, items_alike}
+use Rattle.ncp_proof_umpire_owes.proofs.OwedSteps.{owed_said}
 use Rattle.ncp_proof_umpire_seen.proofs.Elsewhere.{Alike}
 use Rattle.ncp_proof_umpire_talk.proofs.Spoken.{Tells, Clear}
 

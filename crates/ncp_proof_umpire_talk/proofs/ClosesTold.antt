@@ -38,7 +38,7 @@ use Rattle.ncp_proof_umpire_seen.proofs.Comes.{their_cls, may_be_heard, cls_meet
 use Rattle.ncp_proof_umpire_seen.proofs.RequestsCome.{one_end}
 use Rattle.ncp_proof_umpire_seen.proofs.Came.{asks_in, has_come, left_stays, holds_unleft}
 use Rattle.ncp_proof_umpire_seen.proofs.HeldLinks.{same_held, heard_held, its_link_rests}
-use Rattle.ncp_proof_umpire_counts.proofs.HostMakes.{refusal_fits, makes_no_eco, asks_as_before, cls_made}
+use Rattle.ncp_proof_umpire_owes.proofs.HostMakes.{refusal_fits, makes_no_eco, asks_as_before, cls_made}
 use Rattle.ncp_proof_umpire_seen.proofs.EndsHear.{cls_holds, cls_heard}
 use Rattle.ncp_proof_umpire_talk.proofs.ToldSteps.{same_marks, echoes_then, rest_echoes, echo_told, came_same, came_told, owed_tells, unclear_tells}
 use Rattle.ncp_proof_umpire_talk.proofs.Spoken.{Tells}
@@ -49,9 +49,9 @@ use Rattle.ncp_proof_umpire_counts.proofs.CountedSteps.{HeardEnd, pair_marked}
 use Rattle.ncp_proof_umpire_counts.proofs.SaidCounted.{cls_ends}
 use Rattle.ncp_proof_umpire_counts.proofs.RequestsCounted.{cls_words, counted_closing, counted_unclear}
 use Rattle.ncp_proof_umpire_talk.proofs.RequestsTold.{proper_sex}
-use Rattle.ncp_proof_umpire_counts.proofs.OwedMoves.{has_reply, owed_cls}
-use Rattle.ncp_proof_umpire_counts.proofs.OwedUnclear.{owed_cls_unclear}
-use Rattle.ncp_proof_umpire_counts.proofs.AfterCls.{RightCls, right_cls_is, cls_meets_so, their_cls_owed}
+use Rattle.ncp_proof_umpire_owes.proofs.OwedMoves.{has_reply, owed_cls}
+use Rattle.ncp_proof_umpire_owes.proofs.OwedUnclear.{owed_cls_unclear}
+use Rattle.ncp_proof_umpire_owes.proofs.AfterCls.{RightCls, right_cls_is, cls_meets_so, their_cls_owed}
 
 proper_same : (local remote : ℕ) → (is_of_sexes local remote || is_of_sexes remote local) ≡ is_proper (record { local = local; remote = remote })
 proper_same local remote = grind arith

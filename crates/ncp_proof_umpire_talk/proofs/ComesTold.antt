@@ -29,7 +29,7 @@ use Rattle.ncp_proof_umpire_talk.proofs.Spoken.{Tells}
 use Rattle.ncp_proof_umpire_talk.proofs.RequestsTold.{rts_told, str_told}
 use Rattle.ncp_proof_umpire_talk.proofs.ClosesTold.{cls_told}
 use Rattle.ncp_proof_umpire_talk.proofs.RepliesTold.{eco_tells, reply_tells, error_tells, answers_tells}
-use Rattle.ncp_proof_umpire_counts.proofs.TheirCommands.{all_both, gvb_both, inr_both, ret_both, ins_both}
+use Rattle.ncp_proof_umpire_owes.proofs.TheirCommands.{all_both, gvb_both, inr_both, ret_both, ins_both}
 use Rattle.ncp_proof_umpire_talk.proofs.LinksTold.{all_told, gvb_told, inr_told, ret_told, ins_told}
 
 -- an ERP ends the echo

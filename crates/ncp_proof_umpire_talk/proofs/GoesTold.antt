@@ -32,23 +32,23 @@ use Rattle.ncp_proof_umpire_seen.proofs.Changed.{pair_at}
 use Rattle.ncp_proof_umpire_seen.proofs.Meets.{Meets}
 use Rattle.ncp_proof_umpire_counts.proofs.TextErrors.{is_text_error}
 use Rattle.ncp_proof_umpire_counts.proofs.CallsCounted.{proper_sex}
-use Rattle.ncp_proof_umpire_counts.proofs.Owed.{Gives}
-use Rattle.ncp_proof_umpire_counts.proofs.OwedSteps.{own_reply_right, owed_all_said}
+use Rattle.ncp_proof_umpire_owes.specs.Owed.{Gives}
+use Rattle.ncp_proof_umpire_owes.proofs.OwedSteps.{own_reply_right, owed_all_said}
 use Rattle.ncp_proof_umpire_counts.proofs.Counted.{counted_unsaid}
 use Rattle.ncp_proof_umpire_counts.proofs.PlainSteps.{kept_marks, said_links, plain_all_said}
 use Rattle.ncp_proof_umpire_seen.proofs.Echoing.{Echoing, eco_right, eco_goes}
-use Rattle.ncp_proof_umpire_counts.proofs.Went.{AskOut, AskHidden, AskRight, ask_out, LeaveOut, LeaveHidden, LeaveRight, leave_out, MayGo, silent_goes, goes}
-use Rattle.ncp_proof_umpire_counts.proofs.GoesCounted.{goes_counted}
-use Rattle.ncp_proof_umpire_counts.proofs.AllGo.{none_left_out, all_said_meets}
+use Rattle.ncp_proof_umpire_owes.proofs.Went.{AskOut, AskHidden, AskRight, ask_out, LeaveOut, LeaveHidden, LeaveRight, leave_out, MayGo, silent_goes, goes}
+use Rattle.ncp_proof_umpire_owes.proofs.GoesCounted.{goes_counted}
+use Rattle.ncp_proof_umpire_owes.proofs.AllGo.{none_left_out, all_said_meets}
 use Rattle.ncp_proof_umpire_seen.proofs.OtherMarks.{others_echo}
 use Rattle.ncp_proof_umpire_seen.proofs.TidyBooks.{Tidy}
 use Rattle.ncp_proof_umpire_seen.proofs.Proper.{has_right_parts, ProperEnds, rts_range, str_range}
 use Rattle.ncp_proof_umpire_talk.proofs.BusySlots.{BusySlots}
-use Rattle.ncp_proof_umpire_counts.proofs.BooksGo.{books_go, goes_held, goes_came}
+use Rattle.ncp_proof_umpire_owes.proofs.BooksGo.{books_go, goes_held, goes_came}
 use Rattle.ncp_proof_umpire_talk.proofs.ToldSteps.{echo_told, came_same}
 use Rattle.ncp_proof_umpire_seen.proofs.Came.{asks_in}
 use Rattle.ncp_proof_umpire_counts.proofs.SameShapes.{shapes_meets, shapes_held, shapes_came}
-use Rattle.ncp_proof_umpire_counts.proofs.OwnLinks.{NamedOut, named_out}
+use Rattle.ncp_proof_umpire_owes.proofs.OwnLinks.{NamedOut, named_out}
 use Rattle.ncp_proof_umpire_talk.proofs.Closings.{no_text_out, no_cls_left}
 use Rattle.ncp_proof_umpire_talk.proofs.Spoken.{Tells}
 use Rattle.ncp_proof_umpire_talk.proofs.Carries.{ShowsBusy}

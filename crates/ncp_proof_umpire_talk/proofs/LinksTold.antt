@@ -33,7 +33,7 @@ use Rattle.ncp_proof_umpire_talk.proofs.Spoken.{Tells}
 use Rattle.ncp_proof_umpire_talk.proofs.ToldSteps.{came_same}
 use Rattle.ncp_proof_umpire_talk.proofs.LedTold.{Beside, led_beside}
 use Rattle.ncp_proof_umpire_counts.proofs.LinksDid.{ends_after, made_of}
-use Rattle.ncp_proof_umpire_counts.proofs.TheirLeads.{Both}
+use Rattle.ncp_proof_umpire_owes.proofs.TheirLeads.{Both}
 
 module _ (me n : ℕ) (m : Ends) (awaited : Bool) (w : List Command) (b : SeenBooks) (good : Good m) (t : Beside me n m awaited w b) where
   pub own_beside : (pair : Pair) (what : Happening) (now : Ends) → is_of_host what ≡ true → is_text_coming what ≡ false → OneEnd m now pair (happens pair what (get m pair)).after → FreeLink what m pair

@@ -1,5 +1,5 @@
 -- What was said meets what the host keeps, through all that the host does by itself, and what names a link and comes.
-use Rattle.std.proofs.Common.{◌≡◌, ℕ, ◌==◌, Bool, true, false, not, ◌&&◌, ◌||◌, if◌then◌else◌, List, [], ◌∷◌, ◌++◌, Option, None, Some, is_some, eq-eqb, Ok, Err, refl, sym, ap, ◌∙◌, arith}
+use Rattle.std.proofs.Common.{◌≡◌, ℕ, Bool, true, false, not, ◌&&◌, ◌||◌, List, [], ◌∷◌, ◌++◌, Option, None, Some, is_some, eq-eqb, Result, Ok, refl, sym, ap, ◌∙◌, arith}
 use Rattle.std.specs.Prelude.{nat_le}
 use Rattle.std.specs.FinMap.{get}
 use Rattle.ncp_terms.specs.declared.command.Command.{Command}
@@ -8,9 +8,9 @@ use Rattle.ncp_model.specs.declared.pair.Pair.{Pair}
 use Rattle.ncp_model.specs.declared.call_fault.CallFault.{CallFault}
 use Rattle.ncp_model.specs.declared.limits.TheConstants.{MAX_OWN}
 use Rattle.ncp_model.specs.Pairs.{sends, receives, is_proper}
-use Rattle.ncp_model.specs.End.{End, or_new, is_going}
-use Rattle.ncp_model.specs.Act.{Stays, Becomes, answer, made_by_call, is_room}
-use Rattle.ncp_model.specs.Calls.{asked_to_send, asked_to_receive, ask_send, ask_receive}
+use Rattle.ncp_model.specs.End.{End, or_new}
+use Rattle.ncp_model.specs.Act.{Act, Becomes, answer, made_by_call}
+use Rattle.ncp_model.specs.Calls.{asked_to_send, asked_to_receive, ask_send, ask_receive, may_ask_send, may_ask_receive}
 use Rattle.ncp_model.specs.Ends.{Ends, any, count, has_asked, uses_link, free_link}
 use Rattle.ncp_model.specs.Texts.{Rfnm, Incomplete, Dead}
 use Rattle.ncp_model.specs.Happenings.{Happening, happens}
@@ -20,6 +20,7 @@ use Rattle.ncp_proof_machine.proofs.EndsGood.{Good, called-fresh}
 use Rattle.ncp_umpire.specs.Lives.{SeenBooks}
 use Rattle.ncp_umpire.proofs.Shapes.{Say, Ask, Leave}
 use Rattle.ncp_umpire.proofs.LinkOrder.{Sockets, Lacks, number_of}
+use Rattle.ncp_proof_umpire_seen.proofs.Reasons.{send_asks, receive_asks, either_way}
 use Rattle.ncp_proof_umpire_seen.proofs.KeptEnds.{kept}
 use Rattle.ncp_proof_umpire_seen.proofs.OwnMoves.{all_says, sockets_of, is_of_host, moves}
 use Rattle.ncp_proof_umpire_seen.proofs.Changed.{pair_at, kept_of, OneEnd, link_lacks}
@@ -32,8 +33,8 @@ use Rattle.ncp_proof_umpire_seen.proofs.OwnCame.{is_text_coming, own_came}
 use Rattle.ncp_proof_umpire_talk.proofs.Spoken.{Tells}
 use Rattle.ncp_proof_umpire_counts.proofs.Counted.{Counted}
 use Rattle.ncp_proof_umpire_counts.proofs.CallsCounted.{is_call, counted_call}
-use Rattle.ncp_proof_umpire_counts.proofs.OwedItems.{OwedBy}
-use Rattle.ncp_proof_umpire_counts.proofs.OwedMoves.{owed_call}
+use Rattle.ncp_proof_umpire_owes.proofs.OwedItems.{OwedBy}
+use Rattle.ncp_proof_umpire_owes.proofs.OwedMoves.{owed_call}
 
 -- ---- what is made is no ECO
 
@@ -171,42 +172,19 @@ sends_free : (pair : Pair) → sends pair ≡ true → receives_at (sockets_of p
 sends_free pair s r = grind arith
 
 made_to_send : (pair : Pair) (of_size room own : ℕ) (full : Bool) (before : Option End) (k : ℕ) → all_says (made_by_call (answer (ask_send pair of_size room own full before))) ≡ (sockets_of pair, Ask k) ∷ [] → sends pair ≡ true
-made_to_send pair of_size room own full before k e = go (sends pair) refl e
-  where
-    go : (s : Bool) → sends pair ≡ s
-        → all_says (made_by_call (answer (if not s then Stays (Err CallFault.BadSex)
-        else if of_size == 0 then Stays (Err CallFault.BadSize)
-        else if not (is_room room) then Stays (Err CallFault.BadRoom)
-        else if (or_new before).asked && not (is_going (or_new before)) then Stays (Err CallFault.AlreadyAsked)
-        else if is_going (or_new before) then Stays (Err CallFault.Closing)
-        else if nat_le MAX_OWN own then Stays (Err CallFault.TableFull)
-        else if full then Stays (Err CallFault.QueueFull)
-        else Becomes (asked_to_send of_size room (or_new before)) (Ok (Str pair.local pair.remote of_size))))) ≡ (sockets_of pair, Ask k) ∷ []
-        → sends pair ≡ true
-    go true s e = s
-    go false s e = absurd (cc e)
+made_to_send pair of_size room own full before k e =
+    either_way (λ (act : Act (Result Command CallFault)). all_says (made_by_call (answer act)) ≡ (sockets_of pair, Ask k) ∷ [] → sends pair ≡ true) (may_ask_send pair of_size room own full before)
+    (Becomes (asked_to_send of_size room (or_new before)) (Ok (Str pair.local pair.remote of_size))) (λ fault x. absurd (cc x)) (λ p x. (send_asks own full before pair of_size room p).0) e
 
 made_to_receive : (pair : Pair) (room on own : ℕ) (full : Bool) (before : Option End) (k : ℕ) → all_says (made_by_call (answer (ask_receive pair room on own full before))) ≡ (sockets_of pair, Ask k) ∷ [] → (on ≡ k) × (nat_le MAX_OWN own ≡ false)
-made_to_receive pair room on own full before k e = go (receives pair) (is_room room) ((or_new before).asked && not (is_going (or_new before))) (is_going (or_new before)) (nat_le MAX_OWN own) full refl e
+made_to_receive pair room on own full before k e =
+    either_way (λ (act : Act (Result Command CallFault)). all_says (made_by_call (answer act)) ≡ (sockets_of pair, Ask k) ∷ [] → (on ≡ k) × (nat_le MAX_OWN own ≡ false)) (may_ask_receive pair room own full before)
+    (Becomes (asked_to_receive on room (or_new before)) (Ok (Rts pair.local pair.remote on))) (λ fault x. absurd (cc x)) (λ p x. (link_is x, (receive_asks own full before pair room p).2)) e
   where
-    go : (s r a g o f : Bool) → nat_le MAX_OWN own ≡ o
-        → all_says (made_by_call (answer (if not s then Stays (Err CallFault.BadSex)
-        else if not r then Stays (Err CallFault.BadRoom)
-        else if a then Stays (Err CallFault.AlreadyAsked)
-        else if g then Stays (Err CallFault.Closing)
-        else if o then Stays (Err CallFault.TableFull)
-        else if f then Stays (Err CallFault.QueueFull)
-        else Becomes (asked_to_receive on room (or_new before)) (Ok (Rts pair.local pair.remote on))))) ≡ (sockets_of pair, Ask k) ∷ []
-        → (on ≡ k) × (nat_le MAX_OWN own ≡ false)
-    go false r a g o f n e = absurd (cc e)
-    go true false a g o f n e = absurd (cc e)
-    go true true true g o f n e = absurd (cc e)
-    go true true false true o f n e = absurd (cc e)
-    go true true false false true f n e = absurd (cc e)
-    go true true false false false true n e = absurd (cc e)
-    go true true false false false false n e =
-        let head : ◌≡◌ {A = Sockets × Say} ((pair.local, pair.remote), Ask on) (sockets_of pair, Ask k) = cc e in
-        let same : Ask on ≡ Ask k = ap (λ (s : Sockets × Say). s.1) head in (cc same, n)
+    link_is : all_says (Rts pair.local pair.remote on ∷ []) ≡ (sockets_of pair, Ask k) ∷ [] → on ≡ k
+    link_is x =
+        let head : ◌≡◌ {A = Sockets × Say} ((pair.local, pair.remote), Ask on) (sockets_of pair, Ask k) = cc x in
+        let same : Ask on ≡ Ask k = ap (λ (s : Sockets × Say). s.1) head in cc same
 
 pub call_free : (call : PairCall) (full : Bool) (m : Ends) (pair : Pair) → ProperEnds m → FreeLink (called call full m) m pair
 call_free (Ask_to_send of_size room) full m pair p k e r u s = absurd (sends_free pair (made_to_send pair of_size room (count has_asked m) full (get m pair) k e) r)

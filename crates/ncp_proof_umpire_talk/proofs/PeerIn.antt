@@ -46,7 +46,7 @@ use Rattle.ncp_proof_umpire_talk.proofs.TextTold.{text_tells}
 use Rattle.ncp_proof_umpire_talk.proofs.Spoken.{Tells, Spoken}
 use Rattle.ncp_proof_umpire_talk.proofs.SpokenIn.{CommandTells, command_spoken, fault_spoken, text_spoken}
 use Rattle.ncp_proof_umpire_talk.proofs.SpokenOut.{Known}
-use Rattle.ncp_proof_umpire_counts.proofs.BooksRead.{talk_reads, read_reads}
+use Rattle.ncp_proof_umpire_owes.proofs.BooksRead.{talk_reads, read_reads}
 
 -- ---- the fault of a control text is of an opcode, or of bytes that lack: no ERR about a text is made for it
 

@@ -55,7 +55,7 @@ use Rattle.ncp_proof_umpire_talk.proofs.GoesTold.{says_right, says_numbers, says
 use Rattle.ncp_proof_umpire_talk.proofs.Spoken.{Spoken}
 use Rattle.ncp_proof_umpire_talk.proofs.SpokenOut.{Known, waited_by, GoesOut, AllTold, all_told, NoneLeft, none_left}
 use Rattle.ncp_proof_umpire_talk.proofs.SpokenIn.{clash, rests_before}
-use Rattle.ncp_proof_umpire_counts.proofs.BooksRead.{said_reads}
+use Rattle.ncp_proof_umpire_owes.proofs.BooksRead.{said_reads}
 use Rattle.ncp_proof_umpire_talk.proofs.TextTells.{cut_right, cut_tells}
 
 -- ---- what goes out

@@ -26,11 +26,11 @@ use Rattle.ncp_proof_umpire_counts.proofs.PlainSteps.{plain_echo}
 use Rattle.ncp_proof_umpire_counts.proofs.TextErrors.{is_text_error, admitted_wider}
 use Rattle.ncp_proof_umpire_counts.proofs.Counted.{Counted, counted_wider}
 use Rattle.ncp_proof_umpire_counts.proofs.WentCounted.{answers_counted}
-use Rattle.ncp_proof_umpire_counts.proofs.OwedItems.{OwedBy}
-use Rattle.ncp_proof_umpire_counts.proofs.Owed.{Gives}
-use Rattle.ncp_proof_umpire_counts.proofs.OwedSteps.{owed_mark, their_reply_owed}
-use Rattle.ncp_proof_umpire_counts.proofs.OwedGoes.{owed_answers}
-use Rattle.ncp_proof_umpire_counts.proofs.HostMakes.{FitReply}
+use Rattle.ncp_proof_umpire_owes.proofs.OwedItems.{OwedBy}
+use Rattle.ncp_proof_umpire_owes.specs.Owed.{Gives}
+use Rattle.ncp_proof_umpire_owes.proofs.OwedSteps.{owed_mark, their_reply_owed}
+use Rattle.ncp_proof_umpire_owes.proofs.OwedGoes.{owed_answers}
+use Rattle.ncp_proof_umpire_owes.proofs.HostMakes.{FitReply}
 use Rattle.ncp_proof_umpire_talk.proofs.Spoken.{Tells}
 use Rattle.ncp_proof_umpire_talk.proofs.ToldSteps.{SameEchoes, same_marks, echo_told, came_same, owed_tells}
 

@@ -42,7 +42,7 @@ use Rattle.ncp_proof_umpire_seen.proofs.Echoing.{Echoing}
 use Rattle.ncp_proof_umpire_seen.proofs.Came.{has_come}
 use Rattle.ncp_proof_umpire_seen.proofs.HeldLinks.{heard_held, its_link_rests}
 use Rattle.ncp_proof_umpire_seen.proofs.RefusedRequests.{rts_refused_too, str_refused_too}
-use Rattle.ncp_proof_umpire_counts.proofs.HostMakes.{refusal_fits, rts_made, str_made}
+use Rattle.ncp_proof_umpire_owes.proofs.HostMakes.{refusal_fits, rts_made, str_made}
 use Rattle.ncp_proof_umpire_seen.proofs.EndsHear.{HeldBefore, rts_holds, str_holds, rts_heard, str_heard}
 use Rattle.ncp_proof_umpire_talk.proofs.ToldSteps.{SameEchoes, same_marks, echoes_then, link_echoes, rest_echoes, echo_told, came_told, owed_tells, unclear_tells}
 use Rattle.ncp_proof_umpire_talk.proofs.Spoken.{Tells}
@@ -52,9 +52,9 @@ use Rattle.ncp_proof_umpire_counts.proofs.PlainSteps.{plain_link_rests, plain_re
 use Rattle.ncp_proof_umpire_counts.proofs.Counted.{Counted}
 use Rattle.ncp_proof_umpire_counts.proofs.CountedSteps.{pair_marked}
 use Rattle.ncp_proof_umpire_counts.proofs.RequestsCounted.{rts_ends, str_ends, rts_words, str_words, counted_request, counted_unclear}
-use Rattle.ncp_proof_umpire_counts.proofs.OwedItems.{OwedBy}
-use Rattle.ncp_proof_umpire_counts.proofs.OwedMoves.{owed_rts, owed_str}
-use Rattle.ncp_proof_umpire_counts.proofs.OwedUnclear.{owed_rts_unclear, owed_str_unclear}
+use Rattle.ncp_proof_umpire_owes.proofs.OwedItems.{OwedBy}
+use Rattle.ncp_proof_umpire_owes.proofs.OwedMoves.{owed_rts, owed_str}
+use Rattle.ncp_proof_umpire_owes.proofs.OwedUnclear.{owed_rts_unclear, owed_str_unclear}
 
 -- ---- the connection and the link that is asked for rest
 

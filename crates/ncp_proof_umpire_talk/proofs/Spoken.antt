@@ -16,7 +16,7 @@ use Rattle.ncp_proof_umpire_seen.proofs.Untaken.{Held}
 use Rattle.ncp_proof_umpire_seen.proofs.Echoing.{Echoing}
 use Rattle.ncp_proof_umpire_seen.proofs.Came.{Came}
 use Rattle.ncp_proof_umpire_counts.proofs.Counted.{Counted}
-use Rattle.ncp_proof_umpire_counts.proofs.OwedItems.{OwedBy}
+use Rattle.ncp_proof_umpire_owes.proofs.OwedItems.{OwedBy}
 
 -- ---- what was said, and what the host keeps
 

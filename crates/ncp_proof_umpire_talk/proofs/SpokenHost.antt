@@ -50,7 +50,7 @@ use Rattle.ncp_proof_umpire_talk.proofs.OwnTells.{is_asking, unasked_free, call_
 use Rattle.ncp_proof_umpire_talk.proofs.Spoken.{Tells, Spoken}
 use Rattle.ncp_proof_umpire_counts.proofs.CallsCounted.{is_call}
 use Rattle.ncp_proof_umpire_talk.proofs.ToldSteps.{unworded_counted}
-use Rattle.ncp_proof_umpire_counts.proofs.OwedSteps.{owed_more}
+use Rattle.ncp_proof_umpire_owes.proofs.OwedSteps.{owed_more}
 use Rattle.ncp_proof_umpire_talk.proofs.Begun.{begins_tells}
 use Rattle.ncp_proof_umpire_talk.proofs.MadeUp.{made_owed, owing, owing_same, made_tells}
 use Rattle.ncp_proof_umpire_talk.proofs.SpokenIn.{settles_calm}

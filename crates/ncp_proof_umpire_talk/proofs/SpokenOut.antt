@@ -32,7 +32,7 @@ use Rattle.ncp_proof_umpire.proofs.PhaseGoes.{all_went}
 use Rattle.ncp_proof_umpire_talk.proofs.OnTime.{OnTime, on_time}
 use Rattle.ncp_proof_umpire_seen.proofs.Filtered.{none_of_none}
 use Rattle.ncp_proof_umpire_seen.proofs.TidyBooks.{Tidy, tidy_command, tidy_cleared}
-use Rattle.ncp_proof_umpire_counts.proofs.AllGo.{room_before}
+use Rattle.ncp_proof_umpire_owes.proofs.AllGo.{room_before}
 use Rattle.ncp_proof_umpire_seen.proofs.Proper.{AllProper}
 use Rattle.ncp_proof_umpire_talk.proofs.Spoken.{Tells, Clear, Spoken}
 use Rattle.ncp_proof_umpire_talk.proofs.Begun.{clear_cleared, clear_reply, clear_cls, silent_tells}

@@ -39,8 +39,8 @@ use Rattle.ncp_proof_umpire.proofs.PhaseWalk.{call_all, in_all, out_all, out_pas
 use Rattle.ncp_proof_umpire.proofs.Talking.{empty_pass, message_talk}
 use Rattle.ncp_proof_umpire.proofs.Others.{Watched, Leaves, watched, other_leaves}
 use Rattle.ncp_proof_umpire_talk.proofs.Spoken.{Spoken}
-use Rattle.ncp_proof_umpire_counts.proofs.BooksRead.{Reads}
-use Rattle.ncp_proof_umpire_counts.proofs.BooksRecord.{record_reads, record_alike}
+use Rattle.ncp_proof_umpire_owes.proofs.BooksRead.{Reads}
+use Rattle.ncp_proof_umpire_owes.proofs.BooksRecord.{record_reads, record_alike}
 use Rattle.ncp_proof_umpire_talk.proofs.TalkWalk.{AllSpoken, spoken_alike, call_talks, in_talks}
 use Rattle.ncp_proof_umpire_talk.proofs.TalkOut.{out_unsaid, out_talks, talks_begin}
 

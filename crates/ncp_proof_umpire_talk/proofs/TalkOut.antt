@@ -75,8 +75,8 @@ use Rattle.ncp_proof_umpire_talk.proofs.Spoken.{Spoken}
 use Rattle.ncp_proof_umpire_talk.proofs.SpokenIn.{rests_before}
 use Rattle.ncp_proof_umpire_talk.proofs.SpokenOut.{Known}
 use Rattle.ncp_proof_umpire_talk.proofs.SpokenHost.{spoken_as}
-use Rattle.ncp_proof_umpire_counts.proofs.BooksRead.{Reads, said_reads, said_alikes}
-use Rattle.ncp_proof_umpire_counts.proofs.BooksRecord.{out_books}
+use Rattle.ncp_proof_umpire_owes.proofs.BooksRead.{Reads, said_reads, said_alikes}
+use Rattle.ncp_proof_umpire_owes.proofs.BooksRecord.{out_books}
 use Rattle.ncp_proof_umpire_talk.proofs.PeerOut.{PeerTold, again_told, commands_told, text_told}
 use Rattle.ncp_proof_umpire_talk.proofs.TalkWalk.{AllSpoken, spoken_alike, numbered_spoken, sound_of, not_both}
 

@@ -60,8 +60,8 @@ use Rattle.ncp_proof_umpire_talk.proofs.Begun.{alike_tells, alike_clear}
 use Rattle.ncp_proof_umpire_seen.proofs.Elsewhere.{Alike}
 use Rattle.ncp_proof_umpire_talk.proofs.SpokenOut.{Known}
 use Rattle.ncp_proof_umpire_talk.proofs.SpokenHost.{call_spoken, answer_spoken, spoken_as}
-use Rattle.ncp_proof_umpire_counts.proofs.BooksRead.{Reads, said_reads, said_alikes}
-use Rattle.ncp_proof_umpire_counts.proofs.BooksRecord.{in_books, answer_books, numbered_alike}
+use Rattle.ncp_proof_umpire_owes.proofs.BooksRead.{Reads, said_reads, said_alikes}
+use Rattle.ncp_proof_umpire_owes.proofs.BooksRecord.{in_books, answer_books, numbered_alike}
 use Rattle.ncp_proof_umpire_talk.proofs.PeerIn.{message_heard}
 
 -- ---- what is known of all peers

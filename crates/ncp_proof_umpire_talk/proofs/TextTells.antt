@@ -21,9 +21,9 @@ use Rattle.ncp_umpire.specs.Texts.{text_shown, text_rules, books_after_text}
 use Rattle.ncp_proof_umpire_seen.proofs.OwnMoves.{Moved, moves}
 use Rattle.ncp_proof_umpire_seen.proofs.Changed.{OneEnd}
 use Rattle.ncp_proof_umpire_seen.proofs.TidyBooks.{Tidy}
-use Rattle.ncp_proof_umpire_counts.proofs.LinksGo.{own_talk}
+use Rattle.ncp_proof_umpire_owes.proofs.LinksGo.{own_talk}
 use Rattle.ncp_proof_umpire_seen.proofs.LinksReach.{Led, led_sender}
-use Rattle.ncp_proof_umpire_counts.proofs.TextGoes.{MaySend, may_send_is, cut_end, cut_after, text_rules_none, text_counted, text_owed, text_same, text_echoes}
+use Rattle.ncp_proof_umpire_owes.proofs.TextGoes.{MaySend, may_send_is, cut_end, cut_after, text_rules_none, text_counted, text_owed, text_same, text_echoes}
 use Rattle.ncp_proof_umpire_counts.proofs.SameShapes.{SameShapes, shapes_meets, shapes_held, shapes_came}
 use Rattle.ncp_proof_umpire_seen.proofs.Comes.{host_meets}
 use Rattle.ncp_proof_umpire_seen.proofs.HeldLinks.{host_held}

@@ -52,8 +52,8 @@ use Rattle.ncp_proof_umpire_talk.proofs.ToldSteps.{SameEchoes, echoes_then, link
 use Rattle.ncp_proof_umpire_counts.proofs.TextErrors.{is_text_error, shown_by}
 use Rattle.ncp_proof_umpire_counts.proofs.PlainText.{plain_text}
 use Rattle.ncp_proof_umpire_talk.proofs.LedTold.{Beside}
-use Rattle.ncp_proof_umpire_counts.proofs.TheirText.{text_ends, text_made}
-use Rattle.ncp_proof_umpire_counts.proofs.TheirTexts.{text_both}
+use Rattle.ncp_proof_umpire_owes.proofs.TheirText.{text_ends, text_made}
+use Rattle.ncp_proof_umpire_owes.proofs.TheirTexts.{text_both}
 use Rattle.ncp_proof_umpire_talk.proofs.Spoken.{Tells}
 
 -- ---- the books after a text: the same shapes, and the same of the echoes

@@ -36,14 +36,14 @@ use Rattle.ncp_proof_umpire_seen.proofs.Echoing.{Echoing, ecos, others_wait, mar
 use Rattle.ncp_proof_umpire_seen.proofs.RequestsCome.{one_end}
 use Rattle.ncp_proof_umpire_seen.proofs.Came.{asks_in, has_come, Came}
 use Rattle.ncp_proof_umpire_seen.proofs.HeldLinks.{same_held, rests_held}
-use Rattle.ncp_proof_umpire_counts.proofs.HostMakes.{FitReply, HostMade, makes_no_eco, asks_as_before, unclear_told}
+use Rattle.ncp_proof_umpire_owes.proofs.HostMakes.{FitReply, HostMade, makes_no_eco, asks_as_before, unclear_told}
 use Rattle.ncp_proof_umpire_seen.proofs.EndsHear.{HeldBefore}
 use Rattle.ncp_proof_umpire_talk.proofs.Spoken.{Tells}
 use Rattle.ncp_proof_umpire_counts.proofs.Plain.{is_ret_wanted, plain_owed}
 use Rattle.ncp_proof_umpire_counts.proofs.TextErrors.{is_text_error, admitted_more, admitted_wider}
 use Rattle.ncp_proof_umpire_counts.proofs.Counted.{Counted, is_worded, counted_wider}
-use Rattle.ncp_proof_umpire_counts.proofs.OwedItems.{sent_rests, links_sent, OwedBy}
-use Rattle.ncp_proof_umpire_counts.proofs.OwedSteps.{made_reply}
+use Rattle.ncp_proof_umpire_owes.proofs.OwedItems.{sent_rests, links_sent, OwedBy}
+use Rattle.ncp_proof_umpire_owes.proofs.OwedSteps.{made_reply}
 
 -- ---- echoes
 

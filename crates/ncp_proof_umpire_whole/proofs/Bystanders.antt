@@ -19,8 +19,8 @@ use Rattle.ncp_umpire.specs.Judged.{sees, fresh_out, umpire_after_out, umpire_af
 use Rattle.ncp_proof_umpire_seen.proofs.Elsewhere.{Alike, alike_same, alike_both}
 use Rattle.ncp_proof_umpire_talk.proofs.Spoken.{Spoken}
 use Rattle.ncp_proof_umpire_seen.proofs.TidyBooks.{Tidy}
-use Rattle.ncp_proof_umpire_counts.proofs.BooksRead.{said_alikes}
-use Rattle.ncp_proof_umpire_counts.proofs.BooksRecord.{out_books, in_books, answer_books, record_reads}
+use Rattle.ncp_proof_umpire_owes.proofs.BooksRead.{said_alikes}
+use Rattle.ncp_proof_umpire_owes.proofs.BooksRecord.{out_books, in_books, answer_books, record_reads}
 use Rattle.ncp_proof_umpire_talk.proofs.TalkWalk.{AllSpoken, spoken_alike}
 use Rattle.ncp_proof_umpire_many.proofs.Elsewhere.{Spares, IsOfOthers, only}
 

@@ -28,7 +28,7 @@ use Rattle.ncp_proof_umpire.proofs.Phased.{Sees}
 use Rattle.ncp_proof_umpire_many.proofs.Moves.{goes_on}
 use Rattle.ncp_proof_umpire_many.proofs.Arrivals.{is_told}
 use Rattle.ncp_proof_umpire_talk.proofs.Carries.{ShowsBusy}
-use Rattle.ncp_proof_umpire_whole.proofs.Abreast.{Afloat, with_float}
+use Rattle.ncp_proof_umpire_abreast.proofs.Abreast.{Afloat, with_float}
 use Rattle.ncp_proof_umpire_whole.proofs.Sessions.{Floated}
 
 -- size and bits of a text, as it is read

@@ -14,7 +14,7 @@ use Rattle.ncp_umpire.specs.Phases.{items_findings, after_items, after_room, mis
 use Rattle.ncp_umpire.specs.Speaking.{after_all_said}
 use Rattle.ncp_umpire.specs.Talked.{talk_of, talked_findings, after_talked, tells_left_out, left_out_findings, after_left_out}
 use Rattle.ncp_umpire.specs.Judged.{is_roomy, items_said, control_findings, after_control}
-use Rattle.ncp_proof_umpire_whole.proofs.Abreast.{Afloat}
+use Rattle.ncp_proof_umpire_abreast.proofs.Abreast.{Afloat}
 use Rattle.ncp_proof_umpire_whole.proofs.NeverRests.{room_leaves}
 use Rattle.ncp_proof_umpire_whole.proofs.Sessions.{Parley, Floated, empty_front, empty_rest, own_items, own_left, their_items, their_quiet}
 

@@ -4,10 +4,11 @@ use Rattle.std.proofs.Common.{◌≡◌, ℕ, ◌==◌, Bool, true, false, not, 
 use Rattle.std.proofs.lemmas.Bool.{eqb-true}
 use Rattle.ncp_umpire.specs.Lives.{is_return_on}
 use Rattle.ncp_umpire.proofs.LinkOrder.{Sockets, same, same_is}
-use Rattle.ncp_proof_umpire_whole.proofs.Tallied.{Owing, Echoes, Returning, is_owed_of, has_echo, by_side, owing_without}
-use Rattle.ncp_proof_umpire_whole.proofs.Said.{Said}
-use Rattle.ncp_proof_umpire_whole.proofs.UsersSaid.{same_self}
-use Rattle.ncp_proof_umpire_whole.proofs.DuesOwed.{reply_owed, LinkIsOf, IsOwedRightly, OwesRightly}
+use Rattle.ncp_proof_umpire_abreast.specs.Owing.{Owing, Echoes, Returning, is_owed_of, has_echo}
+use Rattle.ncp_proof_umpire_abreast.proofs.Tallied.{by_side, owing_without}
+use Rattle.ncp_proof_umpire_abreast.proofs.Said.{Said}
+use Rattle.ncp_proof_umpire_abreast.proofs.UsersSaid.{same_self}
+use Rattle.ncp_proof_umpire_abreast.proofs.DuesOwed.{reply_owed, LinkIsOf, IsOwedRightly, OwesRightly}
 
 -- a side owes none of a connection by which it does not send, and none of one that has no link
 pub none_of_it : (s : Bool) (x : Said) (u : Sockets) → ((l : ℕ) → x.users (not s) l ≡ Some u → ⊥) → (owing : List Owing) → OwesRightly s x.shapes x.users x.counts owing → owing_without u owing ≡ owing

@@ -12,7 +12,7 @@ use Rattle.ncp_umpire.specs.declared.view.View.{View}
 use Rattle.ncp_umpire.specs.declared.way.Way.{Way}
 use Rattle.ncp_umpire.specs.Judged.{new_umpire, after_record}
 use Rattle.ncp_umpire.specs.Tables.{view_in}
-use Rattle.ncp_proof_umpire_counts.proofs.BooksRecord.{record_reads}
+use Rattle.ncp_proof_umpire_owes.proofs.BooksRecord.{record_reads}
 use Rattle.ncp_proof_umpire_seen.proofs.Elsewhere.{Alike}
 use Rattle.ncp_proof_umpire_many.specs.Files.{findings_in}
 use Rattle.ncp_proof_umpire_many.specs.ManyFiles.{many_file, NothingFoundAmongMany}
@@ -20,7 +20,7 @@ use Rattle.ncp_proof_umpire_many.proofs.Among.{Lifts, all_among, both_lifts}
 use Rattle.ncp_proof_umpire_many.proofs.Counts.{line}
 use Rattle.ncp_proof_umpire_many.proofs.Elsewhere.{Spares, IsOfOthers, record_spares}
 use Rattle.ncp_proof_umpire_whole.proofs.Bystanders.{books_left, room_before_record, talks_left}
-use Rattle.ncp_proof_umpire_whole.proofs.Abreast.{Afloat}
+use Rattle.ncp_proof_umpire_abreast.proofs.Abreast.{Afloat}
 use Rattle.ncp_proof_umpire_whole.proofs.Floats.{floats}
 use Rattle.ncp_proof_umpire_whole.proofs.Parleys.{ParleyOf, Known}
 use Rattle.ncp_proof_umpire_whole.proofs.Sessions.{Parley, books_parley}

@@ -32,8 +32,8 @@ use Rattle.ncp_proof_umpire.proofs.Shown.{Shows}
 use Rattle.ncp_proof_umpire.proofs.Talking.{text_found}
 use Rattle.ncp_proof_umpire_many.proofs.AsRead.{items, control_of, text_view}
 use Rattle.ncp_proof_umpire_many.proofs.OwnOut
-use Rattle.ncp_proof_umpire_counts.proofs.BooksRecord.{out_books, record_reads}
-use Rattle.ncp_proof_umpire_whole.proofs.Abreast.{Afloat, with_float}
+use Rattle.ncp_proof_umpire_owes.proofs.BooksRecord.{out_books, record_reads}
+use Rattle.ncp_proof_umpire_abreast.proofs.Abreast.{Afloat, with_float}
 use Rattle.ncp_proof_umpire_whole.proofs.Sessions.{Parley, Floated, empty_front, empty_rest, views_parley, books_parley, text_goes}
 use Rattle.ncp_proof_umpire_whole.proofs.NeverRests.{Awake, out_awake, text_leaves}
 use Rattle.ncp_proof_umpire_whole.proofs.InMessages.{control_goes}

@@ -10,7 +10,7 @@ use Rattle.ncp_umpire.specs.Tables.{view_in}
 use Rattle.ncp_proof_umpire_many.proofs.Both.{Both, turn_both}
 use Rattle.ncp_proof_umpire_many.proofs.Counts.{line}
 use Rattle.ncp_proof_umpire_talk.proofs.TalkWalk.{AllSpoken}
-use Rattle.ncp_proof_umpire_whole.proofs.Abreast.{Afloat}
+use Rattle.ncp_proof_umpire_abreast.proofs.Abreast.{Afloat}
 use Rattle.ncp_proof_umpire_whole.proofs.Floats.{floats}
 use Rattle.ncp_proof_umpire_whole.proofs.Sessions.{Parley, turn_parley}
 

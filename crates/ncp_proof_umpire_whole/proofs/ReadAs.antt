@@ -25,10 +25,11 @@ use Rattle.ncp_proof_umpire_seen.proofs.TidyBooks.{numbered}
 use Rattle.ncp_proof_umpire_counts.proofs.LinkPlaces.{UserAt, renumbered_here, renumbered_others, renumbered_seen, renumbered_rests, renumbered_unique}
 use Rattle.ncp_proof_umpire_counts.proofs.PlainSteps.{kept_marks}
 use Rattle.ncp_proof_umpire_counts.proofs.Words.{Count, count_of}
-use Rattle.ncp_proof_umpire_whole.proofs.Tallied.{Owing, Echoes, Returning, left_by, has_both, has_echo}
-use Rattle.ncp_proof_umpire_whole.proofs.Said.{Said, unspoken, SaidAlike, without_owed}
-use Rattle.ncp_proof_umpire_whole.proofs.UsersSaid.{IsConnected, fit_none, fit_alike}
-use Rattle.ncp_proof_umpire_whole.proofs.DuesOwed.{AreDue, IsOwedRightly, OwesRightly, none_echoes}
+use Rattle.ncp_proof_umpire_abreast.specs.Owing.{Owing, Echoes, Returning, has_echo}
+use Rattle.ncp_proof_umpire_abreast.proofs.Tallied.{left_by, has_both}
+use Rattle.ncp_proof_umpire_abreast.proofs.Said.{Said, unspoken, SaidAlike, without_owed}
+use Rattle.ncp_proof_umpire_abreast.proofs.UsersSaid.{IsConnected, fit_none, fit_alike}
+use Rattle.ncp_proof_umpire_abreast.proofs.DuesOwed.{AreDue, IsOwedRightly, OwesRightly, none_echoes}
 
 -- what each owes is owed rightly
 abbrev pub OweRightly : Said → Type 0

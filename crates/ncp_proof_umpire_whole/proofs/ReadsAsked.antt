@@ -34,12 +34,13 @@ use Rattle.ncp_proof_umpire_seen.proofs.TidyBooks.{passed_over}
 use Rattle.ncp_proof_umpire_seen.proofs.Filtered.{filter_others}
 use Rattle.ncp_proof_umpire_counts.proofs.PlainSteps.{asked_counts}
 use Rattle.ncp_proof_umpire_counts.proofs.Words.{no_count, count_of, link_given}
-use Rattle.ncp_proof_umpire_whole.proofs.Tallied.{left_by, receives_by, has_echo, counts_after_cls, owing_without}
-use Rattle.ncp_proof_umpire_whole.proofs.Said.{Said, sockets_by, may_say, number_by, Legal, after_said_by}
-use Rattle.ncp_proof_umpire_whole.proofs.UsersSaid.{IsConnected, is_sexed, link_between, same_self, fit_step}
-use Rattle.ncp_proof_umpire_whole.proofs.DuesOwed.{AreDue, owed_without}
+use Rattle.ncp_proof_umpire_abreast.specs.Owing.{has_echo}
+use Rattle.ncp_proof_umpire_abreast.proofs.Tallied.{left_by, receives_by, counts_after_cls, owing_without}
+use Rattle.ncp_proof_umpire_abreast.proofs.Said.{Said, sockets_by, may_say, number_by, Legal, after_said_by}
+use Rattle.ncp_proof_umpire_abreast.proofs.UsersSaid.{IsConnected, is_sexed, link_between, same_self, fit_step}
+use Rattle.ncp_proof_umpire_abreast.proofs.DuesOwed.{AreDue, owed_without}
 use Rattle.ncp_proof_umpire_whole.proofs.LeavesOwed.{none_of_it, link_is_its, echo_without, each_side}
-use Rattle.ncp_proof_umpire_whole.proofs.OwesSteps.{owes_step}
+use Rattle.ncp_proof_umpire_abreast.proofs.OwesSteps.{owes_step}
 use Rattle.ncp_proof_umpire_whole.proofs.ReadAs.{OweRightly, ReadAs, sides_apart, read_one}
 use Rattle.ncp_proof_umpire_whole.proofs.IdleSlots.{none_out}
 

@@ -31,11 +31,12 @@ use Rattle.ncp_proof_umpire_seen.proofs.Filtered.{filter_behind, filter_left}
 use Rattle.ncp_proof_umpire_seen.proofs.TidyBooks.{passed_over, numbered}
 use Rattle.ncp_proof_umpire_counts.proofs.LinkPlaces.{UserAt, LeadsTo, ToRest, ToNobody, ToClosed, ToUnasked, ToOpen, user_found, command_leads}
 use Rattle.ncp_proof_umpire_counts.proofs.Words.{Count, count_of}
-use Rattle.ncp_proof_umpire_whole.proofs.Tallied.{Owing, Echoes, Returning, left_by, has_both, is_open_by, receives_by, IsLed, is_returning_on, is_echo, Chosen, NextOwed, owed_behind, has_echo, HasNumbers, count_put, counted_on, recalled_by, returned_by, return_asked}
-use Rattle.ncp_proof_umpire_whole.proofs.Said.{Said, Legal, legal_told, after_said_by}
-use Rattle.ncp_proof_umpire_whole.proofs.UsersSaid.{IsConnected, same_self, fit_step}
-use Rattle.ncp_proof_umpire_whole.proofs.DuesOwed.{reply_owed, AreDue, ret_gives, ret_fits, rule_then_next, NextDue, next_then_rule, ret_left, owed_more}
-use Rattle.ncp_proof_umpire_whole.proofs.OwesSteps.{next_given, owes_step}
+use Rattle.ncp_proof_umpire_abreast.specs.Owing.{Owing, Echoes, Returning, is_returning_on, is_echo, Chosen, NextOwed, owed_behind, has_echo}
+use Rattle.ncp_proof_umpire_abreast.proofs.Tallied.{left_by, has_both, is_open_by, receives_by, IsLed, HasNumbers, count_put, counted_on, recalled_by, returned_by, return_asked}
+use Rattle.ncp_proof_umpire_abreast.proofs.Said.{Said, Legal, legal_told, after_said_by}
+use Rattle.ncp_proof_umpire_abreast.proofs.UsersSaid.{IsConnected, same_self, fit_step}
+use Rattle.ncp_proof_umpire_abreast.proofs.DuesOwed.{reply_owed, AreDue, ret_gives, ret_fits, rule_then_next, NextDue, next_then_rule, ret_left, owed_more}
+use Rattle.ncp_proof_umpire_abreast.proofs.OwesSteps.{next_given, owes_step}
 use Rattle.ncp_proof_umpire_whole.proofs.LeavesOwed.{each_side}
 use Rattle.ncp_proof_umpire_whole.proofs.ReadAs.{OweRightly, ReadAs, sides_apart, read_numbered}
 use Rattle.ncp_proof_umpire_whole.proofs.ReadsAsked.{user_there, life_uses}

@@ -22,11 +22,12 @@ use Rattle.ncp_proof_umpire_seen.proofs.Resting.{mark_lives, mark_dues, mark_mad
 use Rattle.ncp_proof_umpire_seen.proofs.Replying.{any_fewer, none_fewer}
 use Rattle.ncp_proof_umpire_seen.proofs.Echoing.{mark_other}
 use Rattle.ncp_proof_umpire_seen.proofs.Filtered.{filter_behind, filter_left}
-use Rattle.ncp_proof_umpire_whole.proofs.Tallied.{Owing, Echoes, Returning, is_echo_of, is_echo, NextOwed, owed_behind, has_echo, any_owing, by_side}
-use Rattle.ncp_proof_umpire_whole.proofs.Said.{Said, Legal, after_said_by}
+use Rattle.ncp_proof_umpire_abreast.specs.Owing.{Owing, Echoes, Returning, is_echo_of, is_echo, NextOwed, owed_behind, has_echo, any_owing}
+use Rattle.ncp_proof_umpire_abreast.proofs.Tallied.{by_side}
+use Rattle.ncp_proof_umpire_abreast.proofs.Said.{Said, Legal, after_said_by}
 use Rattle.ncp_proof_umpire_whole.proofs.LeavesOwed.{each_side}
-use Rattle.ncp_proof_umpire_whole.proofs.DuesOwed.{AreDue, erp_gives, err_gives, rule_then_next, NextDue, next_then_rule, erp_left, echo_fits, none_fits, owed_more}
-use Rattle.ncp_proof_umpire_whole.proofs.OwesSteps.{on_both, its_side_is, other_side_is, unturned, echo_given, owes_step}
+use Rattle.ncp_proof_umpire_abreast.proofs.DuesOwed.{AreDue, erp_gives, err_gives, rule_then_next, NextDue, next_then_rule, erp_left, echo_fits, none_fits, owed_more}
+use Rattle.ncp_proof_umpire_abreast.proofs.OwesSteps.{on_both, its_side_is, other_side_is, unturned, echo_given, owes_step}
 use Rattle.ncp_proof_umpire_whole.proofs.ReadAs.{ReadAs, sides_apart, read_lives}
 
 -- ---- sides

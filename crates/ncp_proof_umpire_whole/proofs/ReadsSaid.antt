@@ -15,10 +15,10 @@ use Rattle.ncp_umpire.specs.Requests.{broken, is_of_sexes, used_verdict, request
 use Rattle.ncp_umpire.specs.Allocation.{number_rules}
 use Rattle.ncp_umpire.specs.Speaking.{command_rule, books_after_command, spoken_rule, spoken_numbers, after_spoken}
 use Rattle.ncp_umpire.proofs.Seeing.{is_of}
-use Rattle.ncp_proof_umpire_counts.proofs.AllGo.{room_before}
-use Rattle.ncp_proof_umpire_whole.proofs.Said.{Said, sockets_by, Legal, after_said_by, legal_rts, legal_str, legal_cls, legal_told, is_idle, idle_leaves}
-use Rattle.ncp_proof_umpire_whole.proofs.UsersSaid.{is_sexed, fit_step}
-use Rattle.ncp_proof_umpire_whole.proofs.OwesSteps.{owes_step}
+use Rattle.ncp_proof_umpire_owes.proofs.AllGo.{room_before}
+use Rattle.ncp_proof_umpire_abreast.proofs.Said.{Said, sockets_by, Legal, after_said_by, legal_rts, legal_str, legal_cls, legal_told, is_idle, idle_leaves}
+use Rattle.ncp_proof_umpire_abreast.proofs.UsersSaid.{is_sexed, fit_step}
+use Rattle.ncp_proof_umpire_abreast.proofs.OwesSteps.{owes_step}
 use Rattle.ncp_proof_umpire_whole.proofs.ReadAs.{ReadAs}
 use Rattle.ncp_proof_umpire_whole.proofs.ReadsAsked.{request_may, request_right, request_read, used_none, free_is, unused_is, cls_may, cls_is_right, idle_if_right, cls_read, their_text_out}
 use Rattle.ncp_proof_umpire_whole.proofs.ReadsLinks.{all_legal, all_unbroken, all_read, gvb_legal, gvb_unbroken, gvb_read, ret_legal, ret_unbroken, ret_numbers, ret_read, inr_legal, inr_unbroken, inr_read, ins_legal, ins_unbroken, ins_read}

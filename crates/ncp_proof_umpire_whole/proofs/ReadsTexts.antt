@@ -21,13 +21,13 @@ use Rattle.ncp_umpire.specs.Texts.{is_closed_for, text_lead, size_rule, over_tex
 use Rattle.ncp_umpire.proofs.LinkOrder.{Sockets}
 use Rattle.ncp_umpire.proofs.Seeing.{of_life}
 use Rattle.ncp_proof_umpire_counts.proofs.LinkPlaces.{UserAt, HasUser, AllUnique, LeadsTo, ToRest, ToNobody, ToClosed, ToUnasked, ToOpen, user_found, text_leads, renumbered_unique}
-use Rattle.ncp_proof_umpire_counts.proofs.TheirText.{SameAt, came_at, came_marks}
+use Rattle.ncp_proof_umpire_owes.proofs.TheirText.{SameAt, came_at, came_marks}
 use Rattle.ncp_proof_umpire_counts.proofs.Words.{Count}
-use Rattle.ncp_proof_umpire_whole.proofs.Tallied.{counted_off}
-use Rattle.ncp_proof_umpire_whole.proofs.Said.{Said, number_by, TextLegal, after_text_by}
-use Rattle.ncp_proof_umpire_whole.proofs.UsersSaid.{fit_text}
-use Rattle.ncp_proof_umpire_whole.proofs.OwesSteps.{owes_text}
-use Rattle.ncp_proof_umpire_whole.proofs.DuesOwed.{AreDue}
+use Rattle.ncp_proof_umpire_abreast.proofs.Tallied.{counted_off}
+use Rattle.ncp_proof_umpire_abreast.proofs.Said.{Said, number_by, TextLegal, after_text_by}
+use Rattle.ncp_proof_umpire_abreast.proofs.UsersSaid.{fit_text}
+use Rattle.ncp_proof_umpire_abreast.proofs.OwesSteps.{owes_text}
+use Rattle.ncp_proof_umpire_abreast.proofs.DuesOwed.{AreDue}
 use Rattle.ncp_proof_umpire_whole.proofs.ReadAs.{ReadAs}
 use Rattle.ncp_proof_umpire_whole.proofs.ReadsLinks.{LeadsOpen, user_uses, shape_is, open_is, open_leads, leads_led, led_leads, counted_life, read_counted}
 

@@ -5,14 +5,14 @@ use Rattle.ncp_terms.specs.declared.command.Command.{Command}
 use Rattle.ncp_model.specs.Phase.{is_rst, is_rrp}
 use Rattle.ncp_model.proofs.ResetLists.{bit, rsts, rrps, rsts-append, rrps-append}
 use Rattle.ncp_umpire.specs.Lives.{SeenBooks}
-use Rattle.ncp_proof_umpire_whole.proofs.Tallied.{has_echo}
-use Rattle.ncp_proof_umpire_whole.proofs.Said.{Said, SaidAlike, unspoken, Legal, after_said_by, TextLegal, after_text_by, without_owed, LegalRun}
-use Rattle.ncp_proof_umpire_whole.proofs.Diamond.{alike_self, own_run}
-use Rattle.ncp_proof_umpire_whole.proofs.Abreast.{Afloat, with_float, LeavesNoText, Abreast}
-use Rattle.ncp_proof_umpire_whole.proofs.TextSteps.{text_run, room_run}
-use Rattle.ncp_proof_umpire_whole.proofs.AbreastSteps.{floats_alike, unspoken_abreast, turn_abreast, own_abreast, heard_abreast}
-use Rattle.ncp_proof_umpire_whole.proofs.RoomAbreast.{own_room, none_afloat}
-use Rattle.ncp_proof_umpire_whole.proofs.TextAbreast.{own_text, their_text}
+use Rattle.ncp_proof_umpire_abreast.specs.Owing.{has_echo}
+use Rattle.ncp_proof_umpire_abreast.proofs.Said.{Said, SaidAlike, unspoken, Legal, after_said_by, TextLegal, after_text_by, without_owed, LegalRun}
+use Rattle.ncp_proof_umpire_abreast.proofs.Diamond.{alike_self, own_run}
+use Rattle.ncp_proof_umpire_abreast.proofs.Abreast.{Afloat, with_float, LeavesNoText, Abreast}
+use Rattle.ncp_proof_umpire_abreast.proofs.TextSteps.{text_run, room_run}
+use Rattle.ncp_proof_umpire_abreast.proofs.AbreastSteps.{floats_alike, unspoken_abreast, turn_abreast, own_abreast, heard_abreast}
+use Rattle.ncp_proof_umpire_abreast.proofs.RoomAbreast.{own_room, none_afloat}
+use Rattle.ncp_proof_umpire_abreast.proofs.TextAbreast.{own_text, their_text}
 use Rattle.ncp_proof_umpire_whole.proofs.ReadAs.{ReadAs}
 use Rattle.ncp_proof_umpire_whole.proofs.Hears.{hears, hears_other, drops_other, hears_none, hears_unanswered, hears_reset_more, hears_more, answered_more, Matched, turn_matched, reset_goes, reply_goes, other_goes, reset_comes, reply_comes, other_comes, Crossing, crossing}
 

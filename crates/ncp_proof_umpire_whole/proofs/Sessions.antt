@@ -27,12 +27,12 @@ use Rattle.ncp_umpire.specs.Talked.{reaches, act_reaches, clears, talk_finding, 
 use Rattle.ncp_umpire.specs.Allocation.{number_rules}
 use Rattle.ncp_umpire.specs.Texts.{text_rules, text_lead, led_text_rules, books_after_text}
 use Rattle.ncp_proof_umpire_seen.proofs.Elsewhere.{Alike, item_alike, cleared_alike, said_alike, text_alike}
-use Rattle.ncp_proof_umpire_counts.proofs.BooksRead.{talk_reads, items_read}
+use Rattle.ncp_proof_umpire_owes.proofs.BooksRead.{talk_reads, items_read}
 use Rattle.ncp_proof_umpire_whole.proofs.NeverRests.{Awake, new_awake, IsThing, by_kind, OwnReset, own_reset, OwnReply, own_reply, TheirReset, their_reset, TheirReply, their_reply, none_early, thing_leaves, own_in_time}
-use Rattle.ncp_proof_umpire_whole.proofs.Said.{Said, unspoken, Legal, after_said_by, TextLegal, after_text_by}
-use Rattle.ncp_proof_umpire_whole.proofs.Diamond.{alike_self}
-use Rattle.ncp_proof_umpire_whole.proofs.Abreast.{Afloat, with_float, LeavesNoText}
-use Rattle.ncp_proof_umpire_whole.proofs.AbreastSteps.{unspoken_abreast}
+use Rattle.ncp_proof_umpire_abreast.proofs.Said.{Said, unspoken, Legal, after_said_by, TextLegal, after_text_by}
+use Rattle.ncp_proof_umpire_abreast.proofs.Diamond.{alike_self}
+use Rattle.ncp_proof_umpire_abreast.proofs.Abreast.{Afloat, with_float, LeavesNoText}
+use Rattle.ncp_proof_umpire_abreast.proofs.AbreastSteps.{unspoken_abreast}
 use Rattle.ncp_proof_umpire_whole.proofs.ReadAs.{ReadAs, read_as_alike, read_cleared, read_none, read_others, read_room}
 use Rattle.ncp_proof_umpire_whole.proofs.ReadsSaid.{read_own, read_their, own_cls_idle, said_room}
 use Rattle.ncp_proof_umpire_whole.proofs.ReadsTexts.{read_own_text, read_their_text}

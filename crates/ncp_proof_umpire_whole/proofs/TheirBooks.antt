@@ -32,9 +32,9 @@ use Rattle.ncp_proof_umpire.proofs.Talking.{text_found}
 use Rattle.ncp_proof_umpire_many.proofs.AsRead.{items, control_of, text_view, not_told, zero_none}
 use Rattle.ncp_proof_umpire_many.proofs.Meets
 use Rattle.ncp_proof_umpire_many.proofs.Quiet.{phase_quiet}
-use Rattle.ncp_proof_umpire_counts.proofs.BooksRecord.{in_books, record_reads}
+use Rattle.ncp_proof_umpire_owes.proofs.BooksRecord.{in_books, record_reads}
 use Rattle.ncp_proof_umpire_whole.proofs.Sessions.{Parley, books_parley, untold_none, untold_quiet, text_unfound, text_comes}
-use Rattle.ncp_proof_umpire_whole.proofs.Abreast.{Afloat, with_float}
+use Rattle.ncp_proof_umpire_abreast.proofs.Abreast.{Afloat, with_float}
 use Rattle.ncp_proof_umpire_whole.proofs.NeverRests.{text_leaves, quiet_items, act_none}
 use Rattle.ncp_proof_umpire_whole.proofs.InMessages.{control_unsaid, control_comes}
 use Rattle.ncp_proof_umpire_whole.proofs.OwnBooks.{view_told, no_option}

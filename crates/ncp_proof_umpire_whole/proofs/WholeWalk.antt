@@ -85,7 +85,7 @@ use Rattle.ncp_proof_umpire_many.proofs.OwnSide.{At, one_peer}
 use Rattle.ncp_proof_umpire_many.proofs.Sides.{OfA, both_sides}
 use Rattle.ncp_proof_umpire_many.proofs.Walk.{Shows, Steps, AllPass, all_pass, after_file}
 use Rattle.ncp_proof_umpire_many.proofs.Ways.{Comes_in, ways_in, Told, ways_answer}
-use Rattle.ncp_proof_umpire_counts.proofs.BooksRecord.{record_reads, answer_books}
+use Rattle.ncp_proof_umpire_owes.proofs.BooksRecord.{record_reads, answer_books}
 use Rattle.ncp_proof_umpire_talk.proofs.ShowsKept.{shows_busy}
 use Rattle.ncp_proof_umpire_talk.proofs.CarriesOn.{quiet_tells}
 use Rattle.ncp_proof_umpire_talk.proofs.TalkFile.{AtOwn, WentOut, own_called, own_went, own_came, own_elsewhere}
@@ -93,7 +93,7 @@ use Rattle.ncp_proof_umpire_talk.proofs.TalkWalk.{AllSpoken}
 use Rattle.ncp_proof_umpire_whole.proofs.Parleys.{ParleyOf, Parleys, Known, turn_known}
 use Rattle.ncp_proof_umpire_talk.proofs.TalkOut.{talks_begin}
 use Rattle.ncp_proof_umpire_whole.proofs.Sessions.{Parley, Floated, begins_parley, floats_parley, books_parley}
-use Rattle.ncp_proof_umpire_whole.proofs.Abreast.{Afloat, with_float}
+use Rattle.ncp_proof_umpire_abreast.proofs.Abreast.{Afloat, with_float}
 use Rattle.ncp_proof_umpire_whole.proofs.Floats.{floats, floats_again, floats_text, floats_zero, floats_lost, floats_told, floats_heard, floats_came, floats_out, floats_back, call_floats, none_floats, floated, floated_same}
 use Rattle.ncp_proof_umpire_whole.proofs.OwnBooks
 use Rattle.ncp_proof_umpire_whole.proofs.TheirBooks

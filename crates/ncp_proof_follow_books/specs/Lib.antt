@@ -1,0 +1,3 @@
+pub mod TextTold
+pub mod FileFollowed
+pub mod Examples
