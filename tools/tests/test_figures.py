@@ -28,6 +28,9 @@ impl Low {{
     }}
 }}
 """
+EXPORT = """//! More.
+pub extern "C" fn called(one: u8, two: u8, three: u8, four: u8, five: u8, six: u8) {}
+"""
 TESTS = """#[test]
 fn a_test(page: u8, sink: u8) {
     low.call_back(1);
@@ -41,14 +44,14 @@ use Rattle.low.specs.Things.{told}
 FILES = {
     "crates/low/src/lib.rt": LOW,
     "crates/low/specs/Things.antt": "told : ℕ → ℕ\ntold n = n\n\npub record At : Type where\n  at : ℕ\n",
-    "crates/high/src/lib.rt": "//! More.\n",
+    "crates/high/src/lib.rt": EXPORT,
     "crates/high/specs/Others.antt": "abbrev told : ℕ → ℕ\ntold n = n\n\nalone (n : ℕ) : ℕ\nalone n = n\n",
     "crates/ncp_proof_low/src/laws.rt": "ghost use Rattle.low.specs.Things as things;\n",
     "crates/ncp_proof_low/proofs/Law.antt": PROOF,
     "crates/ncp_world/src/lib.rt": "//! A world.\n\nfn run() {}\n",
     "crates/ncp_test_low/src/lib.rt": TESTS,
 }
-WANTED = {"streams": "1", "parameters": "1", "clauses": "1", "meanings": "1", "names": "1", "names-in-proofs": "2", "tower": "3", "act": "2"}
+WANTED = {"streams": "1", "parameters": "2", "exports": "1", "clauses": "1", "meanings": "1", "names": "1", "names-in-proofs": "2", "tower": "3", "act": "2"}
 
 
 class Figures(unittest.TestCase):
@@ -73,7 +76,8 @@ class Figures(unittest.TestCase):
         self.assertEqual((status, {it[0]: it[2] for it in cells}), (0, WANTED), said)
 
     def test_the_places(self):
-        self.assertEqual(self.figures("--where", "parameters"), (0, "crates/low/src/lib.rt:6: many: 6\n"))
+        self.assertEqual(self.figures("--where", "parameters"), (0, "crates/high/src/lib.rt:2: called: 6\ncrates/low/src/lib.rt:6: many: 6\n"))
+        self.assertEqual(self.figures("--where", "exports"), (0, "crates/high/src/lib.rt:2: called: 6\n"))
         self.assertEqual(self.figures("--where", "meanings"), (0, "crates/high/specs/Others.antt:1: told: high, low\n"))
 
     def test_a_figure_that_is_none(self):
