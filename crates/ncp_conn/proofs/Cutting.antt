@@ -10,7 +10,7 @@ use Rattle.ncp_model.specs.declared.pair.Pair.{Pair}
 use Rattle.ncp_model.specs.Pairs.{pair_cmp, same}
 use Rattle.ncp_model.specs.End.{End}
 use Rattle.ncp_model.specs.Act.{Stays, answer}
-use Rattle.ncp_model.specs.Texts.{cut, cut_bits, bytes_to_send, may_send}
+use Rattle.ncp_model.specs.Texts.{cut, cut_bits, bytes_to_send, can_send}
 use Rattle.ncp_conn.specs.Entries.{AreEntries}
 use Rattle.ncp_conn.specs.Links.{is_in, IsLowestIfAny}
 use Rattle.ncp_conn.specs.Cutting.{first_number_that}
@@ -18,8 +18,8 @@ use Rattle.ncp_conn.proofs.Slabs.{vals}
 use Rattle.ncp_conn.proofs.Finding.{is_pair, pair_is, same_is, same_itself, pair_itself}
 use Rattle.ncp_conn.proofs.Counts.{one, count_cons}
 
-pub cut_tells : (p : Pair × End) → is_some (answer (cut p.0 (Some p.1))) ≡ may_send p.0 p.1
-cut_tells p = go (may_send p.0 p.1)
+pub cut_tells : (p : Pair × End) → is_some (answer (cut p.0 (Some p.1))) ≡ can_send p.0 p.1
+cut_tells p = go (can_send p.0 p.1)
   where
     go : (b : Bool) → is_some (answer (cond b (cut_bits (bytes_to_send p.1 * p.1.size) p.1) (Stays None))) ≡ b
     go true = refl

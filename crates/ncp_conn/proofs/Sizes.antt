@@ -6,7 +6,7 @@ use Rattle.std.proofs.Math.Nat.{div-mul-le_self, div-zero, mul-div_cancel, mul-l
 use Rattle.ncp_model.specs.declared.pair.Pair.{Pair}
 use Rattle.ncp_model.specs.End.{End}
 use Rattle.ncp_model.specs.Act.{Stays, answer}
-use Rattle.ncp_model.specs.Texts.{bytes_to_send, may_send, cut, cut_bits}
+use Rattle.ncp_model.specs.Texts.{bytes_to_send, can_send, cut, cut_bits}
 use Rattle.ncp_model.specs.Ends.{Ends, cut_at, cut_in, sender_on, pair_of, map_after, map_after_at}
 use Rattle.ncp_conn.specs.Cutting.{sizes, text_of}
 
@@ -28,24 +28,24 @@ counted e h =
     let inside : n * e.size ≤ length e.stored = omega (arith, mul-le-mul_right e.size a, div-mul-le_self (length e.stored) e.size) in
     ap (λ (k : ℕ). k / e.size) (length-take-le (n * e.size) e.stored inside) ∙ mul-div_cancel n some
 
-pub size_cut : (p : Pair × End) (size n : ℕ) → size ≡ p.1.size → n ≡ bytes_to_send p.1 → may_send p.0 p.1 ≡ true → Some (size, n) ≡ sizes (answer (cut p.0 (Some p.1)))
-size_cut p size n same is may = go (may_send p.0 p.1) may (counted p.1 (grind arith))
+pub size_cut : (p : Pair × End) (size n : ℕ) → size ≡ p.1.size → n ≡ bytes_to_send p.1 → can_send p.0 p.1 ≡ true → Some (size, n) ≡ sizes (answer (cut p.0 (Some p.1)))
+size_cut p size n same is may = go (can_send p.0 p.1) may (counted p.1 (grind arith))
   where
     go : (b : Bool) → b ≡ true → length (take (bytes_to_send p.1 * p.1.size) p.1.stored) / p.1.size ≡ bytes_to_send p.1 → Some (size, n) ≡ sizes (answer (cond b (cut_bits (bytes_to_send p.1 * p.1.size) p.1) (Stays None)))
     go true h c = ap (λ (k : ℕ). Some (k, n)) same ∙ ap (λ (k : ℕ). Some (p.1.size, k)) (is ∙ sym c)
     go false h c = absurd (cc)
 
 -- nothing is cut where nothing may be
-pub nothing_cut : (p : Pair × End) (bits : List Bool) → may_send p.0 p.1 ≡ false → bits ≡ bits ++ text_of (answer (cut p.0 (Some p.1)))
-nothing_cut p bits may = go (may_send p.0 p.1) may
+pub nothing_cut : (p : Pair × End) (bits : List Bool) → can_send p.0 p.1 ≡ false → bits ≡ bits ++ text_of (answer (cut p.0 (Some p.1)))
+nothing_cut p bits may = go (can_send p.0 p.1) may
   where
     go : (b : Bool) → b ≡ false → bits ≡ bits ++ text_of (answer (cond b (cut_bits (bytes_to_send p.1 * p.1.size) p.1) (Stays None)))
     go false h = sym (append-nil bits)
     go true h = absurd (cc)
 
 -- what is cut where it may be
-pub text_cut : (p : Pair × End) (bits : List Bool) → may_send p.0 p.1 ≡ true → bits ++ take (bytes_to_send p.1 * p.1.size) p.1.stored ≡ bits ++ text_of (answer (cut p.0 (Some p.1)))
-text_cut p bits may = go (may_send p.0 p.1) may
+pub text_cut : (p : Pair × End) (bits : List Bool) → can_send p.0 p.1 ≡ true → bits ++ take (bytes_to_send p.1 * p.1.size) p.1.stored ≡ bits ++ text_of (answer (cut p.0 (Some p.1)))
+text_cut p bits may = go (can_send p.0 p.1) may
   where
     go : (b : Bool) → b ≡ true → bits ++ take (bytes_to_send p.1 * p.1.size) p.1.stored ≡ bits ++ text_of (answer (cond b (cut_bits (bytes_to_send p.1 * p.1.size) p.1) (Stays None)))
     go true h = refl
@@ -78,4 +78,4 @@ cut_none m on h = at (sender_on on m) h
 
     at : (o : Option (Pair × End)) → answer (cut_at o) ≡ None → map_after_at m (pair_of o) (cut_at o) ≡ m
     at None e = refl
-    at (Some p) e = by p (may_send p.0 p.1) e
+    at (Some p) e = by p (can_send p.0 p.1) e

@@ -3,14 +3,14 @@ use Rattle.std.specs.Prelude.{◌≡◌, ℕ, Bool, false, List, Option, None, S
 use Rattle.slab.specs.Slab.{Slab, get}
 use Rattle.ncp_model.specs.declared.pair.Pair.{Pair}
 use Rattle.ncp_model.specs.End.{End}
-use Rattle.ncp_model.specs.Texts.{may_send}
+use Rattle.ncp_model.specs.Texts.{can_send}
 use Rattle.ncp_model.specs.Ends.{hears_link}
 use Rattle.ncp_conn.specs.Indexes.{key_at, entry_passes}
 use Rattle.ncp_conn.specs.Links.{is_in}
 
 -- whether an entry may send a text
 abbrev pub may_send_text : Pair × End → Bool
-may_send_text p = may_send p.0 p.1
+may_send_text p = can_send p.0 p.1
 
 -- whether one may where a link leads: not where it leads nowhere
 abbrev pub sends_at : Option ℕ → Slab (Pair × End) → Bool

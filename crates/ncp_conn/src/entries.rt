@@ -196,7 +196,7 @@ fn note<S: BitStore>(entry: &Entry<S>, sending: &mut LinkSet)
     if !entry.hears(link) {
         return;
     }
-    if entry.may_send() {
+    if entry.can_send() {
         sending.insert(link);
     } else {
         sending.remove(link);

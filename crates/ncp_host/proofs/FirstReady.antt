@@ -12,7 +12,7 @@ use Rattle.ncp_slot.specs.Slots.{LinkSlot, HasSlot, slot_at, data_links}
 use Rattle.ncp_model.specs.declared.pair.Pair.{Pair}
 use Rattle.ncp_model.specs.End.{End}
 use Rattle.ncp_model.specs.Act.{answer, Stays}
-use Rattle.ncp_model.specs.Texts.{bytes_to_send, may_send, cut_bits}
+use Rattle.ncp_model.specs.Texts.{bytes_to_send, can_send, cut_bits}
 use Rattle.ncp_model.specs.Ends.{Ends, any, hears_link, sender_on, pair_of, end_of, cut_at, cut_in}
 use Rattle.ncp_model.specs.Sending.{next_commands}
 use Rattle.ncp_model.specs.Leading.{passes}
@@ -54,7 +54,7 @@ not_busy on m s p e a empty g h = go e.busy refl
         let full : is_empty (slot_at s.slots on) ≡ false = subst (λ (y : ℕ). is_empty (slot_at s.slots y) ≡ false) same o.3 in
         absurd (cc (empty, full))
 
-sends_text : (on : ℕ) (p : Pair) (e : End) → hears_link on (p, e) ≡ true → e.busy ≡ false → may_send p e ≡ has_text on (p, e)
+sends_text : (on : ℕ) (p : Pair) (e : End) → hears_link on (p, e) ≡ true → e.busy ≡ false → can_send p e ≡ has_text on (p, e)
 sends_text on p e h b = grind arith
 
 needs_link : (on : ℕ) (p : Pair) (e : End) → has_text on (p, e) ≡ true → hears_link on (p, e) ≡ true
@@ -97,10 +97,10 @@ cut_goes number on s a empty = go (sender_on on m) refl
         link : hears_link on q ≡ true
         link = sym (ap (passes (hears_link on) q.0) there) ∙ found.1
 
-        may : may_send q.0 q.1 ≡ has_text on q
+        may : can_send q.0 q.1 ≡ has_text on q
         may = sends_text on q.0 q.1 link (not_busy on m s q.0 q.1 a empty there link)
 
-        by_test : (b : Bool) → has_text on q ≡ b → goes (text_message number on (answer (if may_send q.0 q.1 then cut_bits (bytes_to_send q.1 * q.1.size) q.1 else Stays None))) ≡ any (has_text on) m
+        by_test : (b : Bool) → has_text on q ≡ b → goes (text_message number on (answer (if can_send q.0 q.1 then cut_bits (bytes_to_send q.1 * q.1.size) q.1 else Stays None))) ≡ any (has_text on) m
         by_test true t =
             ap (λ b. goes (text_message number on (answer (if b then cut_bits (bytes_to_send q.1 * q.1.size) q.1 else Stays None)))) (may ∙ t)
             ∙ sym (some (any (has_text on) m) refl q.0 (ap (passes (has_text on) q.0) there ∙ t))

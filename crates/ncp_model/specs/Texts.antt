@@ -42,8 +42,8 @@ made_by_text head text took = []
 abbrev pub bytes_to_send : End → ℕ
 bytes_to_send e = min (length e.stored / e.size) (min (e.bits / e.size) (MAX_TEXT / e.size))
 
-abbrev pub may_send : Pair → End → Bool
-may_send pair e = sends pair && is_open e && not e.busy && nat_le 1 (bytes_to_send e) && nat_le 1 e.messages
+abbrev pub can_send : Pair → End → Bool
+can_send pair e = sends pair && is_open e && not e.busy && nat_le 1 (bytes_to_send e) && nat_le 1 e.messages
 
 abbrev pub cut_bits : ℕ → End → Act (Option (ℕ × List Bool))
 cut_bits count e =
@@ -54,7 +54,7 @@ cut_bits count e =
 -- the byte size and the text, if any
 abbrev pub cut : Pair → Option End → Act (Option (ℕ × List Bool))
 cut pair None = Stays None
-cut pair (Some e) = if may_send pair e then cut_bits (bytes_to_send e * e.size) e else Stays None
+cut pair (Some e) = if can_send pair e then cut_bits (bytes_to_send e * e.size) e else Stays None
 
 -- The answer to a text: it was taken (RFNM); it was not delivered and goes out again (Incomplete
 -- Transmission); it was not delivered and is kept until the user asks for it (Destination Dead)

@@ -15,7 +15,7 @@ use Rattle.ncp_model.specs.End.{End, new_end, or_new, is_going, is_over}
 use Rattle.ncp_model.specs.Act.{Act, Stays, Becomes, answer, end_after, made_by_call, made_by_close, made_by_take, made_by_hearing, made_if_any, met, leaves, closing, is_data_link}
 use Rattle.ncp_model.specs.Calls.{unless_refused, may_ask_send, ask_send, may_ask_receive, ask_receive, may_close, close, may_give, give, may_take, take_held, may_allocate, allocate, may_call_back, call_back, may_interrupt, interrupt, interrupting}
 use Rattle.ncp_model.specs.Commands.{hear_rts, hear_cls, hear_cls_end, hear_all, hear_gvb, hear_inr, at_open, all_at, gvb_at, interrupted}
-use Rattle.ncp_model.specs.Texts.{cut, may_send, bytes_to_send, Answer, end_answered, Rfnm}
+use Rattle.ncp_model.specs.Texts.{cut, can_send, bytes_to_send, Answer, end_answered, Rfnm}
 use Rattle.ncp_model.specs.Happenings.{Happening, Outcome, outcome_of_call, of_take, of_hearing, of_cut, is_violation}
 use Rattle.ncp_proof_watch.specs.Histories.{Past, no_past, adds, opens}
 use Rattle.ncp_proof_connection.specs.Connections.{Text, No_text, Here, text_after_outcome}
@@ -278,7 +278,7 @@ module _ (pair : Pair) (sd : sends pair ≡ true) (past : Past) (r : End) (h : L
       → Keeps Happening.Text_goes_out before past r h p q t (λ _. []) of_cut (cut pair before)
   sk-cut None fs k = stays _ refl refl refl (λ _. refl) k
   sk-cut (Some e) fs k =
-      choose (may_send pair e) (λ m.
+      choose (can_send pair e) (λ m.
       let v : is_going e ≡ false = grind arith in
       let a : e.asked ≡ true = grind arith in
       let o : e.heard ≡ true = grind arith in

@@ -18,7 +18,7 @@ use Rattle.ncp_model.specs.Peers.{Peer, PairCall, standing, called, calls_up, cl
 use Rattle.ncp_model.specs.Ends.{cut_at, cut_in, map_after}
 use Rattle.ncp_model.specs.End.{End}
 use Rattle.ncp_model.specs.Act.{Stays}
-use Rattle.ncp_model.specs.Texts.{may_send, cut_bits, bytes_to_send}
+use Rattle.ncp_model.specs.Texts.{can_send, cut_bits, bytes_to_send}
 use Rattle.ncp_model.specs.Sending.{next_commands, fitting}
 use Rattle.ncp_terms.specs.Spelling.{spelling}
 use Rattle.std.proofs.Math.Seq.{drop-nil}
@@ -107,7 +107,7 @@ messages_agree (c ∷ cs) n =
 -- where nothing may be cut, nothing changes
 uncut : (m : Ends) (o : Option (Pair × End)) → answer (cut_at o) ≡ None → map_after_at m (pair_of o) (cut_at o) ≡ m
 uncut m None e = refl
-uncut m (Some q) e = go (may_send q.0 q.1) e
+uncut m (Some q) e = go (can_send q.0 q.1) e
   where
     go : (b : Bool) → answer (if b then cut_bits (bytes_to_send q.1 * q.1.size) q.1 else Stays None) ≡ None → map_after m q.0 (if b then cut_bits (bytes_to_send q.1 * q.1.size) q.1 else Stays None) ≡ m
     go true e = absurd (cc e)

@@ -3,7 +3,7 @@ use Rattle.std.proofs.Common.{◌≡◌, ◌<◌, ◌++◌, Bool, true, false, L
 use Rattle.std.proofs.lemmas.Bool.{both_ways}
 use Rattle.ncp_model.specs.declared.pair.Pair.{Pair}
 use Rattle.ncp_model.specs.End.{End, is_open}
-use Rattle.ncp_model.specs.Texts.{may_send}
+use Rattle.ncp_model.specs.Texts.{can_send}
 use Rattle.ncp_proof_progress.specs.Finished.{OpenAndAgreed, PairFinished, Nobody, Sender_asked, Receiver_asked, Both_open, Receiver_holds}
 
 one : (a b : End) → Some a ≡ Some b → b ≡ a
@@ -41,11 +41,11 @@ closed pair e r given got (Receiver_asked x y p q h k n) = subst (λ (z : End). 
 closed pair e r given got (Both_open x y p q o) = let s = open-stays x o.sender in subst (λ (z : End). Closed z r) (one e x p) (stays x r s.0 s.1)
 closed pair e r given got (Receiver_holds x y p q k h) = (ap (λ (z : End). z.leaving) (sym (one e x p)) ∙ k.2, λ t. (y, q, h.0, h.2))
 
-pub arrived : (pair : Pair) (e : End) (r : Option End) (given got : List Bool) → PairFinished pair (Some e) r given got → is_open e ≡ true → (given ≡ got ++ e.stored) × (may_send pair e ≡ false)
+pub arrived : (pair : Pair) (e : End) (r : Option End) (given got : List Bool) → PairFinished pair (Some e) r given got → is_open e ≡ true → (given ≡ got ++ e.stored) × (can_send pair e ≡ false)
 arrived pair e r given got (Nobody p q) o = absurd (cc p)
 arrived pair e r given got (Sender_asked x y p q k h n) o = absurd (both_ways e.heard (ap (λ (z : End). z.heard) (sym (one e x p)) ∙ k.heard) (open-heard e o))
 arrived pair e r given got (Receiver_asked x y p q h k n) o = absurd (both_ways e.asked (ap (λ (z : End). z.asked) (sym (one e x p)) ∙ h.asked) (open-asked e o))
-arrived pair e r given got (Both_open x y p q k) o = subst (λ (z : End). (given ≡ got ++ z.stored) × (may_send pair z ≡ false)) (one e x p) (k.text, k.waits)
+arrived pair e r given got (Both_open x y p q k) o = subst (λ (z : End). (given ≡ got ++ z.stored) × (can_send pair z ≡ false)) (one e x p) (k.text, k.waits)
 arrived pair e r given got (Receiver_holds x y p q k h) o = absurd (both_ways e.left (open-stays e o).1 (ap (λ (z : End). z.left) (sym (one e x p)) ∙ k.0))
 
 pub together : (pair : Pair) (e : End) (r : Option End) (given got : List Bool) → PairFinished pair (Some e) r given got → (f : End) × (r ≡ Some f)

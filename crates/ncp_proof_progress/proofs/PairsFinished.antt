@@ -10,7 +10,7 @@ use Rattle.ncp_model.specs.Pairs.{sends, receives, turned}
 use Rattle.ncp_model.specs.End.{End, new_end, is_open, is_going}
 use Rattle.ncp_model.specs.Ends.{Ends, hears_link, sender_on, pair_of, cut_in}
 use Rattle.ncp_model.specs.Act.{answer, is_data_link}
-use Rattle.ncp_model.specs.Texts.{may_send}
+use Rattle.ncp_model.specs.Texts.{can_send}
 use Rattle.ncp_model.specs.Leading.{passes}
 use Rattle.ncp_model.specs.Happenings.{Happened, Outcome, happens, of_cut, Happening}
 use Rattle.ncp_model.proofs.ResetLists.{rrps}
@@ -47,14 +47,14 @@ open-hears p e s o = grind arith
 heard-open : (e : End) → is_open e ≡ true → e.heard ≡ true
 heard-open e o = grind arith
 
-cut-accepted : (p : Pair) (e : End) → (happens p Happening.Text_goes_out (Some e)).outcome ≡ Outcome.Accepted → may_send p e ≡ false
-cut-accepted p e h = go (may_send p e) refl
+cut-accepted : (p : Pair) (e : End) → (happens p Happening.Text_goes_out (Some e)).outcome ≡ Outcome.Accepted → can_send p e ≡ false
+cut-accepted p e h = go (can_send p e) refl
   where
-    go : (b : Bool) → may_send p e ≡ b → may_send p e ≡ false
+    go : (b : Bool) → can_send p e ≡ b → can_send p e ≡ false
     go true m = absurd (grind arith)
     go false m = m
 
-stays-waiting : (m : Ends) (p : Pair) (e : End) → Good m → sends p ≡ true → get m p ≡ Some e → is_open e ≡ true → ((on : ℕ) → is_data_link on ≡ true → answer (cut_in on m) ≡ None) → may_send p e ≡ false
+stays-waiting : (m : Ends) (p : Pair) (e : End) → Good m → sends p ≡ true → get m p ≡ Some e → is_open e ≡ true → ((on : ℕ) → is_data_link on ≡ true → answer (cut_in on m) ≡ None) → can_send p e ≡ false
 stays-waiting m p e g s f o n =
     let there : passes (hears_link e.link) p (get m p) ≡ true = subst (λ (q : Option End). passes (hears_link e.link) p q ≡ true) (sym f) (open-hears p e s o) in
     let one : pair_of (sender_on e.link m) ≡ Some p = leads-there (hears_link e.link) m p there (λ q h. g.heard e.link q p h there) in
@@ -87,7 +87,7 @@ abbrev between : Option End → Past → Option End → Past → Bool → Connec
 between s a r b v = record { sender = record { end = s; past = a }; receiver = record { end = r; past = b }; to_receiver = []; to_sender = []; text = No_text; violated = v }
 
 module _ (p : Pair) (sp : sends p ≡ true) (rp : receives (turned p) ≡ true) where
-  finish-both : (e f : End) (a b : Past) (v : Bool) → Inv p (between (Some e) a (Some f) b v) → EndRestsAt p (Some e) → LeavingAt (turned p) (Some f) → (is_open e ≡ true → may_send p e ≡ false) → PairFinished p (Some e) (Some f) a.given b.got
+  finish-both : (e f : End) (a b : Past) (v : Bool) → Inv p (between (Some e) a (Some f) b v) → EndRestsAt p (Some e) → LeavingAt (turned p) (Some f) → (is_open e ≡ true → can_send p e ≡ false) → PairFinished p (Some e) (Some f) a.given b.got
   finish-both e f a b v i l n waits = go e.asked refl e.heard refl
     where
       fe : Firm e
@@ -163,7 +163,7 @@ module _ (p : Pair) (sp : sends p ≡ true) (rp : receives (turned p) ≡ true) 
           (j.0.back.2 h)
       go false q false h = absurd (no-request e (i.local.s_stands) q h)
 
-  finish : (s r : Option End) (a b : Past) (v : Bool) → Inv p (between s a r b v) → EndRestsAt p s → LeavingAt (turned p) r → ((e : End) → s ≡ Some e → is_open e ≡ true → may_send p e ≡ false) → PairFinished p s r a.given b.got
+  finish : (s r : Option End) (a b : Past) (v : Bool) → Inv p (between s a r b v) → EndRestsAt p s → LeavingAt (turned p) r → ((e : End) → s ≡ Some e → is_open e ≡ true → can_send p e ≡ false) → PairFinished p s r a.given b.got
   finish None None a b v i l n waits = Nobody refl refl
   finish (Some e) (Some f) a b v i l n waits = finish-both e f a b v i l n (waits e refl)
   finish None (Some f) a b v i l n waits =

@@ -6,7 +6,7 @@ use Rattle.ncp_model.specs.declared.pair.Pair.{Pair}
 use Rattle.ncp_model.specs.End.{End}
 use Rattle.ncp_model.specs.Act.{answer, Act}
 use Rattle.ncp_model.specs.Ends.{Ends, sender_on, pair_of, cut_at, cut_in, map_after_at}
-use Rattle.ncp_model.specs.Texts.{may_send, cut_bits, bytes_to_send}
+use Rattle.ncp_model.specs.Texts.{can_send, cut_bits, bytes_to_send}
 use Rattle.ncp_model.specs.Peers.{Peer, cuts}
 use Rattle.ncp_slot.specs.Slot.{ready_message}
 use Rattle.ncp_proof_resets.specs.Delivery.{Slot, Empty, Ready, Travelling, Held, MessageTransit, Free, Accepted, Delivered, Lost, Dead, Link, undelivered}
@@ -75,7 +75,7 @@ no-cut on m e = go (sender_on on m) e
 
     go : (o : Option (Pair × End)) → answer (cut_at o) ≡ None → map_after_at m (pair_of o) (cut_at o) ≡ m
     go None e = refl
-    go (Some p) e = at p (may_send p.0 p.1) e
+    go (Some p) e = at p (can_send p.0 p.1) e
 
 -- what this host keeps
 

@@ -5,7 +5,7 @@ use Rattle.ncp_model.specs.declared.pair.Pair.{Pair}
 use Rattle.ncp_model.specs.Pairs.{sends, turned}
 use Rattle.ncp_model.specs.End.{End, is_open}
 use Rattle.ncp_model.specs.Ends.{no_ends}
-use Rattle.ncp_model.specs.Texts.{may_send}
+use Rattle.ncp_model.specs.Texts.{can_send}
 use Rattle.ncp_proof_resets.specs.Resets.{is_up}
 use Rattle.ncp_proof_machine.specs.Hosts.{Node, TwoNodes, nodes_swapped, past_of}
 use Rattle.ncp_proof_progress.specs.Idle.{IsIdle}
@@ -67,7 +67,7 @@ OpenAndAgreed pair s r given got = record {
   messages : r.messages ≡ s.messages;
   bits : r.bits ≡ s.bits;
   text : given ≡ got ++ s.stored;
-  waits : may_send pair s ≡ false;
+  waits : can_send pair s ≡ false;
 }
 
 -- The sender's end and the receiver's of a pair, with what was given and got: each of the five waits for a

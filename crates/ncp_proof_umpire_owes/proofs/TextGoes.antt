@@ -12,7 +12,7 @@ use Rattle.ncp_model.specs.Pairs.{sends, is_receive}
 use Rattle.ncp_model.specs.End.{End, is_going, is_open}
 use Rattle.ncp_model.specs.Ends.{Ends}
 use Rattle.ncp_model.specs.Act.{Stays, end_after}
-use Rattle.ncp_model.specs.Texts.{bytes_to_send, may_send, cut_bits, cut}
+use Rattle.ncp_model.specs.Texts.{bytes_to_send, can_send, cut_bits, cut}
 use Rattle.ncp_model.specs.Leading.{passes}
 use Rattle.ncp_proof_watch.specs.Sound.{SoundEnd}
 use Rattle.ncp_umpire.specs.declared.lead.Lead.{Lead}
@@ -75,7 +75,7 @@ sent_bits e = grind arith
 at_least : (x : ℕ) → nat_le 1 x ≡ true → 1 ≤ x
 at_least x e = grind (arith, nat_tests)
 
-pub may_send_is : (pair : Pair) (e : End) → may_send pair e ≡ true → MaySend pair e
+pub may_send_is : (pair : Pair) (e : End) → can_send pair e ≡ true → MaySend pair e
 may_send_is pair e k =
     let a = and_parts (sends pair && is_open e && not e.busy && nat_le 1 (bytes_to_send e)) (nat_le 1 e.messages) k in
     let b = and_parts (sends pair && is_open e && not e.busy) (nat_le 1 (bytes_to_send e)) a.0 in
@@ -90,7 +90,7 @@ may_send_is pair e k =
     unleft true y e = absurd (cc e)
     unleft false y e = e
 
-pub cut_after : (pair : Pair) (e : End) → may_send pair e ≡ true → end_after (Some e) (cut pair (Some e)) ≡ Some (cut_end e)
+pub cut_after : (pair : Pair) (e : End) → can_send pair e ≡ true → end_after (Some e) (cut pair (Some e)) ≡ Some (cut_end e)
 cut_after pair e k =
     ap (λ (x : Bool). end_after (Some e) (if x then cut_bits (bytes_to_send e * e.size) e else Stays None)) k
     ∙ ap (λ (x : Bool). if x && e.cls then None else Some (cut_end e)) (may_send_is pair e k).left

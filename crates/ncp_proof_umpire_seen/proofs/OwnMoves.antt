@@ -16,7 +16,7 @@ use Rattle.ncp_model.specs.Act.{Act, Stays, Becomes, answer, end_after, leaves, 
 use Rattle.ncp_model.specs.Calls.{asked_to_send, asked_to_receive, ask_send, ask_receive, may_ask_send, may_ask_receive, may_close, may_give, may_take, take_bits, may_allocate, may_call_back, may_interrupt, bits_to_take, emptied, interrupting}
 use Rattle.ncp_model.specs.Amounts.{back}
 use Rattle.ncp_model.specs.Commands.{at_open, all_at, gvb_at, ret_at, interrupted}
-use Rattle.ncp_model.specs.Texts.{Rfnm, Incomplete, Dead, made_by_text, hear_text, may_send, bytes_to_send}
+use Rattle.ncp_model.specs.Texts.{Rfnm, Incomplete, Dead, made_by_text, hear_text, can_send, bytes_to_send}
 use Rattle.ncp_model.specs.Happenings.{Happening, happens}
 use Rattle.ncp_proof_watch.specs.Sound.{SoundAt}
 use Rattle.ncp_umpire.proofs.Shapes.{Shape, Say, Ask, Leave, legal, own_step}
@@ -152,7 +152,7 @@ module _ (sending : Bool) (pair : Pair) (e : End) (sound : SoundAt pair (Some e)
       unsaid false = refl
 
   pub text_goes : Moved sending pair (Some e) (happens pair Happening.Text_goes_out (Some e)).after (happens pair Happening.Text_goes_out (Some e)).made
-  text_goes = go (may_send pair e)
+  text_goes = go (can_send pair e)
     where
       count : ℕ
       count = bytes_to_send e * e.size

@@ -3,7 +3,7 @@ ghost use Rattle.std.specs.Prelude.{◌≡◌, OnErr, true, false, Some, ◌+◌
 ghost use Rattle.ncp_model.specs.Pairs.{sends};
 ghost use Rattle.ncp_model.specs.Act.{answer};
 ghost use Rattle.ncp_model.specs.Calls.{bits_to_take, give_end, take_end};
-ghost use Rattle.ncp_model.specs.Texts.{Rfnm, hear_text, bytes_to_send, may_send, cut, end_answered};
+ghost use Rattle.ncp_model.specs.Texts.{Rfnm, hear_text, bytes_to_send, can_send, cut, end_answered};
 ghost use Rattle.ncp_conn.specs.Changes.{after, with_end, putting, with_text, marks};
 ghost use Rattle.ncp_conn.specs.Cutting.{sizes, text_of};
 ghost use Rattle.ncp_conn.specs.Stored.{FitsBehind};
@@ -112,8 +112,8 @@ impl<S: BitStore> Entry<S> {
     }
 
     /// Whether a text may go out now.
-    pub(crate) fn may_send(&self) -> bool
-        ensures { result ≡ may_send self.now.0 self.now.1 }
+    pub(crate) fn can_send(&self) -> bool
+        ensures { result ≡ can_send self.now.0 self.now.1 }
     {
         self.pair.sends()
             && self.is_open()
@@ -126,7 +126,7 @@ impl<S: BitStore> Entry<S> {
     pub(crate) fn next_size(&self) -> Option<(u8, u16)>
         ensures { result ≡ sizes (answer (cut self.now.0 (Some self.now.1))) }
     {
-        if !self.may_send() {
+        if !self.can_send() {
             return None;
         }
         Some((self.size, self.bytes_to_send() as u16))
@@ -139,7 +139,7 @@ impl<S: BitStore> Entry<S> {
         ensures entry { self.new ≡ after self.old (cut self.old.0 (Some self.old.1)) }
         ensures marks { marks self.new ≡ marks self.old }
     {
-        if !self.may_send() {
+        if !self.can_send() {
             return;
         }
         let count = self.bytes_to_send() * usize::from(self.size);

@@ -188,7 +188,7 @@ impl<S: BitStore> Table<S> {
         ensures { result ≡ may_cut self.now link }
     {
         match self.entries.senders.key(link) {
-            Some(key) => self.entries.slab[key].may_send(),
+            Some(key) => self.entries.slab[key].can_send(),
             None => false,
         }
     }

@@ -1,6 +1,6 @@
 use Rattle.std.proofs.Common.{◌≡◌, List, Bool, None, Some, sym, ap, ◌∙◌, []}
 use Rattle.ncp_model.specs.End.{End, is_open}
-use Rattle.ncp_model.specs.Texts.{may_send}
+use Rattle.ncp_model.specs.Texts.{can_send}
 use Rattle.ncp_model.specs.Rows.{outward, ones, asked_send, asked_receive, opened_end, counting, gone}
 use Rattle.ncp_proof_progress.specs.Finished.{PairFinished, Nobody, Sender_asked, Receiver_asked, Both_open, Receiver_holds}
 use Rattle.ncp_proof_progress.proofs.pairs.pairs_that_are_not.Goals as goal
@@ -26,7 +26,7 @@ sendable : (given got : List Bool) → PairFinished outward (Some full) (Some (c
 sendable given got (Nobody p q) = cc p
 sendable given got (Sender_asked e f p q a h n) = let x : full ≡ e = cc p in cc (ap (λ (e : End). e.heard) x ∙ a.heard)
 sendable given got (Receiver_asked e f p q h a n) = let x : full ≡ e = cc p in cc (ap (λ (e : End). e.asked) x ∙ h.asked)
-sendable given got (Both_open e f p q o) = let x : full ≡ e = cc p in cc (ap (may_send outward) x ∙ o.waits)
+sendable given got (Both_open e f p q o) = let x : full ≡ e = cc p in cc (ap (can_send outward) x ∙ o.waits)
 sendable given got (Receiver_holds e f p q l h) = let x : full ≡ e = cc p in cc (ap (λ (e : End). e.left) x ∙ l.0)
 
 unheard : (given got : List Bool) → PairFinished outward (Some (gone opened_end)) (Some opened_end) given got → ⊥

@@ -6,4 +6,4 @@ use Rattle.ncp_conn.proofs.entry.Entry.next_size.Goals as goal
 
 pub returns : goal.returns
 returns g c =
-    size_cut c.args.self.now c.self.inside.size c.bytes_to_send.result (ap (λ (p : Pair × End). p.1.size) c.self.view_is) c.bytes_to_send.ensures.bytes (sym c.may_send.ensures ∙ c.if-not-may_send.false)
+    size_cut c.args.self.now c.self.inside.size c.bytes_to_send.result (ap (λ (p : Pair × End). p.1.size) c.self.view_is) c.bytes_to_send.ensures.bytes (sym c.can_send.ensures ∙ c.if-not-can_send.false)

@@ -9,7 +9,7 @@ use Rattle.ncp_conn.proofs.table.Table.may_cut.Goals as goal
 
 pub returns-in-Some : goal.returns-in-Some
 returns-in-Some g c =
-    c.may_send.ensures ∙ sym (cut_tells c.index.result.now)
+    c.can_send.ensures ∙ sym (cut_tells c.index.result.now)
     ∙ ap (λ (o : Option (Pair × End)). is_some (answer (cut_at o))) (sym (sender_is c.self.inside.entries c.args.self.now c.self.view_is c.self.invariant c.args.link c.in-Some.key c.index.result.now (sym c.key.ensures ∙ c.in-Some.is) c.index.ensures))
 
 pub returns-in-None : goal.returns-in-None
