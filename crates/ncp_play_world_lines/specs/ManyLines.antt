@@ -3,7 +3,7 @@ use Rattle.std.specs.Prelude.{ℕ, Bool, true, List, [], ◌∷◌, Option, Some
 use Rattle.std.specs.Str.{bytes_eq}
 use Rattle.ncp_host.specs.Host.{is_one_of}
 use Rattle.ncp_transcript.specs.declared.call.Call.{Call}
-use Rattle.ncp_proof_runs.specs.Peers.{peer_of_call}
+use Rattle.ncp_transcript.specs.Asked.{peer_of_call}
 use Rattle.ncp_play_script.specs.Words.{number_first, largest_u8}
 use Rattle.ncp_play_script.specs.Calls.{Read, behind, all_of, call_of}
 use Rattle.ncp_play_script.specs.HostLines.{alone}

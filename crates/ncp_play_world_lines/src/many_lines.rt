@@ -1,14 +1,12 @@
 //! What a line of a script of two to eight hosts asks for.
 ghost use Rattle.std.specs.Prelude.{◌≡◌, ◌∷◌, option_map, IfOk, OnErr};
 ghost use Rattle.ncp_play_script.specs.Calls.{NamesGive, NamesGiveBehind};
-ghost use Rattle.ncp_proof_runs.specs.Peers.{peer_of_call};
 ghost use Rattle.ncp_play_script.specs.HostLines.{alone};
 ghost use Rattle.ncp_transcript_many.specs.ManyHappening.{wanted_of};
 ghost use Rattle.ncp_play_world_lines.specs.ManyLines.{host_first, many_move_of, is_known, many_call_line, many_asked_of, many_line_of};
 
 use crate::moves::move_named;
 use ncp_play_script::{Words, call_named};
-use ncp_transcript::Call;
 use ncp_transcript_many::ManyEvent;
 use ncp_transcript_two::Move;
 use std::alloc::{AllocError, Global};
@@ -53,33 +51,6 @@ fn move_line(hosts: &[u8], from: u8, wanted: Move, words: &mut Words<'_>) -> Opt
     }
 }
 
-// The peer of a call, if it names one.
-fn peer_of_call(call: &Call) -> Option<u8>
-    ensures { result ≡ peer_of_call call.now }
-{
-    match *call {
-        Call::Reset { peer } => Some(peer),
-        Call::AskSend { peer, .. } => Some(peer),
-        Call::AskReceive { peer, .. } => Some(peer),
-        Call::Give { peer, .. } => Some(peer),
-        Call::Take { peer, .. } => Some(peer),
-        Call::Allocate { peer, .. } => Some(peer),
-        Call::CallBack { peer, .. } => Some(peer),
-        Call::Interrupt { peer, .. } => Some(peer),
-        Call::Echo { peer, .. } => Some(peer),
-        Call::Close { peer, .. } => Some(peer),
-        Call::Wake { peer } => Some(peer),
-        Call::State { peer, .. } => Some(peer),
-        Call::Phase { peer } => Some(peer),
-        Call::Echoed { peer } => Some(peer),
-        Call::Errors { peer } => Some(peer),
-        Call::Counts { peer } => Some(peer),
-        Call::Waiting { peer, .. } => Some(peer),
-        Call::Kept { peer, .. } => Some(peer),
-        Call::Ignored => None,
-    }
-}
-
 // Whether a call names no peer, or one of the hosts.
 fn is_known(hosts: &[u8], peer: Option<u8>) -> bool
     ensures { result ≡ is_known hosts.now peer }
@@ -104,7 +75,7 @@ fn call_line(
     let Some(call) = call_named(alloc, word, words, None)? else {
         return Ok(None);
     };
-    if is_known(hosts, peer_of_call(&call)) {
+    if is_known(hosts, call.peer()) {
         Ok(Some(ManyEvent::Call { host, call }))
     } else {
         Ok(None)

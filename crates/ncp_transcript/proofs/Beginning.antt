@@ -3,18 +3,17 @@ use Rattle.std.proofs.Common.{◌≡◌, ◌<◌, ℕ, suc, ◌==◌, Bool, true
 use Rattle.ncp_leader.specs.declared.leader.Leader.{Leader}
 use Rattle.ncp_leader.specs.declared.leader.Short.{Short}
 use Rattle.ncp_leader.specs.Leader.{leader_in}
-use Rattle.ncp_model.specs.Peers.{Ask_to_send, Ask_to_receive, Close, Give, Take, Allocate, Call_back, Interrupt}
-use Rattle.ncp_host.specs.PeerState.{PeerState, new_state, state_calls as calls_pair, state_calls_echo, state_calls_reset, state_calls_wake, answer_comes}
+use Rattle.ncp_model.specs.Peers.{Take}
+use Rattle.ncp_host.specs.PeerState.{PeerState, new_state, state_calls, answer_comes}
 use Rattle.ncp_host.specs.Output.{next_of}
 use Rattle.ncp_host.specs.Host.{Host, numbers_of, at_peer, changed, is_one_of, new_host, state_of}
 use Rattle.ncp_host.specs.Hearing.{is_kind, after_bits}
 use Rattle.ncp_host.specs.Arrivals.{after_from, after_with, after_received, one_other}
 use Rattle.ncp_host.specs.Turns.{after_turn, first_goes}
-use Rattle.ncp_host.specs.Calls.{sockets}
 use Rattle.ncp_transcript.specs.declared.call.Call.{Call}
-use Rattle.ncp_transcript.specs.declared.call.Call.TheVariants as calls
 use Rattle.ncp_transcript.specs.declared.note.HostNote.{HostNote}
 use Rattle.ncp_transcript.specs.declared.note.HostNote.TheVariants as notes
+use Rattle.ncp_transcript.specs.Asked.{Asked, asked_in, state_after_asked, host_after_asked}
 use Rattle.ncp_transcript.specs.After.{after_call, after_note}
 use Rattle.ncp_transcript.specs.Runs.{host_began}
 
@@ -58,42 +57,19 @@ began_heard bits h = go (leader_in bits)
     go (Ok leader) = from leader (is_kind leader.kind) (state_of h leader.host)
 
 began_called : (call : Call) (h : Host) → host_began (after_call call h) ≡ host_began h
-began_called (calls.Reset peer) h = began_changed peer state_calls_reset h
-began_called (calls.AskSend peer local remote size room) h = began_changed peer (calls_pair (sockets local remote) (Ask_to_send size room)) h
-began_called (calls.AskReceive peer local remote room) h = began_changed peer (calls_pair (sockets local remote) (Ask_to_receive room)) h
-began_called (calls.Give peer pair text) h = began_changed peer (calls_pair pair (Give text)) h
-began_called (calls.Take peer pair bytes) h = began_changed peer (calls_pair pair (Take bytes)) h
-began_called (calls.Allocate peer pair messages bits) h = began_changed peer (calls_pair pair (Allocate messages bits)) h
-began_called (calls.CallBack peer pair fm fb) h = began_changed peer (calls_pair pair (Call_back fm fb)) h
-began_called (calls.Interrupt peer pair) h = began_changed peer (calls_pair pair Interrupt) h
-began_called (calls.Echo peer byte) h = began_changed peer (state_calls_echo byte) h
-began_called (calls.Close peer pair) h = began_changed peer (calls_pair pair Close) h
-began_called (calls.Wake peer) h = began_changed peer state_calls_wake h
-began_called (calls.State peer pair) h = refl
-began_called (calls.Phase peer) h = refl
-began_called (calls.Echoed peer) h = refl
-began_called (calls.Errors peer) h = refl
-began_called (calls.Counts peer) h = refl
-began_called (calls.Waiting peer place) h = refl
-began_called (calls.Kept peer link) h = refl
-began_called calls.Ignored h = refl
+began_called call h = go (asked_in call)
+  where
+    go : (o : Option (ℕ × Asked)) → host_began (host_after_asked o h) ≡ host_began h
+    go None = refl
+    go (Some (peer, asked)) = began_changed peer (state_after_asked asked) h
 
 pub began_noted : (note : HostNote) (h : Host) → host_began (after_note note h) ≡ host_began h
 began_noted (notes.Done call) h = began_called call h
-began_noted (notes.Took peer pair bytes text) h = began_changed peer (calls_pair pair (Take bytes)) h
+began_noted (notes.Took peer pair bytes text) h = began_changed peer (state_calls pair (Take bytes)) h
 began_noted (notes.Out message) h = ap (new_host h.me) (numbers_turn h.peers)
 began_noted (notes.In message received) h = began_heard message h
 began_noted (notes.Answered peer link answer received) h = began_changed peer (answer_comes link answer) h
-began_noted (notes.Refused call fault) h = refl
-began_noted (notes.State peer pair r) h = refl
-began_noted (notes.Phase peer flags) h = refl
-began_noted (notes.Echoed peer byte) h = refl
-began_noted (notes.Errors peer errors) h = refl
-began_noted (notes.Counts peer counts) h = refl
-began_noted (notes.Waiting peer place command) h = refl
-began_noted (notes.Kept peer link message) h = refl
-began_noted (notes.Ignored ignored) h = refl
-began_noted notes.Nothing h = refl
+began_noted note h = refl
 
 -- what has begun as another host has its number and its peers
 

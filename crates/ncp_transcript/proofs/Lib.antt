@@ -1,6 +1,7 @@
 pub mod Packing
 pub mod Arriving
 pub mod Quiet
+pub mod AskedCalls
 pub mod Beginning
 pub mod Saying
 pub mod Growing

@@ -2,9 +2,8 @@
 use Rattle.std.proofs.Common.{◌≡◌, inl, inr, Bool, List, Option, None, Some, Result, Ok, Err, refl, sym, subst}
 use Rattle.ncp_leader.specs.declared.leader.Leader.{Leader}
 use Rattle.ncp_model.specs.declared.call_fault.CallFault.{CallFault}
-use Rattle.ncp_model.specs.Peers.{Ask_to_send, Ask_to_receive, Close, Give, Allocate, Call_back, Interrupt}
 use Rattle.ncp_host.specs.Host.{Host}
-use Rattle.ncp_host.specs.Calls.{call_reply, take_reply, reset_reply, echo_reply, wake_reply, record_told, flags_told, echoed_told, errors_told, counts_told, sockets}
+use Rattle.ncp_host.specs.Calls.{take_reply, record_told, flags_told, echoed_told, errors_told, counts_told}
 use Rattle.ncp_host.specs.Arrivals.{received_in}
 use Rattle.ncp_host.specs.Turns.{next_output}
 use Rattle.ncp_transcript.specs.declared.call.Call.{Call}
@@ -14,6 +13,7 @@ use Rattle.ncp_transcript.specs.declared.input.Input.TheVariants as inputs
 use Rattle.ncp_transcript.specs.declared.note.HostNote.{HostNote}
 use Rattle.ncp_transcript.specs.declared.note.HostNote.TheVariants as notes
 use Rattle.ncp_transcript.specs.Notes.{done_or_refused, told_or_refused}
+use Rattle.ncp_transcript.specs.Asked.{asked_in, asked_reply}
 use Rattle.ncp_transcript.specs.Answers.{answer_to}
 use Rattle.ncp_transcript.specs.Noting.{IsWant, answer_in, note_as, note_of_message, HostNoted}
 use Rattle.ncp_transcript.specs.Runs.{IsHostSaid}
@@ -29,17 +29,7 @@ told_said call told (Ok a) h says e = says a e
 told_said call told (Err fault) h says e = inl e
 
 answer_said : (call : Call) (h : Host) → IsHostSaid (answer_to call h) h
-answer_said (calls.Reset peer) h = done_said (calls.Reset peer) (reset_reply peer h) h refl
-answer_said (calls.AskSend peer local remote size room) h = done_said (calls.AskSend peer local remote size room) (call_reply peer (sockets local remote) (Ask_to_send size room) h) h refl
-answer_said (calls.AskReceive peer local remote room) h = done_said (calls.AskReceive peer local remote room) (call_reply peer (sockets local remote) (Ask_to_receive room) h) h refl
-answer_said (calls.Give peer pair text) h = done_said (calls.Give peer pair text) (call_reply peer pair (Give text) h) h refl
 answer_said (calls.Take peer pair bytes) h = told_said (calls.Take peer pair bytes) (notes.Took peer pair bytes) (take_reply peer pair bytes h) h (λ a e. e) refl
-answer_said (calls.Allocate peer pair messages bits) h = done_said (calls.Allocate peer pair messages bits) (call_reply peer pair (Allocate messages bits) h) h refl
-answer_said (calls.CallBack peer pair fm fb) h = done_said (calls.CallBack peer pair fm fb) (call_reply peer pair (Call_back fm fb) h) h refl
-answer_said (calls.Interrupt peer pair) h = done_said (calls.Interrupt peer pair) (call_reply peer pair Interrupt h) h refl
-answer_said (calls.Echo peer byte) h = done_said (calls.Echo peer byte) (echo_reply peer byte h) h refl
-answer_said (calls.Close peer pair) h = done_said (calls.Close peer pair) (call_reply peer pair Close h) h refl
-answer_said (calls.Wake peer) h = done_said (calls.Wake peer) (wake_reply peer h) h refl
 answer_said (calls.State peer pair) h = told_said (calls.State peer pair) (notes.State peer pair) (record_told peer pair h) h (λ a e. e) refl
 answer_said (calls.Phase peer) h = told_said (calls.Phase peer) (notes.Phase peer) (flags_told peer h) h (λ a e. e) refl
 answer_said (calls.Echoed peer) h = told_said (calls.Echoed peer) (notes.Echoed peer) (echoed_told peer h) h (λ a e. e) refl
@@ -48,6 +38,7 @@ answer_said (calls.Counts peer) h = told_said (calls.Counts peer) (notes.Counts 
 answer_said (calls.Waiting peer place) h = refl
 answer_said (calls.Kept peer link) h = refl
 answer_said calls.Ignored h = refl
+answer_said call h = done_said call (asked_reply (asked_in call) h) h refl
 
 want_said : (call : Call) (note : HostNote) (h : Host) → IsWant call note h → IsHostSaid note h
 want_said call note h w = subst (λ (n : HostNote). IsHostSaid n h) (sym w.said) (inr (record { takes = w.takes; good = w.good; said = refl }))

@@ -3,18 +3,17 @@ use Rattle.std.proofs.Common.{◌≡◌, ◌≢◌, ℕ, ◌==◌, Bool, true, f
 use Rattle.ncp_leader.specs.declared.leader.Leader.{Leader}
 use Rattle.ncp_leader.specs.declared.leader.Short.{Short}
 use Rattle.ncp_leader.specs.Leader.{leader_in}
-use Rattle.ncp_model.specs.Peers.{Ask_to_send, Ask_to_receive, Close, Give, Take, Allocate, Call_back, Interrupt}
-use Rattle.ncp_host.specs.PeerState.{PeerState, state_calls as calls_pair, state_calls_echo, state_calls_reset, state_calls_wake, answer_comes}
+use Rattle.ncp_model.specs.Peers.{Take}
+use Rattle.ncp_host.specs.PeerState.{PeerState, state_calls, answer_comes}
 use Rattle.ncp_host.specs.Output.{next_of, after_output}
 use Rattle.ncp_host.specs.Host.{Host, state_in, state_of, at_peer}
 use Rattle.ncp_host.specs.Hearing.{is_kind, after_bits}
 use Rattle.ncp_host.specs.Arrivals.{after_from, after_with, after_received, one_other}
 use Rattle.ncp_host.specs.Turns.{after_turn, first_goes}
-use Rattle.ncp_host.specs.Calls.{sockets}
 use Rattle.ncp_transcript.specs.declared.call.Call.{Call}
-use Rattle.ncp_transcript.specs.declared.call.Call.TheVariants as calls
 use Rattle.ncp_transcript.specs.declared.note.HostNote.{HostNote}
 use Rattle.ncp_transcript.specs.declared.note.HostNote.TheVariants as notes
+use Rattle.ncp_transcript.specs.Asked.{Asked, asked_in, peer_asked, state_after_asked, host_after_asked}
 use Rattle.ncp_transcript.specs.After.{after_call, after_note}
 use Rattle.ncp_transcript.specs.Touching.{peer_touched, sender_of, first_peer, next_peer, touched}
 
@@ -64,39 +63,16 @@ heard bits h other d = go (leader_in bits) d
     go (Ok leader) d = from leader (is_kind leader.kind) (state_of h leader.host) d
 
 called : (call : Call) (h : Host) (other : ℕ) → peer_touched call ≢ Some other → state_of (after_call call h) other ≡ state_of h other
-called (calls.Reset peer) h other d = at_other h.peers peer other state_calls_reset d
-called (calls.AskSend peer local remote size room) h other d = at_other h.peers peer other (calls_pair (sockets local remote) (Ask_to_send size room)) d
-called (calls.AskReceive peer local remote room) h other d = at_other h.peers peer other (calls_pair (sockets local remote) (Ask_to_receive room)) d
-called (calls.Give peer pair text) h other d = at_other h.peers peer other (calls_pair pair (Give text)) d
-called (calls.Take peer pair bytes) h other d = at_other h.peers peer other (calls_pair pair (Take bytes)) d
-called (calls.Allocate peer pair messages bits) h other d = at_other h.peers peer other (calls_pair pair (Allocate messages bits)) d
-called (calls.CallBack peer pair fm fb) h other d = at_other h.peers peer other (calls_pair pair (Call_back fm fb)) d
-called (calls.Interrupt peer pair) h other d = at_other h.peers peer other (calls_pair pair Interrupt) d
-called (calls.Echo peer byte) h other d = at_other h.peers peer other (state_calls_echo byte) d
-called (calls.Close peer pair) h other d = at_other h.peers peer other (calls_pair pair Close) d
-called (calls.Wake peer) h other d = at_other h.peers peer other state_calls_wake d
-called (calls.State peer pair) h other d = refl
-called (calls.Phase peer) h other d = refl
-called (calls.Echoed peer) h other d = refl
-called (calls.Errors peer) h other d = refl
-called (calls.Counts peer) h other d = refl
-called (calls.Waiting peer place) h other d = refl
-called (calls.Kept peer link) h other d = refl
-called calls.Ignored h other d = refl
+called call h other d = go (asked_in call) d
+  where
+    go : (o : Option (ℕ × Asked)) → peer_asked o ≢ Some other → state_of (host_after_asked o h) other ≡ state_of h other
+    go None d = refl
+    go (Some (peer, asked)) d = at_other h.peers peer other (state_after_asked asked) d
 
 pub others_stay : (note : HostNote) (h : Host) (other : ℕ) → touched note h ≢ Some other → state_of (after_note note h) other ≡ state_of h other
 others_stay (notes.Done call) h other d = called call h other d
-others_stay (notes.Took peer pair bytes text) h other d = at_other h.peers peer other (calls_pair pair (Take bytes)) d
+others_stay (notes.Took peer pair bytes text) h other d = at_other h.peers peer other (state_calls pair (Take bytes)) d
 others_stay (notes.Out message) h other d = in_turn h.peers other d
 others_stay (notes.In message received) h other d = heard message h other d
 others_stay (notes.Answered peer link answer received) h other d = at_other h.peers peer other (answer_comes link answer) d
-others_stay (notes.Refused call fault) h other d = refl
-others_stay (notes.State peer pair r) h other d = refl
-others_stay (notes.Phase peer flags) h other d = refl
-others_stay (notes.Echoed peer byte) h other d = refl
-others_stay (notes.Errors peer errors) h other d = refl
-others_stay (notes.Counts peer counts) h other d = refl
-others_stay (notes.Waiting peer place command) h other d = refl
-others_stay (notes.Kept peer link message) h other d = refl
-others_stay (notes.Ignored ignored) h other d = refl
-others_stay notes.Nothing h other d = refl
+others_stay note h other d = refl

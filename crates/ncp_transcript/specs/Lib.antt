@@ -1,5 +1,6 @@
 pub mod Packed
 pub mod Notes
+pub mod Asked
 pub mod Answers
 pub mod After
 pub mod Noting

@@ -7,24 +7,13 @@ use Rattle.ncp_host.specs.PeerState.{PeerState}
 use Rattle.ncp_host.specs.Output.{next_of}
 use Rattle.ncp_host.specs.Host.{Host}
 use Rattle.ncp_transcript.specs.declared.call.Call.{Call}
-use Rattle.ncp_transcript.specs.declared.call.Call.TheVariants as calls
 use Rattle.ncp_transcript.specs.declared.note.HostNote.{HostNote}
 use Rattle.ncp_transcript.specs.declared.note.HostNote.TheVariants as notes
+use Rattle.ncp_transcript.specs.Asked.{asked_in, peer_asked}
 
--- the peer that a call names which changes something
+-- the peer of whom a call asks something
 abbrev pub peer_touched : Call → Option ℕ
-peer_touched (calls.Reset peer) = Some peer
-peer_touched (calls.AskSend peer local remote size room) = Some peer
-peer_touched (calls.AskReceive peer local remote room) = Some peer
-peer_touched (calls.Give peer pair text) = Some peer
-peer_touched (calls.Take peer pair bytes) = Some peer
-peer_touched (calls.Allocate peer pair messages bits) = Some peer
-peer_touched (calls.CallBack peer pair fm fb) = Some peer
-peer_touched (calls.Interrupt peer pair) = Some peer
-peer_touched (calls.Echo peer byte) = Some peer
-peer_touched (calls.Close peer pair) = Some peer
-peer_touched (calls.Wake peer) = Some peer
-peer_touched reading = None
+peer_touched call = peer_asked (asked_in call)
 
 -- the host that a leader names
 abbrev pub sender_of : Result Leader Short → Option ℕ

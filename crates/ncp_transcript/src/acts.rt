@@ -31,20 +31,19 @@ pub(crate) fn reset<S: BitStore>(host: &mut Host<S>, peer: u8) -> HostNote
 pub(crate) fn ask_send<S: BitStore>(
     host: &mut Host<S>,
     peer: u8,
-    local: u32,
-    remote: u32,
+    pair: Pair,
     size: u8,
     room: u32,
 ) -> HostNote
-    ensures note { CallNoted (Call.AskSend peer local remote size room) result host.old }
+    ensures note { CallNoted (Call.AskSend peer pair.local pair.remote size room) result host.old }
     ensures host { host.new ≡ after_note result host.old }
 {
-    let reply = host.ask_send(peer, local, remote, size, room);
+    let reply = host.ask_send(peer, pair.local, pair.remote, size, room);
     done(
         Call::AskSend {
             peer,
-            local,
-            remote,
+            local: pair.local,
+            remote: pair.remote,
             size,
             room,
         },
@@ -55,19 +54,18 @@ pub(crate) fn ask_send<S: BitStore>(
 pub(crate) fn ask_receive<S: BitStore>(
     host: &mut Host<S>,
     peer: u8,
-    local: u32,
-    remote: u32,
+    pair: Pair,
     room: u32,
 ) -> HostNote
-    ensures note { CallNoted (Call.AskReceive peer local remote room) result host.old }
+    ensures note { CallNoted (Call.AskReceive peer pair.local pair.remote room) result host.old }
     ensures host { host.new ≡ after_note result host.old }
 {
-    let reply = host.ask_receive(peer, local, remote, room);
+    let reply = host.ask_receive(peer, pair.local, pair.remote, room);
     done(
         Call::AskReceive {
             peer,
-            local,
-            remote,
+            local: pair.local,
+            remote: pair.remote,
             room,
         },
         reply,

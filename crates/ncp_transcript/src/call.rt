@@ -1,6 +1,11 @@
 //! `Call`.
+ghost use Rattle.std.specs.Prelude.{◌≡◌, true, IfOk, OnErr};
+ghost use Rattle.ncp_transcript.specs.Answers.{is_give};
+ghost use Rattle.ncp_transcript.specs.Asked.{peer_of_call};
+
 use crate::message::Message;
 use ncp_model::Pair;
+use std::alloc::{AllocError, Global};
 
 /// A call of a user of a host, or a reading, as a value. Each but the last names a peer first.
 #[derive(Debug, Drop)]
@@ -103,4 +108,108 @@ pub enum Call {
     },
     /// [`ncp_host::Host::ignored`].
     Ignored,
+}
+
+// A copy of a text. It takes as much memory as the text has.
+fn copied_text(alloc: Global, text: &Message) -> Result<Message, AllocError>
+    ensures { IfOk result (λ copy. copy ≡ text.now) }
+{
+    text.copy(alloc)
+}
+
+impl Call {
+    /// The peer that it names, if it names one.
+    pub fn peer(&self) -> Option<u8>
+        ensures { result ≡ peer_of_call self.now }
+    {
+        match *self {
+            Call::Reset { peer } => Some(peer),
+            Call::AskSend { peer, .. } => Some(peer),
+            Call::AskReceive { peer, .. } => Some(peer),
+            Call::Give { peer, .. } => Some(peer),
+            Call::Take { peer, .. } => Some(peer),
+            Call::Allocate { peer, .. } => Some(peer),
+            Call::CallBack { peer, .. } => Some(peer),
+            Call::Interrupt { peer, .. } => Some(peer),
+            Call::Echo { peer, .. } => Some(peer),
+            Call::Close { peer, .. } => Some(peer),
+            Call::Wake { peer } => Some(peer),
+            Call::State { peer, .. } => Some(peer),
+            Call::Phase { peer } => Some(peer),
+            Call::Echoed { peer } => Some(peer),
+            Call::Errors { peer } => Some(peer),
+            Call::Counts { peer } => Some(peer),
+            Call::Waiting { peer, .. } => Some(peer),
+            Call::Kept { peer, .. } => Some(peer),
+            Call::Ignored => None,
+        }
+    }
+
+    /// A copy; that of a text takes memory.
+    pub fn copied(&self, alloc: Global) -> Result<Call, AllocError>
+        ensures copy { IfOk result (λ copy. copy ≡ self.now) }
+        ensures memory { OnErr result (is_give self.now ≡ true) }
+    {
+        Ok(match *self {
+            Call::Reset { peer } => Call::Reset { peer },
+            Call::AskSend {
+                peer,
+                local,
+                remote,
+                size,
+                room,
+            } => Call::AskSend {
+                peer,
+                local,
+                remote,
+                size,
+                room,
+            },
+            Call::AskReceive {
+                peer,
+                local,
+                remote,
+                room,
+            } => Call::AskReceive {
+                peer,
+                local,
+                remote,
+                room,
+            },
+            Call::Give {
+                peer,
+                pair,
+                ref text,
+            } => Call::Give {
+                peer,
+                pair,
+                text: copied_text(alloc, text)?,
+            },
+            Call::Take { peer, pair, bytes } => Call::Take { peer, pair, bytes },
+            Call::Allocate {
+                peer,
+                pair,
+                messages,
+                bits,
+            } => Call::Allocate {
+                peer,
+                pair,
+                messages,
+                bits,
+            },
+            Call::CallBack { peer, pair, fm, fb } => Call::CallBack { peer, pair, fm, fb },
+            Call::Interrupt { peer, pair } => Call::Interrupt { peer, pair },
+            Call::Echo { peer, byte } => Call::Echo { peer, byte },
+            Call::Close { peer, pair } => Call::Close { peer, pair },
+            Call::Wake { peer } => Call::Wake { peer },
+            Call::State { peer, pair } => Call::State { peer, pair },
+            Call::Phase { peer } => Call::Phase { peer },
+            Call::Echoed { peer } => Call::Echoed { peer },
+            Call::Errors { peer } => Call::Errors { peer },
+            Call::Counts { peer } => Call::Counts { peer },
+            Call::Waiting { peer, place } => Call::Waiting { peer, place },
+            Call::Kept { peer, link } => Call::Kept { peer, link },
+            Call::Ignored => Call::Ignored,
+        })
+    }
 }

@@ -102,13 +102,13 @@ pub fn perform<S: BitStore>(
             remote,
             size,
             room,
-        } => Ok(ask_send(host, peer, local, remote, size, room)),
+        } => Ok(ask_send(host, peer, Pair { local, remote }, size, room)),
         Call::AskReceive {
             peer,
             local,
             remote,
             room,
-        } => Ok(ask_receive(host, peer, local, remote, room)),
+        } => Ok(ask_receive(host, peer, Pair { local, remote }, room)),
         Call::Allocate {
             peer,
             pair,

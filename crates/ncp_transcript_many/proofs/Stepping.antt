@@ -22,7 +22,8 @@ use Rattle.ncp_transcript.specs.declared.note.HostNote.TheVariants as of_host
 use Rattle.ncp_transcript.specs.Noting.{CallNoted, is_answer, note_of_bits, note_of_message}
 use Rattle.ncp_transcript.specs.Runs as runs
 use Rattle.ncp_transcript.proofs.Saying.{noted_said}
-use Rattle.ncp_proof_runs.specs.Peers.{peer_of_call, peer_of_leader, peer_of_note, is_this_number, names}
+use Rattle.ncp_transcript.specs.Asked.{peer_of_call}
+use Rattle.ncp_proof_runs.specs.Peers.{peer_of_leader, peer_of_note, is_this_number, names}
 use Rattle.ncp_proof_runs.proofs.States.{Turn}
 use Rattle.ncp_proof_runs.proofs.Ready.{first_is, link_small}
 use Rattle.ncp_proof_runs.proofs.HostRuns.{out-turn, out-leader}

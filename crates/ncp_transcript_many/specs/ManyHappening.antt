@@ -1,8 +1,7 @@
 -- The note of an event among two to eight hosts: it is the note of two hosts, the rule of Happening in
 -- ncp_transcript_two, at the two that the event names, the sender at side A.
 use Rattle.std.specs.Prelude.{◌≡◌, ℕ, ◌==◌, Bool, true, false, not, ◌&&◌}
-use Rattle.ncp_transcript.specs.declared.call.Call.{Call}
-use Rattle.ncp_transcript.specs.declared.call.Call.TheVariants as calls
+use Rattle.ncp_transcript.specs.Answers.{is_give}
 use Rattle.ncp_transcript_two.specs.declared.side.Side.TheVariants.{A, B}
 use Rattle.ncp_transcript_two.specs.declared.event.Event.{Event}
 use Rattle.ncp_transcript_two.specs.declared.event.Event.TheVariants as two_events
@@ -48,10 +47,6 @@ are_there (events.Dead from to link) m = are_two from to m
 are_there (events.Answer from to link) m = are_two from to m
 
 -- What a copy of an event takes memory for: the text that a user gives.
-
-abbrev pub is_give : Call → Bool
-is_give (calls.Give peer pair text) = true
-is_give call = false
 
 abbrev pub is_giving : ManyEvent → Bool
 is_giving (events.Call host call) = is_give call

@@ -1,8 +1,8 @@
 //! `ManyEvent`.
 ghost use Rattle.std.specs.Prelude.{◌≡◌, true, IfOk, OnErr};
-ghost use Rattle.ncp_transcript_many.specs.ManyHappening.{is_give, is_giving};
+ghost use Rattle.ncp_transcript_many.specs.ManyHappening.{is_giving};
 
-use ncp_transcript::{Call, Message};
+use ncp_transcript::Call;
 use std::alloc::{AllocError, Global};
 
 /// One thing that may happen among two to eight hosts, which are named by their numbers. Of a message,
@@ -23,81 +23,6 @@ pub enum ManyEvent {
     Answer { from: u8, to: u8, link: u8 },
 }
 
-// A copy of a text. It takes as much memory as the text has.
-fn copied_text(alloc: Global, text: &Message) -> Result<Message, AllocError>
-    ensures { IfOk result (λ copy. copy ≡ text.now) }
-{
-    text.copy(alloc)
-}
-
-// A copy of a call; that of a text takes memory.
-fn copied_call(alloc: Global, call: &Call) -> Result<Call, AllocError>
-    ensures copy { IfOk result (λ copy. copy ≡ call.now) }
-    ensures memory { OnErr result (is_give call.now ≡ true) }
-{
-    Ok(match *call {
-        Call::Reset { peer } => Call::Reset { peer },
-        Call::AskSend {
-            peer,
-            local,
-            remote,
-            size,
-            room,
-        } => Call::AskSend {
-            peer,
-            local,
-            remote,
-            size,
-            room,
-        },
-        Call::AskReceive {
-            peer,
-            local,
-            remote,
-            room,
-        } => Call::AskReceive {
-            peer,
-            local,
-            remote,
-            room,
-        },
-        Call::Give {
-            peer,
-            pair,
-            ref text,
-        } => Call::Give {
-            peer,
-            pair,
-            text: copied_text(alloc, text)?,
-        },
-        Call::Take { peer, pair, bytes } => Call::Take { peer, pair, bytes },
-        Call::Allocate {
-            peer,
-            pair,
-            messages,
-            bits,
-        } => Call::Allocate {
-            peer,
-            pair,
-            messages,
-            bits,
-        },
-        Call::CallBack { peer, pair, fm, fb } => Call::CallBack { peer, pair, fm, fb },
-        Call::Interrupt { peer, pair } => Call::Interrupt { peer, pair },
-        Call::Echo { peer, byte } => Call::Echo { peer, byte },
-        Call::Close { peer, pair } => Call::Close { peer, pair },
-        Call::Wake { peer } => Call::Wake { peer },
-        Call::State { peer, pair } => Call::State { peer, pair },
-        Call::Phase { peer } => Call::Phase { peer },
-        Call::Echoed { peer } => Call::Echoed { peer },
-        Call::Errors { peer } => Call::Errors { peer },
-        Call::Counts { peer } => Call::Counts { peer },
-        Call::Waiting { peer, place } => Call::Waiting { peer, place },
-        Call::Kept { peer, link } => Call::Kept { peer, link },
-        Call::Ignored => Call::Ignored,
-    })
-}
-
 impl ManyEvent {
     /// A copy. That of a call's text takes as many bytes of memory as the text has; no other takes any.
     pub fn copied(&self, alloc: Global) -> Result<ManyEvent, AllocError>
@@ -107,7 +32,7 @@ impl ManyEvent {
         Ok(match *self {
             ManyEvent::Call { host, ref call } => ManyEvent::Call {
                 host,
-                call: copied_call(alloc, call)?,
+                call: call.copied(alloc)?,
             },
             ManyEvent::Out { host } => ManyEvent::Out { host },
             ManyEvent::Deliver { from, to, link } => ManyEvent::Deliver { from, to, link },

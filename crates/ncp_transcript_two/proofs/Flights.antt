@@ -20,7 +20,8 @@ use Rattle.ncp_model.specs.Peers.{Peer}
 use Rattle.ncp_proof_machine.specs.Hosts as hosts
 use Rattle.ncp_host.specs.PeerState.{PeerState}
 use Rattle.ncp_transcript_two.specs.Subnet.{Holds, Free, Accepted, Delivered, Lost, Dead, TransitByLink, set_at, from_host}
-use Rattle.ncp_transcript_two.specs.World.{World, Asked, Asks, Asks_echo, Asks_reset, Asks_wake, state_after_asked, state_after_received}
+use Rattle.ncp_transcript.specs.Asked.{Asked, Asks, Asks_echo, Asks_reset, Asks_wake, state_after_asked}
+use Rattle.ncp_transcript_two.specs.World.{World, state_after_received}
 use Rattle.ncp_transcript_two.specs.World as worlds
 use Rattle.ncp_transcript_two.specs.Tie.{Came, Failed, Died, control_bits, text_as_message, AreCommands, IsTextOn, Tied}
 use Rattle.ncp_transcript_two.proofs.Ties.{tied-swapped}

@@ -24,7 +24,8 @@ use Rattle.ncp_proof_machine.specs.Hosts.{TextOut, Node, all_empty, set_link, pe
 use Rattle.ncp_proof_machine.specs.Hosts as hosts
 use Rattle.ncp_host.specs.PeerState.{PeerState}
 use Rattle.ncp_transcript_two.specs.Subnet.{Holds, Accepted, Lost, Dead, TransitByLink, set_at}
-use Rattle.ncp_transcript_two.specs.World.{Told, Called, Out, In, Went_lost, Went_dead, Answered, Nothing, reply_to, World, Asked, Asks, Asks_echo, Asks_reset, Asks_wake, state_after_asked}
+use Rattle.ncp_transcript.specs.Asked.{reply_to, Asked, Asks, Asks_echo, Asks_reset, Asks_wake, state_after_asked}
+use Rattle.ncp_transcript_two.specs.World.{Told, Called, Out, In, Went_lost, Went_dead, Answered, Nothing, World}
 use Rattle.ncp_transcript_two.specs.World as worlds
 use Rattle.ncp_transcript_two.specs.Tie.{Whereabouts, Nowhere, Waits, Goes, Came, Failed, Died, Kept, model_of, slot_of, Carries, control_bits, text_as_message, AreCommands, IsTextOn, Stands, Reached, Begins, Goes_on, Tied, IsAsked}
 use Rattle.ncp_proof_machine.specs.Hosts.{Pasts}

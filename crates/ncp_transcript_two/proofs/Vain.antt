@@ -1,8 +1,7 @@
 -- Nothing is noted only where nothing can be.
-use Rattle.std.proofs.Common.{◌≡◌, ℕ, Bool, true, false, if◌then◌else◌, List, [], ◌∷◌, ◌++◌, Option, None, Some, Result, Ok, Err, inl, inr, refl, sym, ap, ◌∙◌, subst}
+use Rattle.std.proofs.Common.{◌≡◌, ℕ, Bool, true, false, if◌then◌else◌, List, [], ◌∷◌, ◌++◌, Option, None, Some, refl, sym, subst}
 use Rattle.ncp_leader.specs.declared.leader.Leader.{Leader}
 use Rattle.ncp_host.specs.Host.{Host}
-use Rattle.ncp_host.specs.Calls.{take_reply, record_told, flags_told, echoed_told, errors_told, counts_told}
 use Rattle.ncp_host.specs.Arrivals.{received_in}
 use Rattle.ncp_host.specs.Turns.{next_output}
 use Rattle.ncp_subnet.specs.Transit.{is_accepted, answer_kind}
@@ -10,12 +9,10 @@ use Rattle.ncp_subnet.specs.declared.transit.Transit.TheVariants.{Free, Accepted
 use Rattle.ncp_subnet.specs.Messages.{arriving, answer_about}
 use Rattle.ncp_subnet.specs.Ways.{OnLink}
 use Rattle.ncp_transcript.specs.declared.call.Call.{Call}
-use Rattle.ncp_transcript.specs.declared.call.Call.TheVariants as calls
 use Rattle.ncp_transcript.specs.declared.note.HostNote.{HostNote}
 use Rattle.ncp_transcript.specs.declared.note.HostNote.TheVariants as of_host
-use Rattle.ncp_transcript.specs.Notes.{done_or_refused, told_or_refused}
-use Rattle.ncp_transcript.specs.Answers.{answer_to}
 use Rattle.ncp_transcript.specs.Noting.{CallNoted, note_as, note_of_bits, note_of_message, answer_in}
+use Rattle.ncp_transcript.proofs.AskedCalls.{reads, CallOutcome, Was_done, Was_taken, Was_refused, Was_read, outcome-noted}
 use Rattle.ncp_transcript_two.specs.declared.side.Side.{Side}
 use Rattle.ncp_transcript_two.specs.declared.event.Event.{Event}
 use Rattle.ncp_transcript_two.specs.declared.event.Event.TheVariants as events
@@ -59,38 +56,18 @@ abbrev pub is_nothing : HostNote → Bool
 is_nothing of_host.Nothing = true
 is_nothing other = false
 
-done_says : (call : Call) (r : Result (Unit {0}) _) → is_nothing (done_or_refused call r) ≡ false
-done_says call (Ok u) = refl
-done_says call (Err fault) = refl
-
-told_says : {T : Type 0} (call : Call) (told : T → HostNote) (r : Result T _) → ((x : T) → is_nothing (told x) ≡ false) → is_nothing (told_or_refused call told r) ≡ false
-told_says call told (Ok x) says = says x
-told_says call told (Err fault) says = refl
-
-answer_says : (call : Call) (h : Host) → is_nothing (answer_to call h) ≡ false
-answer_says (calls.Reset peer) h = done_says (calls.Reset peer) _
-answer_says (calls.AskSend peer local remote size room) h = done_says (calls.AskSend peer local remote size room) _
-answer_says (calls.AskReceive peer local remote room) h = done_says (calls.AskReceive peer local remote room) _
-answer_says (calls.Give peer pair text) h = done_says (calls.Give peer pair text) _
-answer_says (calls.Take peer pair bytes) h = told_says (calls.Take peer pair bytes) (of_host.Took peer pair bytes) (take_reply peer pair bytes h) (λ x. refl)
-answer_says (calls.Allocate peer pair messages bits) h = done_says (calls.Allocate peer pair messages bits) _
-answer_says (calls.CallBack peer pair fm fb) h = done_says (calls.CallBack peer pair fm fb) _
-answer_says (calls.Interrupt peer pair) h = done_says (calls.Interrupt peer pair) _
-answer_says (calls.Echo peer byte) h = done_says (calls.Echo peer byte) _
-answer_says (calls.Close peer pair) h = done_says (calls.Close peer pair) _
-answer_says (calls.Wake peer) h = done_says (calls.Wake peer) _
-answer_says (calls.State peer pair) h = told_says (calls.State peer pair) (of_host.State peer pair) (record_told peer pair h) (λ x. refl)
-answer_says (calls.Phase peer) h = told_says (calls.Phase peer) (of_host.Phase peer) (flags_told peer h) (λ x. refl)
-answer_says (calls.Echoed peer) h = told_says (calls.Echoed peer) (of_host.Echoed peer) (echoed_told peer h) (λ x. refl)
-answer_says (calls.Errors peer) h = told_says (calls.Errors peer) (of_host.Errors peer) (errors_told peer h) (λ x. refl)
-answer_says (calls.Counts peer) h = told_says (calls.Counts peer) (of_host.Counts peer) (counts_told peer h) (λ x. refl)
-answer_says (calls.Waiting peer place) h = refl
-answer_says (calls.Kept peer link) h = refl
-answer_says calls.Ignored h = refl
+read_says : (note : HostNote) (call : Call) → reads note ≡ Some call → is_nothing note ≡ false
+read_says of_host.Nothing call e = absurd (cc e)
+read_says note call e = refl
 
 call_says : (call : Call) (note : HostNote) (h : Host) → CallNoted call note h → is_nothing note ≡ false
-call_says call note h (inl e) = ap is_nothing e ∙ answer_says call h
-call_says call note h (inr want) = ap is_nothing want.said
+call_says call note h noted = go note (outcome-noted call note h noted)
+  where
+    go : (n : HostNote) → CallOutcome call h n → is_nothing n ≡ false
+    go n (Was_done peer asked s at says by) = refl
+    go n (Was_taken peer pair bytes text s at says is) = refl
+    go n (Was_refused fault why) = refl
+    go n (Was_read read by) = read_says read call by
 
 bits_say : (bits : List Bool) (h : Host) → is_nothing (note_of_bits bits h) ≡ false
 bits_say bits h = go (answer_in bits h)

@@ -18,7 +18,7 @@ use Rattle.ncp_model.specs.Commands.{hear_all, hear_gvb, hear_ret, hear_inr, hea
 use Rattle.ncp_model.specs.declared.outcomes.Heard.{Heard}
 use Rattle.ncp_model.specs.declared.outcomes.Took.{Took}
 use Rattle.ncp_model.specs.declared.call_fault.CallFault.TheVariants.{Busy, QueueFull}
-use Rattle.ncp_model.specs.Texts.{made_by_text, hear_text, Rfnm, cut, cut_bits, may_send, bytes_to_send}
+use Rattle.ncp_model.specs.Texts.{made_by_text, hear_text, Rfnm, cut, cut_bits, can_send, bytes_to_send}
 use Rattle.ncp_model.specs.Ends.{Ends, count, any, is_by_peer, hears_link, uses_link, free_link, sender_on, receiver_on, pair_of, end_of, leads_to, hear, text_in, cut_at, cut_in, answered_at, answered_in, map_after, map_after_at, no_ends}
 use Rattle.ncp_model.specs.Echo.{echo_answer, echo_asked}
 use Rattle.ncp_model.specs.Happenings.{Happening, Happened, happens, happened, of_hearing, outcome_of_text}
@@ -306,9 +306,9 @@ times : (k m a : ℕ) → m ≤ a / k → m * k ≤ a
 times k m a l = omega (arith, mul-le-mul_right k l, div-mul-le_self a k)
 
 cut-text : (pair : Pair) (e : End) (text : ℕ × List Bool) → EndFits (Some e) → InLimitsAt pair (Some e) → SoundAt pair (Some e) → answer (cut pair (Some e)) ≡ Some text → IsText text.0 text.1
-cut-text pair e text f l s = go (may_send pair e) refl
+cut-text pair e text f l s = go (can_send pair e) refl
   where
-    go : (b : Bool) → may_send pair e ≡ b → answer (if b then cut_bits (bytes_to_send e * e.size) e else Stays None) ≡ Some text → IsText text.0 text.1
+    go : (b : Bool) → can_send pair e ≡ b → answer (if b then cut_bits (bytes_to_send e * e.size) e else Stays None) ≡ Some text → IsText text.0 text.1
     go false b x = absurd (cc x)
     go true b x =
         let same : (e.size, take (bytes_to_send e * e.size) e.stored) ≡ text = cc x in

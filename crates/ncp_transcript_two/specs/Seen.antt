@@ -1,17 +1,16 @@
 -- The hosts and the subnet of a world as the rules see them, and what its notes tell in the words of the rules.
 use Rattle.std.specs.Prelude.{ℕ, List, [], ◌∷◌, ◌++◌, Option, None, Some, Ok}
-use Rattle.ncp_model.specs.Peers.{Ask_to_send, Ask_to_receive, Close, Give, Take, Allocate, Call_back, Interrupt}
+use Rattle.ncp_model.specs.Peers.{Take}
 use Rattle.ncp_proof_resets.specs.Resets.{This, That}
 use Rattle.ncp_proof_resets.specs.Resets as rules
 use Rattle.ncp_host.specs.PeerState.{PeerState, new_state}
 use Rattle.ncp_host.specs.Host.{Host, state_of}
-use Rattle.ncp_host.specs.Calls.{sockets}
 use Rattle.ncp_subnet.specs.Subnet.{transit_at}
 use Rattle.ncp_transcript.specs.declared.call.Call.{Call}
-use Rattle.ncp_transcript.specs.declared.call.Call.TheVariants as calls
 use Rattle.ncp_transcript.specs.declared.note.HostNote.{HostNote}
 use Rattle.ncp_transcript.specs.declared.note.HostNote.TheVariants as of_host
-use Rattle.ncp_transcript_two.specs.World.{World, Asked, Asks, Asks_echo, Asks_reset, Asks_wake, Replied, Told, Called, Out, In, Went_lost, Went_dead, Answered, Nothing}
+use Rattle.ncp_transcript.specs.Asked.{Asked, Asks, Replied, Took, asked_in}
+use Rattle.ncp_transcript_two.specs.World.{World, Told, Called, Out, In, Went_lost, Went_dead, Answered, Nothing}
 use Rattle.ncp_transcript_two.specs.World as worlds
 use Rattle.ncp_transcript_two.specs.Tie.{IsAsked}
 use Rattle.ncp_transcript_two.specs.Watch.{Both}
@@ -45,30 +44,15 @@ abbrev pub as_rules : Side → rules.Party
 as_rules A = This
 as_rules B = That
 
--- the call that the rules speak of; what is only read is none
-abbrev pub asked_by : Call → Option Asked
-asked_by (calls.Reset peer) = Some Asks_reset
-asked_by (calls.AskSend peer local remote size room) = Some (Asks (sockets local remote) (Ask_to_send size room))
-asked_by (calls.AskReceive peer local remote room) = Some (Asks (sockets local remote) (Ask_to_receive room))
-asked_by (calls.Give peer pair text) = Some (Asks pair (Give text))
-asked_by (calls.Take peer pair bytes) = Some (Asks pair (Take bytes))
-asked_by (calls.Allocate peer pair messages bits) = Some (Asks pair (Allocate messages bits))
-asked_by (calls.CallBack peer pair fm fb) = Some (Asks pair (Call_back fm fb))
-asked_by (calls.Interrupt peer pair) = Some (Asks pair Interrupt)
-asked_by (calls.Echo peer byte) = Some (Asks_echo byte)
-asked_by (calls.Close peer pair) = Some (Asks pair Close)
-asked_by (calls.Wake peer) = Some Asks_wake
-asked_by reading = None
-
 -- What a note tells of what happened. A call that was refused changed nothing, as what was read did not.
 
-abbrev pub done : Option Asked → Option Told
+abbrev pub done : Option (ℕ × Asked) → Option Told
 done None = None
-done (Some asked) = Some (Called asked (Replied (Ok tt)))
+done (Some (peer, asked)) = Some (Called asked (Replied (Ok tt)))
 
 abbrev pub told_call : HostNote → Option Told
-told_call (of_host.Done call) = done (asked_by call)
-told_call (of_host.Took peer pair bytes text) = Some (Called (Asks pair (Take bytes)) (worlds.Took (Ok text)))
+told_call (of_host.Done call) = done (asked_in call)
+told_call (of_host.Took peer pair bytes text) = Some (Called (Asks pair (Take bytes)) (Took (Ok text)))
 told_call other = None
 
 abbrev pub told_out : HostNote → Told
@@ -125,4 +109,4 @@ NoteFits (Some (Called asked reply)) = IsAsked asked
 NoteFits other = Unit {0}
 
 abbrev pub CallFits : Call → Type 0
-CallFits call = NoteFits (done (asked_by call))
+CallFits call = NoteFits (done (asked_in call))

@@ -21,7 +21,8 @@ use Rattle.ncp_host.specs.Hearing.{control_size, is_wrong_link}
 use Rattle.ncp_host.specs.Output.{message_to}
 use Rattle.ncp_transcript_two.specs.Subnet.{Holds, TransitByLink}
 use Rattle.ncp_transcript_two.specs.Subnet as bits
-use Rattle.ncp_transcript_two.specs.World.{World, Asked, Asks, Asks_echo, Asks_reset, Asks_wake}
+use Rattle.ncp_transcript.specs.Asked.{Asked, Asks, Asks_echo, Asks_reset, Asks_wake}
+use Rattle.ncp_transcript_two.specs.World.{World}
 use Rattle.ncp_transcript_two.specs.World as worlds
 
 -- Where a message of a link is.

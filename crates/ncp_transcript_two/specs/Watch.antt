@@ -21,7 +21,8 @@ use Rattle.ncp_model.specs.Peers.{Peer, PairCall, called}
 use Rattle.ncp_proof_machine.specs.Hosts.{Pasts, pasts_after, pasts_after_at}
 use Rattle.ncp_host.specs.PeerState.{PeerState, control_link}
 use Rattle.ncp_host.specs.Hearing as hearing
-use Rattle.ncp_transcript_two.specs.World.{World, swap, Asked, Asks, Asks_echo, Asks_reset, Asks_wake, Told, Called, In, WorldEvent, step}
+use Rattle.ncp_transcript.specs.Asked.{Asked, Asks, Asks_echo, Asks_reset, Asks_wake}
+use Rattle.ncp_transcript_two.specs.World.{World, swap, Told, Called, In, WorldEvent, step}
 
 abbrev pub pasts_after_call : Pair → PairCall → Peer → Pasts → Pasts
 pasts_after_call pair call p pasts = if up p.phase then pasts_after pair (called call (is_full p.phase) p.ends) p.ends pasts else pasts

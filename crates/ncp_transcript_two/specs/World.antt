@@ -8,10 +8,7 @@ use Rattle.ncp_leader.specs.Leader.{leader_in}
 use Rattle.ncp_terms.specs.declared.answer.Answer.{Answer}
 use Rattle.ncp_terms.specs.declared.answer.Answer.TheVariants.{Rfnm, Incomplete}
 use Rattle.ncp_terms.specs.declared.answer.Answer.TheVariants as answer_kinds
-use Rattle.ncp_model.specs.declared.pair.Pair.{Pair}
-use Rattle.ncp_model.specs.declared.call_fault.CallFault.{CallFault}
-use Rattle.ncp_model.specs.Phase.{reset_answer}
-use Rattle.ncp_model.specs.Peers.{PairCall, Take, comes_of, reply, reply_of_take, reply_of_echo}
+use Rattle.ncp_model.specs.Peers.{reply}
 use Rattle.ncp_proof_resets.specs.Resets.{Party, This, That}
 use Rattle.ncp_host.specs.declared.received.Received.{Received}
 use Rattle.ncp_host.specs.declared.received.Received.TheVariants as cases
@@ -19,6 +16,7 @@ use Rattle.ncp_host.specs.PeerState.{PeerState}
 use Rattle.ncp_host.specs.PeerState as states
 use Rattle.ncp_host.specs.Hearing.{rfnm, incomplete, destination_dead, after_bits, received_of}
 use Rattle.ncp_host.specs.Output.{next_of, after_output}
+use Rattle.ncp_transcript.specs.Asked.{Asked, Reply, state_after_asked, reply_to}
 use Rattle.ncp_transcript_two.specs.Subnet.{Holds, Free, Accepted, Delivered, Lost, Dead, TransitByLink, set_at, link_in, from_host, answer_bits}
 
 pub record World : Type 0 where
@@ -31,33 +29,6 @@ pub record World : Type 0 where
 
 abbrev pub swap : World → World
 swap w = record { here = w.there; there = w.here; this = w.that; that = w.this; going = w.coming; coming = w.going }
-
--- the calls of a user
-pub data Asked : Type 0 where
-  Asks : (pair : Pair) → (call : PairCall) → Asked
-  Asks_echo : (byte : ℕ) → Asked
-  Asks_reset : Asked
-  Asks_wake : Asked  -- for what is held since its destination was dead
-
-pub data Reply : Type 0 where
-  Replied : (reply : Result (Unit {0}) CallFault) → Reply
-  Took : (reply : Result (List Bool) CallFault) → Reply
-
-abbrev pub state_after_asked : Asked → PeerState → PeerState
-state_after_asked (Asks pair call) s = states.state_calls pair call s
-state_after_asked (Asks_echo byte) s = states.state_calls_echo byte s
-state_after_asked Asks_reset s = states.state_calls_reset s
-state_after_asked Asks_wake s = states.state_calls_wake s
-
-abbrev pub reply_of_call : Pair → PairCall → PeerState → Reply
-reply_of_call pair (Take bytes) s = Took (reply_of_take (comes_of pair (Take bytes) s.peer))
-reply_of_call pair call s = Replied (reply (comes_of pair call s.peer))
-
-abbrev pub reply_to : Asked → PeerState → Reply
-reply_to (Asks pair call) s = reply_of_call pair call s
-reply_to (Asks_echo byte) s = Replied (reply_of_echo byte s.peer)
-reply_to Asks_reset s = Replied (reset_answer s.peer.phase)
-reply_to Asks_wake s = Replied (Ok tt)
 
 -- Bits come to a host from its peer.
 

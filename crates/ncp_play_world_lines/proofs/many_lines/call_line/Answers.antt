@@ -1,5 +1,5 @@
 use Rattle.std.proofs.Common.{◌≡◌, Bool, true, Some, None, if◌then◌else◌, sym, ap, ◌∙◌}
-use Rattle.ncp_proof_runs.specs.Peers.{peer_of_call}
+use Rattle.ncp_transcript.specs.Asked.{peer_of_call}
 use Rattle.ncp_transcript_many.specs.declared.many_event.ManyEvent.TheVariants as events
 use Rattle.ncp_play_world_lines.specs.ManyLines.{is_known, call_if_known}
 use Rattle.ncp_play_world_lines.proofs.many_lines.call_line.Goals as goal

@@ -1,16 +1,10 @@
 use Rattle.std.proofs.Common.{refl}
-use Rattle.ncp_model.specs.Peers.{Ask_to_send}
-use Rattle.ncp_host.specs.Calls.{call_reply, sockets}
 use Rattle.ncp_transcript.specs.declared.call.Call.TheVariants.{AskSend}
 use Rattle.ncp_transcript.proofs.Doing.{done_or_short, noted_or_short}
 use Rattle.ncp_transcript.proofs.acts.ask_send.Goals as goal
 
 pub returns-clause-note : goal.returns-clause-note
-returns-clause-note g c =
-    noted_or_short (AskSend c.args.peer c.args.local c.args.remote c.args.size c.args.room) c.ask_send-reply.result c.done.result c.args.host.now c.ask_send-reply.new.self c.done.ensures
-    (call_reply c.args.peer (sockets c.args.local c.args.remote) (Ask_to_send c.args.size c.args.room) c.args.host.now) refl refl c.ask_send-reply.ensures.done
+returns-clause-note g c = noted_or_short (AskSend c.args.peer c.args.pair.local c.args.pair.remote c.args.size c.args.room) c.ask_send-reply.result c.done.result c.args.host.now c.ask_send-reply.new.self c.done.ensures refl c.ask_send-reply.ensures.done
 
 pub returns-clause-host : goal.returns-clause-host
-returns-clause-host g c =
-    done_or_short (AskSend c.args.peer c.args.local c.args.remote c.args.size c.args.room) c.ask_send-reply.result c.done.result c.args.host.now c.ask_send-reply.new.self c.done.ensures
-    (call_reply c.args.peer (sockets c.args.local c.args.remote) (Ask_to_send c.args.size c.args.room) c.args.host.now) c.ask_send-reply.ensures.done c.ask_send-reply.ensures.err
+returns-clause-host g c = done_or_short (AskSend c.args.peer c.args.pair.local c.args.pair.remote c.args.size c.args.room) c.ask_send-reply.result c.done.result c.args.host.now c.ask_send-reply.new.self c.done.ensures c.ask_send-reply.ensures.done c.ask_send-reply.ensures.err
