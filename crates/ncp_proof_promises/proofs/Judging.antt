@@ -29,7 +29,8 @@ use Rattle.ncp_host.specs.declared.received.Received.{Received}
 use Rattle.ncp_host.specs.PeerState.{PeerState}
 use Rattle.ncp_host.specs.Hearing.{state_hears, state_hears_all}
 use Rattle.ncp_transcript_two.specs.Subnet.{Holds, Free, Accepted, Delivered, Lost, Dead, TransitByLink, from_host}
-use Rattle.ncp_transcript_two.specs.World.{World, Told, Call_is_made, Goes_out, Is_delivered, Is_lost, Finds_dead, Is_answered, moves, goes, delivers, loses, dies, answers_for, Asked, Reply, WorldEvent, WorldStep, received, state_after_received}
+use Rattle.ncp_transcript.specs.Asked.{Asked, Reply}
+use Rattle.ncp_transcript_two.specs.World.{World, Told, Call_is_made, Goes_out, Is_delivered, Is_lost, Finds_dead, Is_answered, moves, goes, delivers, loses, dies, answers_for, WorldEvent, WorldStep, received, state_after_received}
 use Rattle.ncp_transcript_two.specs.Tie.{control_bits, AreCommands, Stands, Reached, Goes_on, Tied, IsMove}
 use Rattle.ncp_transcript_two.specs.Refused.{refuses}
 use Rattle.ncp_transcript_two.specs.Underway.{text_read, text_of, commands_of}

@@ -38,7 +38,8 @@ use Rattle.ncp_host.specs.Hearing.{is_wrong_link, state_hears, state_hears_all}
 use Rattle.ncp_host.specs.Output.{next_of, links, output_by, made_on, control_message, after_by}
 use Rattle.ncp_transcript_two.specs.Subnet.{Holds, Free, Accepted, Delivered, Lost, TransitByLink, from_host, link_in, set_at}
 use Rattle.ncp_transcript_two.specs.Subnet
-use Rattle.ncp_transcript_two.specs.World.{World, swap, Asked, Asks, Asks_echo, Asks_reset, Asks_wake, state_after_asked, state_after_received, Call_is_made, Goes_out, Is_delivered, Is_lost, Finds_dead, Is_answered, moves, goes, delivers, loses, dies, answers_for, WorldStep}
+use Rattle.ncp_transcript.specs.Asked.{Asked, Asks, Asks_echo, Asks_reset, Asks_wake, state_after_asked}
+use Rattle.ncp_transcript_two.specs.World.{World, swap, state_after_received, Call_is_made, Goes_out, Is_delivered, Is_lost, Finds_dead, Is_answered, moves, goes, delivers, loses, dies, answers_for, WorldStep}
 use Rattle.ncp_transcript_two.specs.Tie.{control_bits, text_as_message, AreCommands, IsTextOn, Tied}
 use Rattle.ncp_transcript_two.specs.Underway.{commands_of, underway}
 use Rattle.ncp_transcript_two.proofs.Links.{Comes, delivered, zero_apart}

@@ -11,5 +11,6 @@ pub mod First
 pub mod NoErrs
 pub mod OutTaken
 pub mod MadeMatched
+pub mod CallsNoted
 pub mod MadeWalking
 pub mod MadeWalk

@@ -1,5 +1,5 @@
 -- What is watched of two hosts is what the notes of each say was made and came, note by note.
-use Rattle.std.proofs.Common.{◌≡◌, ℕ, ◌==◌, Bool, true, false, cond, if◌then◌else◌, List, [], ◌∷◌, length, take, Option, None, Some, Result, Ok, Err, inl, inr, refl, sym, ap, ◌∙◌, subst}
+use Rattle.std.proofs.Common.{◌≡◌, ℕ, ◌==◌, Bool, true, false, cond, if◌then◌else◌, List, [], ◌∷◌, length, take, Option, None, Some, Result, Ok, Err, refl, sym, ap, ◌∙◌, subst}
 use Rattle.std.proofs.lemmas.Bool.{eq-eqb}
 use Rattle.ncp_leader.specs.declared.leader.Leader.{Leader}
 use Rattle.ncp_leader.specs.declared.leader.Short.{Short}
@@ -7,16 +7,12 @@ use Rattle.ncp_leader.specs.declared.fault.MessageFault.{MessageFault}
 use Rattle.ncp_leader.specs.Leader.{leader_in}
 use Rattle.ncp_leader.specs.Message.{Message, message_in}
 use Rattle.ncp_model.specs.declared.call_fault.CallFault.{CallFault}
-use Rattle.ncp_model.specs.declared.call_fault.CallFault.TheVariants.{OutOfMemory, UnknownPeer}
-use Rattle.ncp_model.specs.Peers.{Ask_to_send, Ask_to_receive, Close, Give, Take, Allocate, Call_back, Interrupt, comes_of, reply, reply_of_take, reply_of_echo}
-use Rattle.ncp_model.specs.Peers.{PairCall}
-use Rattle.ncp_model.specs.Phase.{reset_answer}
+use Rattle.ncp_model.specs.Peers.{Take}
 use Rattle.ncp_proof_resets.specs.Resets.{This, That}
 use Rattle.ncp_proof_machine.specs.Hosts.{TwoNodes, nodes_swapped}
 use Rattle.ncp_host.specs.PeerState.{PeerState, control_link}
 use Rattle.ncp_host.specs.Hearing.{control_size, is_wrong_link, message_received, control_received, text_received}
-use Rattle.ncp_host.specs.Host.{Host, numbers_of, state_of, if_known}
-use Rattle.ncp_host.specs.Calls.{record_told, flags_told, echoed_told, errors_told, counts_told, sockets}
+use Rattle.ncp_host.specs.Host.{Host}
 use Rattle.ncp_host.specs.Arrivals.{received_in}
 use Rattle.ncp_host.specs.Output.{leader_to}
 use Rattle.ncp_host.specs.Turns.{next_output}
@@ -25,14 +21,14 @@ use Rattle.ncp_numbers.specs.Bytes.{bytes_of}
 use Rattle.ncp_subnet.specs.Messages.{arriving, answer_about}
 use Rattle.ncp_transcript.specs.declared.call.Call.{Call}
 use Rattle.ncp_transcript.specs.declared.note.HostNote.{HostNote}
-use Rattle.ncp_transcript.specs.Notes.{done_or_refused, told_or_refused}
-use Rattle.ncp_transcript.specs.Answers.{answer_to}
 use Rattle.ncp_transcript.specs.Noting.{CallNoted, note_of_bits, note_of_message}
+use Rattle.ncp_transcript.proofs.AskedCalls.{reads}
 use Rattle.ncp_proof_runs.specs.Peers.{names, is_this_number, peer_of_leader, notes_of_peer}
 use Rattle.ncp_transcript_two.specs.Subnet.{Holds, Free, Accepted, Delivered, Lost, Dead, from_host}
-use Rattle.ncp_transcript_two.specs.World.{World, Asked, Asks, Asks_echo, Asks_reset, Asks_wake, Reply, Told, Called, Is_delivered, delivers, state_received_with}
+use Rattle.ncp_transcript.specs.Asked.{Asked, Asks, Asks_echo, Asks_reset, Asks_wake, Reply, asked_in}
+use Rattle.ncp_transcript_two.specs.World.{World, Told, Called, Is_delivered, delivers, state_received_with}
 use Rattle.ncp_transcript_two.specs.Tie.{Tied}
-use Rattle.ncp_transcript_two.specs.Seen.{seen, had_for, as_rules, asked_by, done, told_call, told_of, side_of}
+use Rattle.ncp_transcript_two.specs.Seen.{seen, had_for, as_rules, done, told_call, told_of, side_of}
 use Rattle.ncp_transcript_two.specs.Sides.{notes_at_side}
 use Rattle.ncp_transcript_two.specs.declared.side.Side.{Side}
 use Rattle.ncp_transcript_two.specs.declared.side.Side.TheVariants.{A, B}
@@ -42,7 +38,7 @@ use Rattle.ncp_transcript_two.specs.declared.note.Note.{Note}
 use Rattle.ncp_transcript_two.specs.Between.{Hosts, other, side_number, host_of}
 use Rattle.ncp_transcript_two.specs.Happening.{Noted, note_of_coming, note_of_answering}
 use Rattle.ncp_transcript_two.specs.Naming.{IsAnswerAbout}
-use Rattle.ncp_transcript_two.proofs.OnePeer.{only-peer, noted-message}
+use Rattle.ncp_transcript_two.proofs.OnePeer.{noted-message}
 use Rattle.ncp_transcript_two.proofs.SeenSteps.{Stand}
 use Rattle.ncp_transcript_two.proofs.SeenMoves.{sent-led}
 use Rattle.ncp_transcript_two.proofs.SeenRuns.{turned, stand-turned}
@@ -56,22 +52,19 @@ use Rattle.ncp_model.specs.declared.pair.Pair.{Pair}
 use Rattle.ncp_proof_machine.specs.Watching.{Watch, sees_each}
 use Rattle.ncp_host.specs.PeerState.{is_answered}
 use Rattle.ncp_proof_runs.specs.Links.{LinkSoFar, goes_fresh, link_of_leader}
-use Rattle.ncp_proof_runs.specs.Making.{Made, made_sent, by_pair_call, by_message, by_bits, by_out, made_by_note, made_from}
+use Rattle.ncp_proof_runs.specs.Making.{Made, made_sent, by_asked, by_message, by_bits, by_out, made_by_note, made_from}
 use Rattle.ncp_transcript_two.specs.Refused.{is_refused}
 use Rattle.ncp_transcript_two.specs.Underway.{text_read}
 use Rattle.ncp_transcript_two.proofs.Flights.{delivered-out, lost-out, dead-out}
 use Rattle.ncp_proof_promises.specs.Judged.{MakesNoErr}
 use Rattle.ncp_proof_promises.specs.Since.{Watches, watch_at, watch_after_asked, watch_after_text, watch_after_message, of_answer, watches_if_told}
 use Rattle.ncp_proof_promises.proofs.Judging.{makes-no-err}
+use Rattle.ncp_proof_promises.proofs.CallsNoted.{asked-names, own-kinds}
 use Rattle.ncp_proof_promises.proofs.MadeMatched.{IsWatched, call-watched, echo-watched, reset-watched, answer-watched, message-watched}
 
 -- what the host of a side has for the other
 abbrev pub ours : Side → Hosts → PeerState
 ours side w = had_for (side_number (other side) w) (host_of side w)
-
-pub only-one : (side : Side) (w : Hosts) → Stand w → numbers_of (host_of side w).peers ≡ side_number (other side) w ∷ []
-only-one A w k = k.a
-only-one B w k = k.b
 
 -- How a message is judged, that is not refused.
 
@@ -81,7 +74,7 @@ pub record Right (link : ℕ) (o : Result Message MessageFault) : Type 0 where
   pub good : is_wrong_link link ≡ false
   pub sized : (link == control_link) ≡ true → (m.size == control_size) ≡ true
 
-judged : (link : ℕ) (o : Result Message MessageFault) (s : PeerState) → is_refused (message_received link o s) ≡ false → Right link o
+pub judged : (link : ℕ) (o : Result Message MessageFault) (s : PeerState) → is_refused (message_received link o s) ≡ false → Right link o
 judged link (Err fault) s e = absurd (cc e)
 judged link (Ok m) s e = go (is_wrong_link link) refl e
   where
@@ -116,6 +109,13 @@ named : (b : Bool) (hn : HostNote) (s : PeerState) (t : LinkSoFar) (l : Made) (x
 named true hn s t l x e i = i
 named false hn s t l x e i = absurd (cc e)
 
+-- what is asked of the peer
+asked-watched : (n : ℕ) (asked : Asked) (s : PeerState) (x : Watch) (l : Made) → IsWatched x l → IsWatched (watch_after_asked asked s x) (by_asked (Some (n, asked)) s l)
+asked-watched n (Asks q call) s x l i = call-watched q call s x l i
+asked-watched n (Asks_echo byte) s x l i = echo-watched byte s x l i
+asked-watched n Asks_reset s x l i = reset-watched s x l i
+asked-watched n Asks_wake s x l i = i
+
 -- A call at this side.
 
 module _ (side : Side) (w : Hosts) (k : Stand w) (p : Watches) where
@@ -131,13 +131,13 @@ module _ (side : Side) (w : Hosts) (k : Stand w) (p : Watches) where
       go A = refl
       go B = refl
 
-  own-asks : (asked : Asked) (answer : Reply) (peer : ℕ) (hn : HostNote) → peer ≡ side_number (other side) w → names (side_number (other side) w) hn ≡ (peer == side_number (other side) w)
+  own-asks : (asked : Asked) (answer : Reply) (hn : HostNote) → names (side_number (other side) w) hn ≡ true
       → ((t : LinkSoFar) (l : Made) → IsWatched (watch_at side p) l → IsWatched (watch_after_asked asked (ours side w) (watch_at side p)) (made_by_note hn (ours side w) t l))
       → (t : LinkSoFar) (l : Made) → IsWatched (watch_at side p) l
       → IsWatched (watch_at side (watches_if_told (as_rules side) (Some (Called asked answer)) (seen w) p)) (made_from (notes_of_peer (side_number (other side) w) (hn ∷ [])) (ours side w) t l)
-  own-asks asked answer peer hn is names_it says t l i =
+  own-asks asked answer hn is says t l i =
       subst (λ (x : Watch). IsWatched x (made_from (notes_of_peer (side_number (other side) w) (hn ∷ [])) (ours side w) t l)) (sym (own-asked asked answer))
-      (named (names (side_number (other side) w) hn) hn (ours side w) t l (watch_after_asked asked (ours side w) (watch_at side p)) (names_it ∙ eq-eqb peer (side_number (other side) w) is) (says t l i))
+      (named (names (side_number (other side) w) hn) hn (ours side w) t l (watch_after_asked asked (ours side w) (watch_at side p)) is (says t l i))
 
   quiet : (hn : HostNote) → told_call hn ≡ None → ((t : LinkSoFar) (l : Made) → made_by_note hn (ours side w) t l ≡ l) → Own hn
   quiet hn none same t l i =
@@ -147,83 +147,47 @@ module _ (side : Side) (w : Hosts) (k : Stand w) (p : Watches) where
   refused : (call : Call) (fault : CallFault) → Own (HostNote.Refused call fault)
   refused call fault = quiet (HostNote.Refused call fault) refl (λ t l. refl)
 
-  own-done : (call : Call) (peer : ℕ) (f : PeerState → Result (Unit {0}) CallFault) → (peer ≡ side_number (other side) w → Own (HostNote.Done call)) → Own (done_or_refused call (if_known (state_of (host_of side w) peer) f))
-  own-done call peer f made = go (state_of (host_of side w) peer) refl
+  own-done : (call : Call) (asked : Asked) → asked_in call ≡ Some (side_number (other side) w, asked) → Own (HostNote.Done call)
+  own-done call asked is =
+      subst (λ (o : Option (ℕ × Asked)). (t : LinkSoFar) (l : Made) → IsWatched (watch_at side p) l → IsWatched (watch_at side (watches_if_told (as_rules side) (done o) (seen w) p)) (made_from (notes_of_peer (side_number (other side) w) (HostNote.Done call ∷ [])) (ours side w) t l)) (sym is)
+      (own-asks asked (Reply.Replied (Ok tt)) (HostNote.Done call) (asked-names (side_number (other side) w) call asked is)
+      (λ t l i. subst (λ (o : Option (ℕ × Asked)). IsWatched (watch_after_asked asked (ours side w) (watch_at side p)) (by_asked o (ours side w) l)) (sym is) (asked-watched (side_number (other side) w) asked (ours side w) (watch_at side p) l i)))
+
+  own-took : (q : Pair) (bytes : ℕ) (text : List Bool) → Own (HostNote.Took (side_number (other side) w) q bytes text)
+  own-took q bytes text =
+      own-asks (Asks q (Take bytes)) (Reply.Took (Ok text)) (HostNote.Took (side_number (other side) w) q bytes text) (eq-eqb (side_number (other side) w) (side_number (other side) w) refl)
+      (λ t l i. call-watched q (Take bytes) (ours side w) (watch_at side p) l i)
+
+  was-read : (hn : HostNote) (call : Call) → reads hn ≡ Some call → Own hn
+  was-read hn call e = let is = go hn e in quiet hn is.0 is.1
     where
-      by : (s : PeerState) → state_of (host_of side w) peer ≡ Some s → (r : Result (Unit {0}) CallFault) → Own (done_or_refused call r)
-      by s e (Ok u) = made (only-peer (side_number (other side) w) peer s (host_of side w).peers (only-one side w k) e)
-      by s e (Err fault) = refused call fault
-
-      go : (o : Option PeerState) → state_of (host_of side w) peer ≡ o → Own (done_or_refused call (if_known o f))
-      go None e = refused call UnknownPeer
-      go (Some s) e = by s e (f s)
-
-  own-took : (peer : ℕ) (q : Pair) (bytes : ℕ) (f : PeerState → Result (List Bool) CallFault) → Own (told_or_refused (Call.Take peer q bytes) (HostNote.Took peer q bytes) (if_known (state_of (host_of side w) peer) f))
-  own-took peer q bytes f = go (state_of (host_of side w) peer) refl
-    where
-      by : (s : PeerState) → state_of (host_of side w) peer ≡ Some s → (r : Result (List Bool) CallFault) → Own (told_or_refused (Call.Take peer q bytes) (HostNote.Took peer q bytes) r)
-      by s e (Ok text) =
-          own-asks (Asks q (Take bytes)) (Reply.Took (Ok text)) peer (HostNote.Took peer q bytes text) (only-peer (side_number (other side) w) peer s (host_of side w).peers (only-one side w k) e) refl
-          (λ t l i. call-watched q (Take bytes) (ours side w) (watch_at side p) l i)
-      by s e (Err fault) = refused (Call.Take peer q bytes) fault
-
-      go : (o : Option PeerState) → state_of (host_of side w) peer ≡ o → Own (told_or_refused (Call.Take peer q bytes) (HostNote.Took peer q bytes) (if_known o f))
-      go None e = refused (Call.Take peer q bytes) UnknownPeer
-      go (Some s) e = by s e (f s)
-
-  own-pair : (call : Call) (peer : ℕ) (q : Pair) (act : PairCall) → told_call (HostNote.Done call) ≡ Some (Called (Asks q act) (Reply.Replied (Ok tt))) → names (side_number (other side) w) (HostNote.Done call) ≡ (peer == side_number (other side) w)
-      → ((t : LinkSoFar) (l : Made) → made_by_note (HostNote.Done call) (ours side w) t l ≡ by_pair_call q act (ours side w) l)
-      → Own (done_or_refused call (if_known (state_of (host_of side w) peer) (λ s. reply (comes_of q act s.peer))))
-  own-pair call peer q act is names_it same = own-done call peer (λ s. reply (comes_of q act s.peer)) (λ e.
-      subst (λ (o : Option Told). (t : LinkSoFar) (l : Made) → IsWatched (watch_at side p) l → IsWatched (watch_at side (watches_if_told (as_rules side) o (seen w) p)) (made_from (notes_of_peer (side_number (other side) w) (HostNote.Done call ∷ [])) (ours side w) t l)) (sym is)
-      (own-asks (Asks q act) (Reply.Replied (Ok tt)) peer (HostNote.Done call) e names_it
-      (λ t l i. subst (λ (j : Made). IsWatched (watch_after_asked (Asks q act) (ours side w) (watch_at side p)) j) (sym (same t l)) (call-watched q act (ours side w) (watch_at side p) l i))))
-
-  reading : {T : Type 0} (call : Call) (told : T → HostNote) (r : Result T CallFault) → ((x : T) → Own (told x)) → Own (told_or_refused call told r)
-  reading call told (Ok x) says = says x
-  reading call told (Err fault) says = refused call fault
-
-  own-answer : (call : Call) → Own (answer_to call (host_of side w))
-  own-answer (Call.Reset peer) = own-done (Call.Reset peer) peer (λ s. reset_answer s.peer.phase) (λ e. own-asks Asks_reset (Reply.Replied (Ok tt)) peer (HostNote.Done (Call.Reset peer)) e refl (λ t l i. reset-watched (ours side w) (watch_at side p) l i))
-  own-answer (Call.AskSend peer local remote size room) = own-pair (Call.AskSend peer local remote size room) peer (sockets local remote) (Ask_to_send size room) refl refl (λ t l. refl)
-  own-answer (Call.AskReceive peer local remote room) = own-pair (Call.AskReceive peer local remote room) peer (sockets local remote) (Ask_to_receive room) refl refl (λ t l. refl)
-  own-answer (Call.Give peer q text) = own-pair (Call.Give peer q text) peer q (Give text) refl refl (λ t l. refl)
-  own-answer (Call.Take peer q bytes) = own-took peer q bytes (λ s. reply_of_take (comes_of q (Take bytes) s.peer))
-  own-answer (Call.Allocate peer q m b) = own-pair (Call.Allocate peer q m b) peer q (Allocate m b) refl refl (λ t l. refl)
-  own-answer (Call.CallBack peer q fm fb) = own-pair (Call.CallBack peer q fm fb) peer q (Call_back fm fb) refl refl (λ t l. refl)
-  own-answer (Call.Interrupt peer q) = own-pair (Call.Interrupt peer q) peer q Interrupt refl refl (λ t l. refl)
-  own-answer (Call.Echo peer byte) = own-done (Call.Echo peer byte) peer (λ s. reply_of_echo byte s.peer) (λ e. own-asks (Asks_echo byte) (Reply.Replied (Ok tt)) peer (HostNote.Done (Call.Echo peer byte)) e refl (λ t l i. echo-watched byte (ours side w) (watch_at side p) l i))
-  own-answer (Call.Close peer q) = own-pair (Call.Close peer q) peer q Close refl refl (λ t l. refl)
-  own-answer (Call.Wake peer) = own-done (Call.Wake peer) peer (λ s. Ok tt) (λ e. own-asks Asks_wake (Reply.Replied (Ok tt)) peer (HostNote.Done (Call.Wake peer)) e refl (λ t l i. i))
-  own-answer (Call.State peer q) = reading (Call.State peer q) (HostNote.State peer q) (record_told peer q (host_of side w)) (λ x. quiet (HostNote.State peer q x) refl (λ t l. refl))
-  own-answer (Call.Phase peer) = reading (Call.Phase peer) (HostNote.Phase peer) (flags_told peer (host_of side w)) (λ x. quiet (HostNote.Phase peer x) refl (λ t l. refl))
-  own-answer (Call.Echoed peer) = reading (Call.Echoed peer) (HostNote.Echoed peer) (echoed_told peer (host_of side w)) (λ x. quiet (HostNote.Echoed peer x) refl (λ t l. refl))
-  own-answer (Call.Errors peer) = reading (Call.Errors peer) (HostNote.Errors peer) (errors_told peer (host_of side w)) (λ x. quiet (HostNote.Errors peer x) refl (λ t l. refl))
-  own-answer (Call.Counts peer) = reading (Call.Counts peer) (HostNote.Counts peer) (counts_told peer (host_of side w)) (λ x. quiet (HostNote.Counts peer x) refl (λ t l. refl))
-  own-answer (Call.Waiting peer place) = quiet (answer_to (Call.Waiting peer place) (host_of side w)) refl (λ t l. refl)
-  own-answer (Call.Kept peer link) = quiet (answer_to (Call.Kept peer link) (host_of side w)) refl (λ t l. refl)
-  own-answer Call.Ignored = quiet (answer_to Call.Ignored (host_of side w)) refl (λ t l. refl)
+      go : (hn : HostNote) → reads hn ≡ Some call → (told_call hn ≡ None) × ((t : LinkSoFar) (l : Made) → made_by_note hn (ours side w) t l ≡ l)
+      go (HostNote.Done call) e = absurd (cc e)
+      go (HostNote.Took peer q bytes text) e = absurd (cc e)
+      go (HostNote.Out message) e = absurd (cc e)
+      go (HostNote.In message told) e = absurd (cc e)
+      go (HostNote.Answered peer link how told) e = absurd (cc e)
+      go hn e = (refl, λ t l. refl)
 
   own : (call : Call) (hn : HostNote) → CallNoted call hn (host_of side w) → Own hn
-  own call hn (inl e) = subst Own (sym e) (own-answer call)
-  own call hn (inr want) = subst Own (sym want.said) (refused call OutOfMemory)
+  own = own-kinds side w k Own own-done own-took refused was-read
 
 -- a call at the other
 
-a-aside : (o : Option Asked) (v : World) (p : Watches) → (watches_if_told That (done o) v p).this ≡ p.this
+a-aside : (o : Option (ℕ × Asked)) (v : World) (p : Watches) → (watches_if_told That (done o) v p).this ≡ p.this
 a-aside None v p = refl
-a-aside (Some asked) v p = refl
+a-aside (Some (peer, asked)) v p = refl
 
-b-aside : (o : Option Asked) (v : World) (p : Watches) → (watches_if_told This (done o) v p).that ≡ p.that
+b-aside : (o : Option (ℕ × Asked)) (v : World) (p : Watches) → (watches_if_told This (done o) v p).that ≡ p.that
 b-aside None v p = refl
-b-aside (Some asked) v p = refl
+b-aside (Some (peer, asked)) v p = refl
 
 a-call-aside : (hn : HostNote) (v : World) (p : Watches) → (watches_if_told That (told_call hn) v p).this ≡ p.this
-a-call-aside (HostNote.Done call) v p = a-aside (asked_by call) v p
+a-call-aside (HostNote.Done call) v p = a-aside (asked_in call) v p
 a-call-aside hn v p = refl
 
 b-call-aside : (hn : HostNote) (v : World) (p : Watches) → (watches_if_told This (told_call hn) v p).that ≡ p.that
-b-call-aside (HostNote.Done call) v p = b-aside (asked_by call) v p
+b-call-aside (HostNote.Done call) v p = b-aside (asked_in call) v p
 b-call-aside hn v p = refl
 
 called : (side by : Side) (w : Hosts) → Stand w → (p : Watches) (call : Call) (hn : HostNote) → CallNoted call hn (host_of by w) → StepAt side (Note.Called by hn) w p
@@ -286,13 +250,13 @@ was-dead B B link w p = λ t l i. i
 -- A message of side A that comes to side B.
 
 module _ (w : Hosts) (k : Stand w) (x : TwoNodes) (t : Tied x (seen w)) (link : ℕ) (m : List Bool) (e : (seen w).going link ≡ Accepted m) where
-  front : leader_in (from_host w.number_a m) ≡ Ok (leader_to w.number_a link)
+  pub front : leader_in (from_host w.number_a m) ≡ Ok (leader_to w.number_a link)
   front = (sent-led link x (seen w) m t e).1
 
   right : MakesNoErr (delivers link (Accepted m) (seen w)).1 (seen w) (delivers link (Accepted m) (seen w)).0
   right = subst (λ (h : Holds). MakesNoErr (delivers link h (seen w)).1 (seen w) (delivers link h (seen w)).0) e (makes-no-err (Is_delivered link) x (seen w) tt t)
 
-  unrefused : is_refused (message_received link (message_in (from_host w.number_a m)) (had_for w.number_a w.b)) ≡ false
+  pub unrefused : is_refused (message_received link (message_in (from_host w.number_a m)) (had_for w.number_a w.b)) ≡ false
   unrefused = ap (λ (r : Result Leader Short). is_refused (state_received_with r (from_host w.number_a m) (had_for w.number_a w.b))) (sym front) ∙ right.1
 
   pub noted-in : note_of_bits (from_host w.number_a m) w.b ≡ HostNote.In (from_host w.number_a m) (received_in (from_host w.number_a m) w.b)

@@ -41,7 +41,8 @@ use Rattle.ncp_host.specs.Hearing.{state_hears}
 use Rattle.ncp_host.specs.Output.{next_of, after_by}
 use Rattle.ncp_transcript_two.specs.Subnet.{Holds, Free, Accepted, Delivered, Lost, TransitByLink, from_host}
 use Rattle.ncp_transcript_two.specs.Subnet
-use Rattle.ncp_transcript_two.specs.World.{World, Asked, Asks, Asks_echo, Asks_reset, Asks_wake, state_after_asked, state_after_received, Call_is_made, Goes_out, Is_delivered, Is_lost, Finds_dead, Is_answered, moves, goes, delivers, loses, dies, answers_for, WorldStep}
+use Rattle.ncp_transcript.specs.Asked.{Asked, Asks, Asks_echo, Asks_reset, Asks_wake, state_after_asked}
+use Rattle.ncp_transcript_two.specs.World.{World, state_after_received, Call_is_made, Goes_out, Is_delivered, Is_lost, Finds_dead, Is_answered, moves, goes, delivers, loses, dies, answers_for, WorldStep}
 use Rattle.ncp_transcript_two.specs.Tie.{Whereabouts, Nowhere, Waits, Goes, Came, Failed, Died, Kept, model_of, slot_of, Carries, text_as_message, IsTextOn, Stands, Reached, Tied, IsMove}
 use Rattle.ncp_transcript_two.specs.Underway.{commands_of}
 use Rattle.ncp_transcript_two.proofs.Links.{Comes, delivered}

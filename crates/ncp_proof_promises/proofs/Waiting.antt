@@ -23,7 +23,8 @@ use Rattle.ncp_host.specs.Hearing.{is_wrong_link, message_received, state_hears,
 use Rattle.ncp_host.specs.Output.{leader_to, next_of, after_by}
 use Rattle.ncp_transcript_two.specs.Subnet.{Holds, Free, Accepted, Delivered, Lost, TransitByLink, from_host}
 use Rattle.ncp_transcript_two.specs.Subnet
-use Rattle.ncp_transcript_two.specs.World.{World, Asked, Asks, Asks_echo, Asks_reset, Asks_wake, state_after_asked, Call_is_made, Goes_out, Is_delivered, Is_lost, Finds_dead, Is_answered, moves, goes, delivers, loses, dies, answers_for, WorldStep, received, state_after_received}
+use Rattle.ncp_transcript.specs.Asked.{Asked, Asks, Asks_echo, Asks_reset, Asks_wake, state_after_asked}
+use Rattle.ncp_transcript_two.specs.World.{World, Call_is_made, Goes_out, Is_delivered, Is_lost, Finds_dead, Is_answered, moves, goes, delivers, loses, dies, answers_for, WorldStep, received, state_after_received}
 use Rattle.ncp_transcript_two.specs.Tie.{text_as_message, IsTextOn, Reached, Tied, IsMove}
 use Rattle.ncp_transcript_two.specs.Underway.{commands_of}
 use Rattle.ncp_transcript_two.proofs.Links.{Comes, delivered}

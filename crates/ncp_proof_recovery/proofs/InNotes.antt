@@ -11,7 +11,8 @@ use Rattle.ncp_host.specs.PeerState.{PeerState}
 use Rattle.ncp_host.specs.Output.{next_of}
 use Rattle.ncp_proof_headline.proofs.HostsHeld.{Ever, ever, after_step}
 use Rattle.ncp_transcript_two.specs.Subnet.{TransitByLink, Holds, Free, Accepted, Delivered, Lost, Dead}
-use Rattle.ncp_transcript_two.specs.World.{World, Asks, Asks_echo, Asks_reset, Asks_wake, Reply, Replied, Told, Called, Out, In, Went_lost, Went_dead, Answered, Nothing, goes, delivers, loses, dies, answers_for, moves, at, WorldStep, swap}
+use Rattle.ncp_transcript.specs.Asked.{Asks, Asks_echo, Asks_reset, Asks_wake, Reply, Replied}
+use Rattle.ncp_transcript_two.specs.World.{World, Told, Called, Out, In, Went_lost, Went_dead, Answered, Nothing, goes, delivers, loses, dies, answers_for, moves, at, WorldStep, swap}
 use Rattle.ncp_transcript_two.specs.Tie.{IsMove, Stands, Tied}
 use Rattle.ncp_transcript_two.specs.declared.note.Note.{Note}
 use Rattle.ncp_transcript_two.specs.declared.side.Side.{Side}

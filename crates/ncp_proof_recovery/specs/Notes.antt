@@ -5,7 +5,8 @@ use Rattle.ncp_model.specs.Phase.{up}
 use Rattle.ncp_host.specs.PeerState.{PeerState}
 use Rattle.ncp_transcript.specs.declared.call.Call.{Call}
 use Rattle.ncp_transcript.specs.declared.note.HostNote.{HostNote}
-use Rattle.ncp_transcript_two.specs.World.{World, Asks, Asks_echo, Asks_reset, Told, Called}
+use Rattle.ncp_transcript.specs.Asked.{Asks, Asks_echo, Asks_reset}
+use Rattle.ncp_transcript_two.specs.World.{World, Told, Called}
 use Rattle.ncp_transcript_two.specs.declared.side.Side.{Side}
 use Rattle.ncp_transcript_two.specs.declared.note.Note.{Note}
 use Rattle.ncp_transcript_two.specs.Between.{Hosts}

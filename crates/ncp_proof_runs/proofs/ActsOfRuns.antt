@@ -26,7 +26,7 @@ use Rattle.ncp_model.specs.Happenings.{Happening, Text_comes, Text_goes_out, Is_
 use Rattle.ncp_model.specs.Leading.{suits, comes}
 use Rattle.ncp_model.specs.Phase.{Phase, up, is_resetting, resets}
 use Rattle.ncp_model.specs.Sending.{is_full}
-use Rattle.ncp_model.specs.Peers.{Peer, Ask_to_send, Ask_to_receive, Close, Give, Take, Allocate, Call_back, Interrupt, kept, called, happened_at, PairCall, calls, calls_echo, calls_reset, calls_up, cuts, echo_called, frees, frees_up, hears, hears_fault, hears_other, hears_text, makes, peer_sends, takes_text}
+use Rattle.ncp_model.specs.Peers.{Peer, Take, kept, called, happened_at, PairCall, calls, calls_echo, calls_reset, calls_up, cuts, echo_called, frees, frees_up, hears, hears_fault, hears_other, hears_text, makes, peer_sends, takes_text}
 use Rattle.ncp_model.specs.Peers
 use Rattle.ncp_model.proofs.EndsAfter.{after-at, after-elsewhere}
 use Rattle.ncp_model.proofs.LinksLead.{led, command-led, cut-led, answered-led, hearer-sends, user-receives, suits-led}
@@ -34,11 +34,10 @@ use Rattle.ncp_host.specs.Counting.{one_more}
 use Rattle.ncp_host.specs.PeerState.{PeerState, new_state, control_link, is_answered, answer_taken, answer_comes, frees_on, after_answer}
 use Rattle.ncp_host.specs.Hearing.{control_size, state_after_control, state_after_text, is_wrong_link, state_hears, state_hears_all, hears_last, message_after}
 use Rattle.ncp_host.specs.Output.{after_made, after_by}
-use Rattle.ncp_host.specs.Calls.{sockets}
-use Rattle.ncp_transcript.specs.declared.call.Call.{Call}
+use Rattle.ncp_transcript.specs.Asked.{asked_in, Asked, Asks, Asks_echo, Asks_reset, Asks_wake}
 use Rattle.ncp_transcript.specs.declared.note.HostNote.{HostNote}
-use Rattle.ncp_proof_runs.specs.Peers.{called_for, bits_for, out_for, note_for, notes_for}
-use Rattle.ncp_proof_runs.specs.Acts.{Acted, was_cleared, act_at, gone_down, acts_called, acts_echoed, acts_reset, acts_of_call, acts_heard_up, acts_heard, acts_heard_all, acts_of_fault, acts_of_control, acts_of_text, acts_of_message, acts_of_bits, acts_of_new, acts_of_output, acts_of_out, acts_of_freeing, acts_of_answer, acts_answered, acts_by, acts_from, AreActs}
+use Rattle.ncp_proof_runs.specs.Peers.{state_asked, bits_for, out_for, note_for, notes_for}
+use Rattle.ncp_proof_runs.specs.Acts.{Acted, was_cleared, act_at, gone_down, acts_called, acts_echoed, acts_reset, acts_asked, acts_heard_up, acts_heard, acts_heard_all, acts_of_fault, acts_of_control, acts_of_text, acts_of_message, acts_of_bits, acts_of_new, acts_of_output, acts_of_out, acts_of_freeing, acts_of_answer, acts_answered, acts_by, acts_from, AreActs}
 use Rattle.ncp_proof_runs.proofs.BooksOfRuns.{same_pair, another, put_here, put_there, called-suits, comes-led}
 
 module _ (pair : Pair) where
@@ -103,26 +102,12 @@ module _ (pair : Pair) where
       go true = down (echo_called byte s.peer).phase s.peer.ends
       go false = refl
 
-  done-acts : (call : Call) (s : PeerState) → AreActs pair (get s.peer.ends pair) (acts_of_call pair call s) (get (called_for call s).peer.ends pair)
-  done-acts (Call.Reset peer) s = reset-acts s
-  done-acts (Call.AskSend peer local remote size room) s = call-acts (sockets local remote) (Ask_to_send size room) s
-  done-acts (Call.AskReceive peer local remote room) s = call-acts (sockets local remote) (Ask_to_receive room) s
-  done-acts (Call.Give peer p text) s = call-acts p (Give text) s
-  done-acts (Call.Take peer p bytes) s = call-acts p (Take bytes) s
-  done-acts (Call.Allocate peer p messages bits) s = call-acts p (Allocate messages bits) s
-  done-acts (Call.CallBack peer p fm fb) s = call-acts p (Call_back fm fb) s
-  done-acts (Call.Interrupt peer p) s = call-acts p Interrupt s
-  done-acts (Call.Echo peer byte) s = echo-acts byte s
-  done-acts (Call.Close peer p) s = call-acts p Close s
-  done-acts (Call.Wake peer) s = refl
-  done-acts (Call.State peer p) s = refl
-  done-acts (Call.Phase peer) s = refl
-  done-acts (Call.Echoed peer) s = refl
-  done-acts (Call.Errors peer) s = refl
-  done-acts (Call.Counts peer) s = refl
-  done-acts (Call.Waiting peer place) s = refl
-  done-acts (Call.Kept peer link) s = refl
-  done-acts Call.Ignored s = refl
+  done-acts : (asked : Option (ℕ × Asked)) (s : PeerState) → AreActs pair (get s.peer.ends pair) (acts_asked pair asked s) (get (state_asked asked s).peer.ends pair)
+  done-acts None s = refl
+  done-acts (Some (peer, Asks p call)) s = call-acts p call s
+  done-acts (Some (peer, Asks_echo byte)) s = echo-acts byte s
+  done-acts (Some (peer, Asks_reset)) s = reset-acts s
+  done-acts (Some (peer, Asks_wake)) s = refl
 
   -- A command that comes.
 
@@ -265,21 +250,12 @@ module _ (pair : Pair) where
       go false = refl
 
   note-acts : (note : HostNote) (s : PeerState) → AreActs pair (get s.peer.ends pair) (acts_by pair note s) (get (note_for note s).peer.ends pair)
-  note-acts (HostNote.Refused call fault) s = refl
-  note-acts (HostNote.Done call) s = done-acts call s
+  note-acts (HostNote.Done call) s = done-acts (asked_in call) s
   note-acts (HostNote.Took peer p bytes text) s = call-acts p (Take bytes) s
-  note-acts (HostNote.State peer p told) s = refl
-  note-acts (HostNote.Phase peer flags) s = refl
-  note-acts (HostNote.Echoed peer byte) s = refl
-  note-acts (HostNote.Errors peer errors) s = refl
-  note-acts (HostNote.Counts peer counts) s = refl
-  note-acts (HostNote.Waiting peer place command) s = refl
-  note-acts (HostNote.Kept peer link message) s = refl
-  note-acts (HostNote.Ignored ignored) s = refl
   note-acts (HostNote.Out message) s = out-acts (leader_in message) message s
-  note-acts HostNote.Nothing s = refl
   note-acts (HostNote.In message told) s = bits-acts (leader_in message) message s
   note-acts (HostNote.Answered peer link how told) s = answered-acts link how s
+  note-acts other s = refl
 
   pub run-acts : (all : List HostNote) (s : PeerState) → AreActs pair (get s.peer.ends pair) (acts_from pair all s) (get (notes_for all s).peer.ends pair)
   run-acts [] s = refl

@@ -4,29 +4,25 @@ use Rattle.std.proofs.lemmas.Bool.{eqb-true}
 use Rattle.ncp_leader.specs.declared.leader.Leader.{Leader}
 use Rattle.ncp_leader.specs.declared.leader.Short.{Short}
 use Rattle.ncp_leader.specs.Leader.{leader_in}
-use Rattle.ncp_model.specs.declared.pair.Pair.{Pair}
-use Rattle.ncp_model.specs.Phase.{reset_answer}
-use Rattle.ncp_model.specs.Peers.{PairCall, Ask_to_send, Ask_to_receive, Close, Give, Take, Allocate, Call_back, Interrupt, comes_of, reply, reply_of_take, reply_of_echo}
-use Rattle.ncp_conn.specs.Records.{record_in}
 use Rattle.ncp_host.specs.PeerState.{PeerState}
 use Rattle.ncp_host.specs.Hearing.{regular, is_kind}
 use Rattle.ncp_host.specs.Output.{next_of}
-use Rattle.ncp_host.specs.Host.{Host, state_in, state_of, numbers_of, is_one_of, new_host, if_known}
-use Rattle.ncp_host.specs.Calls.{record_answer, flags_of, waiting_at, kept_for, sockets}
+use Rattle.ncp_host.specs.Host.{Host, state_in, state_of, numbers_of, is_one_of, new_host}
 use Rattle.ncp_host.specs.Arrivals.{received_from, received_with}
 use Rattle.ncp_host.specs.declared.received.Received.{Received}
 use Rattle.ncp_host.specs.Turns.{message_in_turn, first_message, next_output}
 use Rattle.ncp_transcript.specs.declared.call.Call.{Call}
 use Rattle.ncp_transcript.specs.declared.note.HostNote.{HostNote}
-use Rattle.ncp_transcript.specs.Notes.{done_or_refused, told_or_refused}
 use Rattle.ncp_transcript.specs.Answers.{answer_to}
 use Rattle.ncp_transcript.specs.After.{after_note}
 use Rattle.ncp_transcript.specs.Noting.{is_answer, if_peer, answer_with, IsWant}
 use Rattle.ncp_transcript.specs.Runs.{answer_told, IsHostSaid, IsHostRun}
-use Rattle.ncp_proof_runs.specs.Peers.{FromBeginning, peer_of_call, peer_of_leader, is_this_number, names, notes_of_peer, note_for}
+use Rattle.ncp_transcript.proofs.AskedCalls.{same-answer}
+use Rattle.ncp_proof_runs.specs.Peers.{FromBeginning, peer_of_leader, is_this_number, names, notes_of_peer, note_for}
 use Rattle.ncp_proof_runs.proofs.States.{done, message_cons}
 use Rattle.ncp_proof_runs.proofs.HostRuns.{Holds, some_same, out-turn, out-leader, note-state}
 use Rattle.ncp_proof_runs.proofs.EachPeer.{holds-after, new-holds, new-state}
+use Rattle.ncp_transcript.specs.Asked.{peer_of_call}
 
 -- what is kept for this peer is the same in both hosts
 same-at : (h g : Host) (n peer : ℕ) → state_of h n ≡ state_of g n → (peer == n) ≡ true → state_of h peer ≡ state_of g peer
@@ -36,29 +32,12 @@ same-at h g n peer e q =
 
 -- Calls answer the same.
 
-pair-same : (c : Call) (pair : Pair) (call : PairCall) (o p : Option PeerState) → o ≡ p → done_or_refused c (if_known o (λ s. reply (comes_of pair call s.peer))) ≡ done_or_refused c (if_known p (λ s. reply (comes_of pair call s.peer)))
-pair-same c pair call o p e = ap (λ (x : Option PeerState). done_or_refused c (if_known x (λ s. reply (comes_of pair call s.peer)))) e
+numbered : (o : Option ℕ) (n : ℕ) → is_this_number n o ≡ true → o ≡ Some n
+numbered None n q = absurd (cc)
+numbered (Some m) n q = ap (λ (k : ℕ). Some k) (eqb-true m n q)
 
-pub answer-same : (call : Call) (h g : Host) (n : ℕ) → state_of h n ≡ state_of g n → is_this_number n (peer_of_call call) ≡ true → answer_to call h ≡ answer_to call g
-answer-same (Call.Reset peer) h g n e q = ap (λ (x : Option PeerState). done_or_refused (Call.Reset peer) (if_known x (λ s. reset_answer s.peer.phase))) (same-at h g n peer e q)
-answer-same (Call.AskSend peer local remote size room) h g n e q = pair-same (Call.AskSend peer local remote size room) (sockets local remote) (Ask_to_send size room) (state_of h peer) (state_of g peer) (same-at h g n peer e q)
-answer-same (Call.AskReceive peer local remote room) h g n e q = pair-same (Call.AskReceive peer local remote room) (sockets local remote) (Ask_to_receive room) (state_of h peer) (state_of g peer) (same-at h g n peer e q)
-answer-same (Call.Give peer pair text) h g n e q = pair-same (Call.Give peer pair text) pair (Give text) (state_of h peer) (state_of g peer) (same-at h g n peer e q)
-answer-same (Call.Take peer pair bytes) h g n e q = ap (λ (x : Option PeerState). told_or_refused (Call.Take peer pair bytes) (HostNote.Took peer pair bytes) (if_known x (λ s. reply_of_take (comes_of pair (Take bytes) s.peer)))) (same-at h g n peer e q)
-answer-same (Call.Allocate peer pair messages bits) h g n e q = pair-same (Call.Allocate peer pair messages bits) pair (Allocate messages bits) (state_of h peer) (state_of g peer) (same-at h g n peer e q)
-answer-same (Call.CallBack peer pair fm fb) h g n e q = pair-same (Call.CallBack peer pair fm fb) pair (Call_back fm fb) (state_of h peer) (state_of g peer) (same-at h g n peer e q)
-answer-same (Call.Interrupt peer pair) h g n e q = pair-same (Call.Interrupt peer pair) pair Interrupt (state_of h peer) (state_of g peer) (same-at h g n peer e q)
-answer-same (Call.Echo peer byte) h g n e q = ap (λ (x : Option PeerState). done_or_refused (Call.Echo peer byte) (if_known x (λ s. reply_of_echo byte s.peer))) (same-at h g n peer e q)
-answer-same (Call.Close peer pair) h g n e q = pair-same (Call.Close peer pair) pair Close (state_of h peer) (state_of g peer) (same-at h g n peer e q)
-answer-same (Call.Wake peer) h g n e q = ap (λ (x : Option PeerState). done_or_refused (Call.Wake peer) (if_known x (λ s. Ok tt))) (same-at h g n peer e q)
-answer-same (Call.State peer pair) h g n e q = ap (λ (x : Option PeerState). told_or_refused (Call.State peer pair) (HostNote.State peer pair) (if_known x (λ s. record_answer (record_in pair s.peer.ends)))) (same-at h g n peer e q)
-answer-same (Call.Phase peer) h g n e q = ap (λ (x : Option PeerState). told_or_refused (Call.Phase peer) (HostNote.Phase peer) (if_known x (λ s. Ok (flags_of s.peer.phase)))) (same-at h g n peer e q)
-answer-same (Call.Echoed peer) h g n e q = ap (λ (x : Option PeerState). told_or_refused (Call.Echoed peer) (HostNote.Echoed peer) (if_known x (λ s. Ok s.peer.echoes.echoed))) (same-at h g n peer e q)
-answer-same (Call.Errors peer) h g n e q = ap (λ (x : Option PeerState). told_or_refused (Call.Errors peer) (HostNote.Errors peer) (if_known x (λ s. Ok s.peer.echoes.errors))) (same-at h g n peer e q)
-answer-same (Call.Counts peer) h g n e q = ap (λ (x : Option PeerState). told_or_refused (Call.Counts peer) (HostNote.Counts peer) (if_known x (λ s. Ok s.counts))) (same-at h g n peer e q)
-answer-same (Call.Waiting peer place) h g n e q = ap (λ (x : Option PeerState). HostNote.Waiting peer place (waiting_at x place)) (same-at h g n peer e q)
-answer-same (Call.Kept peer link) h g n e q = ap (λ (x : Option PeerState). HostNote.Kept peer link (kept_for x link)) (same-at h g n peer e q)
-answer-same Call.Ignored h g n e q = absurd (cc)
+answer-same : (call : Call) (h g : Host) (n : ℕ) → state_of h n ≡ state_of g n → is_this_number n (peer_of_call call) ≡ true → answer_to call h ≡ answer_to call g
+answer-same call h g n e q = same-answer h g n e call (numbered (peer_of_call call) n q)
 
 -- Bits come the same.
 

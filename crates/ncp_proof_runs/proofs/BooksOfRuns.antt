@@ -25,11 +25,11 @@ use Rattle.ncp_model.specs.Act.{Act, end_after}
 use Rattle.ncp_model.specs.Texts
 use Rattle.ncp_model.specs.Ends.{Ends, uses_link, hears_link, pair_of, receiver_on, sender_on, leads_to, hear, text_in, cut_in, answered_in, map_after, map_after_at, no_ends, put}
 use Rattle.ncp_model.specs.Happenings.{Happening, Text_comes, Text_goes_out, Is_answered, happens}
-use Rattle.ncp_model.specs.Texts.{made_by_text, hear_text}
+use Rattle.ncp_model.specs.Texts.{hear_text}
 use Rattle.ncp_model.specs.Leading.{suits, comes}
 use Rattle.ncp_model.specs.Phase.{Phase, up, is_resetting, resets}
 use Rattle.ncp_model.specs.Sending.{is_full}
-use Rattle.ncp_model.specs.Peers.{Peer, Ask_to_send, Ask_to_receive, Close, Give, Take, Allocate, Call_back, Interrupt, kept, called, happened_at, PairCall, calls, calls_echo, calls_reset, calls_up, cleared, cuts, echo_called, frees, frees_up, hears, hears_fault, hears_other, hears_text, makes, peer_sends, takes_text}
+use Rattle.ncp_model.specs.Peers.{Peer, Close, Take, kept, called, happened_at, PairCall, calls, calls_echo, calls_reset, calls_up, cleared, cuts, echo_called, frees, frees_up, hears, hears_fault, hears_other, hears_text, makes, peer_sends, takes_text}
 use Rattle.ncp_model.proofs.PairOrder.{pairs_exact, pairs_total}
 use Rattle.ncp_model.proofs.EndsAfter.{after-at, after-elsewhere}
 use Rattle.ncp_model.proofs.LinksLead.{itself, led, command-led, cut-led, answered-led, hearer-sends, user-receives, suits-led}
@@ -42,11 +42,10 @@ use Rattle.ncp_host.specs.Counting.{one_more}
 use Rattle.ncp_host.specs.PeerState.{PeerState, new_state, control_link, is_answered, answer_taken, answer_comes, frees_on, after_answer}
 use Rattle.ncp_host.specs.Hearing.{control_size, state_after_control, state_after_text, is_wrong_link, state_hears, state_hears_all, hears_last, message_after}
 use Rattle.ncp_host.specs.Output.{after_made, after_by}
-use Rattle.ncp_host.specs.Calls.{sockets}
-use Rattle.ncp_transcript.specs.declared.call.Call.{Call}
+use Rattle.ncp_transcript.specs.Asked.{asked_in, Asked, Asks, Asks_echo, Asks_reset, Asks_wake}
 use Rattle.ncp_transcript.specs.declared.note.HostNote.{HostNote}
-use Rattle.ncp_proof_runs.specs.Peers.{called_for, bits_for, out_for, note_for, notes_for}
-use Rattle.ncp_proof_runs.specs.Histories.{past_then, past_at, past_called, past_heard, past_heard_all, past_text, past_message, past_bits, past_of_call, past_by, past_from}
+use Rattle.ncp_proof_runs.specs.Peers.{state_asked, bits_for, out_for, note_for, notes_for}
+use Rattle.ncp_proof_runs.specs.Histories.{past_then, past_at, past_called, past_heard, past_heard_all, past_text, past_message, past_bits, past_asked, past_by, past_from}
 
 -- the end of a pair is sound, and where it receives its books agree
 abbrev pub Kept : Pair → Ends → Past → Type 0
@@ -109,14 +108,8 @@ module _ (pair : Pair) where
   put_there m p (Some e) q n = get-insert pairs_total m p e q ∙ ap (λ b. cond b (Some e) (get m q)) (apart q p n)
 
   pub called-suits : (p : Pair) (call : PairCall) (full : Bool) (m : Ends) → suits p (called call full m) ≡ true
-  called-suits p (Ask_to_send a b) full m = refl
-  called-suits p (Ask_to_receive b) full m = refl
   called-suits p Close full m = refl
-  called-suits p (Give text) full m = refl
-  called-suits p (Take bytes) full m = refl
-  called-suits p (Allocate a b) full m = refl
-  called-suits p (Call_back a b) full m = refl
-  called-suits p Interrupt full m = refl
+  called-suits p call full m = refl
 
   call-kept : (p : Pair) (call : PairCall) (s : PeerState) (past : Past) → Kept pair s.peer.ends past → Kept pair (calls p call s.peer).ends (past_called pair p call s past)
   call-kept p call s past k = go (up s.peer.phase)
@@ -324,43 +317,20 @@ module _ (pair : Pair) where
       go true = while-up (echo_called byte p).phase p.ends past k
       go false = k
 
-  done-kept : (call : Call) (s : PeerState) (past : Past) → Kept pair s.peer.ends past → Kept pair (called_for call s).peer.ends (past_of_call pair call s past)
-  done-kept (Call.Reset peer) s past k = reset-kept (is_quiet s.slots) s.peer past k
-  done-kept (Call.AskSend peer local remote size room) s past k = call-kept (sockets local remote) (Ask_to_send size room) s past k
-  done-kept (Call.AskReceive peer local remote room) s past k = call-kept (sockets local remote) (Ask_to_receive room) s past k
-  done-kept (Call.Give peer p text) s past k = call-kept p (Give text) s past k
-  done-kept (Call.Take peer p bytes) s past k = call-kept p (Take bytes) s past k
-  done-kept (Call.Allocate peer p messages bits) s past k = call-kept p (Allocate messages bits) s past k
-  done-kept (Call.CallBack peer p fm fb) s past k = call-kept p (Call_back fm fb) s past k
-  done-kept (Call.Interrupt peer p) s past k = call-kept p Interrupt s past k
-  done-kept (Call.Echo peer byte) s past k = echo-kept byte s.peer past k
-  done-kept (Call.Close peer p) s past k = call-kept p Close s past k
-  done-kept (Call.Wake peer) s past k = k
-  done-kept (Call.State peer p) s past k = k
-  done-kept (Call.Phase peer) s past k = k
-  done-kept (Call.Echoed peer) s past k = k
-  done-kept (Call.Errors peer) s past k = k
-  done-kept (Call.Counts peer) s past k = k
-  done-kept (Call.Waiting peer place) s past k = k
-  done-kept (Call.Kept peer link) s past k = k
-  done-kept Call.Ignored s past k = k
+  done-kept : (asked : Option (ℕ × Asked)) (s : PeerState) (past : Past) → Kept pair s.peer.ends past → Kept pair (state_asked asked s).peer.ends (past_asked pair asked s past)
+  done-kept None s past k = k
+  done-kept (Some (peer, Asks p call)) s past k = call-kept p call s past k
+  done-kept (Some (peer, Asks_echo byte)) s past k = echo-kept byte s.peer past k
+  done-kept (Some (peer, Asks_reset)) s past k = reset-kept (is_quiet s.slots) s.peer past k
+  done-kept (Some (peer, Asks_wake)) s past k = k
 
   note-kept : (note : HostNote) (s : PeerState) (past : Past) → Kept pair s.peer.ends past → Kept pair (note_for note s).peer.ends (past_by pair note s past)
-  note-kept (HostNote.Refused call fault) s past k = k
-  note-kept (HostNote.Done call) s past k = done-kept call s past k
+  note-kept (HostNote.Done call) s past k = done-kept (asked_in call) s past k
   note-kept (HostNote.Took peer p bytes text) s past k = call-kept p (Take bytes) s past k
-  note-kept (HostNote.State peer p told) s past k = k
-  note-kept (HostNote.Phase peer flags) s past k = k
-  note-kept (HostNote.Echoed peer byte) s past k = k
-  note-kept (HostNote.Errors peer errors) s past k = k
-  note-kept (HostNote.Counts peer counts) s past k = k
-  note-kept (HostNote.Waiting peer place command) s past k = k
-  note-kept (HostNote.Kept peer link message) s past k = k
-  note-kept (HostNote.Ignored ignored) s past k = k
   note-kept (HostNote.Out message) s past k = sent-kept (leader_in message) message s past k
-  note-kept HostNote.Nothing s past k = k
   note-kept (HostNote.In message told) s past k = bits-kept (leader_in message) message s past k
   note-kept (HostNote.Answered peer link how told) s past k = answers-kept link how s past k
+  note-kept other s past k = k
 
   pub run-kept : (all : List HostNote) (s : PeerState) (past : Past) → Kept pair s.peer.ends past → Kept pair (notes_for all s).peer.ends (past_from pair all s past)
   run-kept [] s past k = k

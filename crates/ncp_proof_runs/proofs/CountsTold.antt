@@ -31,10 +31,10 @@ use Rattle.ncp_host.specs.Counting.{one_more, one_more_if, no_counts, is_late, c
 use Rattle.ncp_host.specs.PeerState.{PeerState, new_state, control_link, is_answered, answer_taken, answer_comes}
 use Rattle.ncp_host.specs.Hearing.{control_size, state_after_control, state_after_text, is_wrong_link, took, state_hears, state_hears_all, hears_last, message_after, message_received, answer_received}
 use Rattle.ncp_host.specs.Host.{state_of, new_host}
-use Rattle.ncp_transcript.specs.declared.call.Call.{Call}
+use Rattle.ncp_transcript.specs.Asked.{asked_in, Asked, Asks, Asks_echo, Asks_reset, Asks_wake}
 use Rattle.ncp_transcript.specs.declared.note.HostNote.{HostNote}
 use Rattle.ncp_transcript.specs.After.{after_notes}
-use Rattle.ncp_proof_runs.specs.Peers.{FromBeginning, notes_of_peer, called_for, bits_for, out_for, note_for, notes_for}
+use Rattle.ncp_proof_runs.specs.Peers.{FromBeginning, notes_of_peer, state_asked, bits_for, out_for, note_for, notes_for}
 use Rattle.ncp_proof_runs.specs.Echoing.{EchoHistory, no_echo, while_up, echo_heard, commands_read, commands_in_message, echo_by, echoes_told}
 use Rattle.ncp_proof_runs.specs.Counted.{one_if, counted_as, end_named, is_late_end, counted_up, counted_heard, counted_heard_all, fault_read, counted_fault, counted_by, counted_from, counted_so_far, counts_capped}
 use Rattle.ncp_proof_runs.proofs.Said.{IsIn, IsSaidOf, IsRunOf}
@@ -214,47 +214,23 @@ answered-counted on how told s n i f = go (is_answered on s) ∙ ap (λ (x : Rec
 
 -- Note by note.
 
-called-counts : (call : Call) (s : PeerState) → (called_for call s).counts ≡ s.counts
-called-counts (Call.Reset peer) s = refl
-called-counts (Call.AskSend peer local remote size room) s = refl
-called-counts (Call.AskReceive peer local remote room) s = refl
-called-counts (Call.Give peer pair text) s = refl
-called-counts (Call.Take peer pair bytes) s = refl
-called-counts (Call.Allocate peer pair messages bits) s = refl
-called-counts (Call.CallBack peer pair fm fb) s = refl
-called-counts (Call.Interrupt peer pair) s = refl
-called-counts (Call.Echo peer byte) s = refl
-called-counts (Call.Close peer pair) s = refl
-called-counts (Call.Wake peer) s = refl
-called-counts (Call.State peer pair) s = refl
-called-counts (Call.Phase peer) s = refl
-called-counts (Call.Echoed peer) s = refl
-called-counts (Call.Errors peer) s = refl
-called-counts (Call.Counts peer) s = refl
-called-counts (Call.Waiting peer place) s = refl
-called-counts (Call.Kept peer link) s = refl
-called-counts Call.Ignored s = refl
+called-counts : (asked : Option (ℕ × Asked)) (s : PeerState) → (state_asked asked s).counts ≡ s.counts
+called-counts None s = refl
+called-counts (Some (peer, Asks pair call)) s = refl
+called-counts (Some (peer, Asks_echo byte)) s = refl
+called-counts (Some (peer, Asks_reset)) s = refl
+called-counts (Some (peer, Asks_wake)) s = refl
 
 out-counts : (r : Result Leader Short) (message : List Bool) (s : PeerState) → (out_for r message s).counts ≡ s.counts
 out-counts (Err short) message s = refl
 out-counts (Ok leader) message s = refl
 
 note-counted : (k : ℕ) (note : HostNote) (s : PeerState) (t : EchoHistory) (n : Counts) → IsSaidOf k note s → s.peer.echoes ≡ echoes_told t → s.counts ≡ counts_capped n → (note_for note s).counts ≡ counts_capped (counted_by note s t n)
-note-counted k (HostNote.Refused call fault) s t n p e f = f
-note-counted k (HostNote.Done call) s t n p e f = called-counts call s ∙ f
-note-counted k (HostNote.Took peer pair bytes text) s t n p e f = f
-note-counted k (HostNote.State peer pair r) s t n p e f = f
-note-counted k (HostNote.Phase peer flags) s t n p e f = f
-note-counted k (HostNote.Echoed peer byte) s t n p e f = f
-note-counted k (HostNote.Errors peer errors) s t n p e f = f
-note-counted k (HostNote.Counts peer counts) s t n p e f = f
-note-counted k (HostNote.Waiting peer place command) s t n p e f = f
-note-counted k (HostNote.Kept peer link message) s t n p e f = f
-note-counted k (HostNote.Ignored ignored) s t n p e f = f
+note-counted k (HostNote.Done call) s t n p e f = called-counts (asked_in call) s ∙ f
 note-counted k (HostNote.Out message) s t n p e f = out-counts (leader_in message) message s ∙ f
-note-counted k HostNote.Nothing s t n p e f = f
 note-counted k (HostNote.In message told) s t n p e f = in-counted (leader_in message) message told s t n p e f ∙ sym (ap counts_capped (in-case message told s t n))
 note-counted k (HostNote.Answered peer link how told) s t n p e f = answered-counted link how told s n p f
+note-counted k other s t n p e f = f
 
 run-counted : (k : ℕ) (all : List HostNote) (s : PeerState) (t : EchoHistory) (n : Counts) → IsRunOf k all s → s.peer.echoes ≡ echoes_told t → s.counts ≡ counts_capped n → (notes_for all s).counts ≡ counts_capped (counted_from all s t n)
 run-counted k [] s t n p e f = f

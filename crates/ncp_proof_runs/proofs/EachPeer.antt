@@ -9,9 +9,8 @@ use Rattle.ncp_host.specs.PeerState.{PeerState, new_state}
 use Rattle.ncp_host.specs.Hearing.{is_kind, after_bits}
 use Rattle.ncp_host.specs.Host.{Host, state_in, state_of, at_peer, numbers_of, is_one_of, are_distinct, new_host}
 use Rattle.ncp_host.specs.Arrivals.{after_with, after_from, one_other}
-use Rattle.ncp_transcript.specs.declared.call.Call.{Call}
 use Rattle.ncp_transcript.specs.declared.note.HostNote.{HostNote}
-use Rattle.ncp_transcript.specs.After.{after_call, after_note, after_notes}
+use Rattle.ncp_transcript.specs.After.{after_note, after_notes}
 use Rattle.ncp_transcript.specs.Runs.{IsHostSaid, IsHostRun}
 use Rattle.ncp_proof_runs.specs.Peers.{FromBeginning, names, notes_of_peer, note_for, notes_for}
 use Rattle.ncp_proof_runs.proofs.Said.{IsRunOf}
@@ -19,6 +18,7 @@ use Rattle.ncp_proof_runs.proofs.States.{done, peer_there}
 use Rattle.ncp_proof_runs.proofs.Ready.{Addressed}
 use Rattle.ncp_proof_runs.proofs.PeerRuns.{addressed-after}
 use Rattle.ncp_proof_runs.proofs.HostRuns.{Holds, some_same, out-turn, note-state, note-said}
+use Rattle.ncp_transcript.specs.Asked.{Asked, asked_in, state_after_asked, host_after_asked}
 
 -- A host keeps its peers.
 
@@ -30,26 +30,9 @@ changed-numbers (p ∷ ps) k f = go (p.0 == k) (changed-numbers ps k f)
     go true rest = refl
     go false rest = ap (λ (ns : List ℕ). p.0 ∷ ns) rest
 
-called-numbers : (call : Call) (h : Host) → numbers_of (after_call call h).peers ≡ numbers_of h.peers
-called-numbers (Call.Reset peer) h = changed-numbers h.peers peer _
-called-numbers (Call.AskSend peer local remote size room) h = changed-numbers h.peers peer _
-called-numbers (Call.AskReceive peer local remote room) h = changed-numbers h.peers peer _
-called-numbers (Call.Give peer pair text) h = changed-numbers h.peers peer _
-called-numbers (Call.Take peer pair bytes) h = changed-numbers h.peers peer _
-called-numbers (Call.Allocate peer pair messages bits) h = changed-numbers h.peers peer _
-called-numbers (Call.CallBack peer pair fm fb) h = changed-numbers h.peers peer _
-called-numbers (Call.Interrupt peer pair) h = changed-numbers h.peers peer _
-called-numbers (Call.Echo peer byte) h = changed-numbers h.peers peer _
-called-numbers (Call.Close peer pair) h = changed-numbers h.peers peer _
-called-numbers (Call.Wake peer) h = changed-numbers h.peers peer _
-called-numbers (Call.State peer pair) h = refl
-called-numbers (Call.Phase peer) h = refl
-called-numbers (Call.Echoed peer) h = refl
-called-numbers (Call.Errors peer) h = refl
-called-numbers (Call.Counts peer) h = refl
-called-numbers (Call.Waiting peer place) h = refl
-called-numbers (Call.Kept peer link) h = refl
-called-numbers Call.Ignored h = refl
+called-numbers : (asked : Option (ℕ × Asked)) (h : Host) → numbers_of (host_after_asked asked h).peers ≡ numbers_of h.peers
+called-numbers None h = refl
+called-numbers (Some (peer, asked)) h = changed-numbers h.peers peer (state_after_asked asked)
 
 bits-numbers : (r : Result Leader Short) (bits : List Bool) (h : Host) → numbers_of (after_with r bits h).peers ≡ numbers_of h.peers
 bits-numbers (Err short) bits h = refl
@@ -61,21 +44,12 @@ bits-numbers (Ok leader) bits h = go (is_kind leader.kind) (state_of h leader.ho
     go false o = refl
 
 note-numbers : (ns : List ℕ) (note : HostNote) (h : Host) → Holds ns h → IsHostSaid note h → numbers_of (after_note note h).peers ≡ numbers_of h.peers
-note-numbers ns (HostNote.Refused call fault) h k p = refl
-note-numbers ns (HostNote.Done call) h k p = called-numbers call h
+note-numbers ns (HostNote.Done call) h k p = called-numbers (asked_in call) h
 note-numbers ns (HostNote.Took peer pair bytes text) h k p = changed-numbers h.peers peer _
-note-numbers ns (HostNote.State peer pair r) h k p = refl
-note-numbers ns (HostNote.Phase peer flags) h k p = refl
-note-numbers ns (HostNote.Echoed peer byte) h k p = refl
-note-numbers ns (HostNote.Errors peer errors) h k p = refl
-note-numbers ns (HostNote.Counts peer counts) h k p = refl
-note-numbers ns (HostNote.Waiting peer place command) h k p = refl
-note-numbers ns (HostNote.Kept peer link message) h k p = refl
-note-numbers ns (HostNote.Ignored ignored) h k p = refl
 note-numbers ns (HostNote.Out message) h k p = let t = out-turn ns h message k p in ap numbers_of t.after ∙ changed-numbers h.peers t.n _
-note-numbers ns HostNote.Nothing h k p = refl
 note-numbers ns (HostNote.In message received) h k p = bits-numbers (leader_in message) message h
 note-numbers ns (HostNote.Answered peer link how received) h k p = changed-numbers h.peers peer _
+note-numbers ns other h k p = refl
 
 -- each of its peers was there before, and is as the note made it
 was_there : (b : Bool) (f : PeerState → PeerState) (o : Option PeerState) (now : PeerState) → done b f o ≡ Some now → (s : PeerState) × (o ≡ Some s) × (now ≡ (if b then f s else s))

@@ -26,18 +26,17 @@ use Rattle.ncp_model.specs.Ends.{answered_in}
 use Rattle.ncp_model.specs.Echo.{Echoes, echo_answer, echo_asked, hear_erp, hear_err, purge_echo}
 use Rattle.ncp_model.specs.Sending.{is_full}
 use Rattle.ncp_model.specs.Phase.{Phase, up, is_rst, is_rrp, is_resetting, phase_asks, hears_rrp, hears_rst, reset_answer, phase_settles, resets}
-use Rattle.ncp_model.specs.Peers.{Peer, Ask_to_send, Ask_to_receive, Close, Give, Take, Allocate, Call_back, Interrupt, kept_echoes, call_accepted, reply_of_echo, PairCall, calls, calls_echo, calls_reset, calls_up, cleared, cuts, echo_called, frees, frees_up, hears, hears_other, makes, peer_sends, takes_text}
+use Rattle.ncp_model.specs.Peers.{Peer, Take, kept_echoes, call_accepted, reply_of_echo, PairCall, calls, calls_echo, calls_reset, calls_up, cleared, cuts, echo_called, frees, frees_up, hears, hears_other, makes, peer_sends, takes_text}
 use Rattle.ncp_host.specs.declared.received.Received.{Received}
 use Rattle.ncp_host.specs.Counting.{one_more}
 use Rattle.ncp_host.specs.PeerState.{PeerState, new_state, control_link, after_answer, is_answered, answer_taken, answer_comes}
 use Rattle.ncp_host.specs.Hearing.{control_size, state_after_control, state_after_text, is_wrong_link, took, state_hears, state_hears_all, hears_last, message_after, message_received}
 use Rattle.ncp_host.specs.Output.{after_by}
 use Rattle.ncp_host.specs.Host.{state_of, new_host}
-use Rattle.ncp_host.specs.Calls.{sockets}
-use Rattle.ncp_transcript.specs.declared.call.Call.{Call}
+use Rattle.ncp_transcript.specs.Asked.{asked_in, Asked, Asks, Asks_echo, Asks_reset, Asks_wake}
 use Rattle.ncp_transcript.specs.declared.note.HostNote.{HostNote}
 use Rattle.ncp_transcript.specs.After.{after_notes}
-use Rattle.ncp_proof_runs.specs.Peers.{FromBeginning, notes_of_peer, called_for, bits_for, out_for, note_for, notes_for}
+use Rattle.ncp_proof_runs.specs.Peers.{FromBeginning, notes_of_peer, state_asked, bits_for, out_for, note_for, notes_for}
 use Rattle.ncp_proof_runs.specs.Echoing.{EchoHistory, no_echo, echo_accepted, echo_cleared, erp_came, err_came, while_up, echo_done, echo_heard, echo_heard_all, commands_read, commands_in_message, echo_by, echo_from, echo_of, last_of, echoes_told}
 use Rattle.ncp_proof_runs.proofs.Said.{IsDone, IsIn, IsSaidOf, IsRunOf}
 use Rattle.ncp_proof_runs.proofs.EachPeer.{each_peer}
@@ -189,27 +188,13 @@ reset-call quiet p t r e = go (is_resetting p.phase) r
 same-phase : (p : Peer) (t : EchoHistory) → p.echoes ≡ echoes_told t → p.echoes ≡ echoes_told (while_up p.phase p.phase t)
 same-phase p t e = e ∙ ap echoes_told (stays p.phase p.phase t (λ u. u))
 
-called : (call : Call) (s : PeerState) (t : EchoHistory) → IsDone call s → s.peer.echoes ≡ echoes_told t
-    → (called_for call s).peer.echoes ≡ echoes_told (while_up s.peer.phase (called_for call s).peer.phase (echo_done call t))
-called (Call.Reset peer) s t d e = reset-call (is_quiet s.slots) s.peer t d e
-called (Call.AskSend peer local remote size room) s t d e = pair-call (sockets local remote) (Ask_to_send size room) s.peer t e
-called (Call.AskReceive peer local remote room) s t d e = pair-call (sockets local remote) (Ask_to_receive room) s.peer t e
-called (Call.Give peer pair text) s t d e = pair-call pair (Give text) s.peer t e
-called (Call.Take peer pair bytes) s t d e = pair-call pair (Take bytes) s.peer t e
-called (Call.Allocate peer pair messages bits) s t d e = pair-call pair (Allocate messages bits) s.peer t e
-called (Call.CallBack peer pair fm fb) s t d e = pair-call pair (Call_back fm fb) s.peer t e
-called (Call.Interrupt peer pair) s t d e = pair-call pair Interrupt s.peer t e
-called (Call.Echo peer byte) s t d e = echo-call byte s.peer t d e
-called (Call.Close peer pair) s t d e = pair-call pair Close s.peer t e
-called (Call.Wake peer) s t d e = same-phase s.peer t e
-called (Call.State peer pair) s t d e = same-phase s.peer t e
-called (Call.Phase peer) s t d e = same-phase s.peer t e
-called (Call.Echoed peer) s t d e = same-phase s.peer t e
-called (Call.Errors peer) s t d e = same-phase s.peer t e
-called (Call.Counts peer) s t d e = same-phase s.peer t e
-called (Call.Waiting peer place) s t d e = same-phase s.peer t e
-called (Call.Kept peer link) s t d e = same-phase s.peer t e
-called Call.Ignored s t d e = same-phase s.peer t e
+called : (asked : Option (ℕ × Asked)) (s : PeerState) (t : EchoHistory) → IsDone asked s → s.peer.echoes ≡ echoes_told t
+    → (state_asked asked s).peer.echoes ≡ echoes_told (while_up s.peer.phase (state_asked asked s).peer.phase (echo_done asked t))
+called None s t d e = same-phase s.peer t e
+called (Some (peer, Asks pair call)) s t d e = pair-call pair call s.peer t e
+called (Some (peer, Asks_echo byte)) s t d e = echo-call byte s.peer t d e
+called (Some (peer, Asks_reset)) s t d e = reset-call (is_quiet s.slots) s.peer t d e
+called (Some (peer, Asks_wake)) s t d e = same-phase s.peer t e
 
 -- By commands that come.
 
@@ -325,21 +310,12 @@ in-heard (Ok leader) message told s t i e =
     ∙ ap (λ (x : Received). echoes_told (came (commands_in_message message) x s (message_after leader.link message (message_in message) s) t)) (sym i)
 
 pub note-heard : (n : ℕ) (note : HostNote) (s : PeerState) (t : EchoHistory) → IsSaidOf n note s → s.peer.echoes ≡ echoes_told t → (note_for note s).peer.echoes ≡ echoes_told (echo_by note s t)
-note-heard n (HostNote.Refused call fault) s t p e = same-phase s.peer t e
-note-heard n (HostNote.Done call) s t p e = called call s t p e
+note-heard n (HostNote.Done call) s t p e = called (asked_in call) s t p e
 note-heard n (HostNote.Took peer pair bytes text) s t p e = pair-call pair (Take bytes) s.peer t e
-note-heard n (HostNote.State peer pair r) s t p e = same-phase s.peer t e
-note-heard n (HostNote.Phase peer flags) s t p e = same-phase s.peer t e
-note-heard n (HostNote.Echoed peer byte) s t p e = same-phase s.peer t e
-note-heard n (HostNote.Errors peer errors) s t p e = same-phase s.peer t e
-note-heard n (HostNote.Counts peer counts) s t p e = same-phase s.peer t e
-note-heard n (HostNote.Waiting peer place command) s t p e = same-phase s.peer t e
-note-heard n (HostNote.Kept peer link message) s t p e = same-phase s.peer t e
-note-heard n (HostNote.Ignored ignored) s t p e = same-phase s.peer t e
 note-heard n (HostNote.Out message) s t p e = out-heard (leader_in message) message s t e
-note-heard n HostNote.Nothing s t p e = same-phase s.peer t e
 note-heard n (HostNote.In message told) s t p e = in-heard (leader_in message) message told s t p e ∙ sym (ap echoes_told (in-case message told s t))
 note-heard n (HostNote.Answered peer link how told) s t p e = answered-heard link how s t e
+note-heard n other s t p e = same-phase s.peer t e
 
 run-heard : (n : ℕ) (all : List HostNote) (s : PeerState) (t : EchoHistory) → IsRunOf n all s → s.peer.echoes ≡ echoes_told t → (notes_for all s).peer.echoes ≡ echoes_told (echo_from all s t)
 run-heard n [] s t p e = e

@@ -5,26 +5,24 @@ use Rattle.ncp_leader.specs.declared.leader.Short.{Short}
 use Rattle.ncp_leader.specs.Leader.{leader_in}
 use Rattle.ncp_terms.specs.declared.answer.Answer.{Answer}
 use Rattle.ncp_terms.specs.declared.answer.Answer.TheVariants.{Rfnm, Incomplete, Dead}
-use Rattle.ncp_model.specs.declared.pair.Pair.{Pair}
-use Rattle.ncp_model.specs.Peers.{PairCall, Ask_to_send, Ask_to_receive, Close, Give, Take, Allocate, Call_back, Interrupt}
-use Rattle.ncp_host.specs.PeerState.{PeerState, new_state, state_calls, state_calls_echo, state_calls_reset, state_calls_wake, answer_comes}
+use Rattle.ncp_model.specs.Peers.{Take}
+use Rattle.ncp_host.specs.PeerState.{PeerState, new_state, state_calls, answer_comes}
 use Rattle.ncp_host.specs.Hearing.{rfnm, destination_dead, incomplete, is_kind, after_bits}
 use Rattle.ncp_host.specs.Output.{after_output}
 use Rattle.ncp_host.specs.Host.{Host, state_of, at_peer, new_host}
 use Rattle.ncp_host.specs.Arrivals.{after_with, after_from, one_other}
 use Rattle.ncp_host.specs.Readiness.{IsNext}
-use Rattle.ncp_host.specs.Calls.{sockets}
 use Rattle.ncp_host.proofs.Sound.{sound-calls, sound-echo, sound-reset, sound-wakes, sound-bits, sound-output, sound-new}
 use Rattle.ncp_host.proofs.Short.{fit-calls, fit-echo, fit-reset, fit-bits, fit-output, fit-new}
 use Rattle.ncp_host.proofs.FirstReady.{IsWell, AreWell, is_next}
-use Rattle.ncp_transcript.specs.declared.call.Call.{Call}
 use Rattle.ncp_transcript.specs.declared.note.HostNote.{HostNote}
-use Rattle.ncp_transcript.specs.After.{after_call, after_note, after_notes}
+use Rattle.ncp_transcript.specs.After.{after_note, after_notes}
 use Rattle.ncp_transcript.specs.Runs.{IsHostSaid, IsHostRun}
 use Rattle.ncp_proof_runs.specs.Peers.{FromBeginning}
 use Rattle.ncp_proof_runs.proofs.HostRuns.{Holds, out-turn}
 use Rattle.ncp_proof_runs.proofs.EachPeer.{holds-after, new-holds}
 use Rattle.ncp_proof_runs.proofs.InRuns.{before_note}
+use Rattle.ncp_transcript.specs.Asked.{Asked, Asks, Asks_echo, Asks_reset, Asks_wake, asked_in, state_after_asked, host_after_asked}
 
 changed-well : (ps : List (ℕ × PeerState)) (number : ℕ) (f : PeerState → PeerState) → ((s : PeerState) → IsWell s → IsWell (f s)) → AreWell ps → AreWell (at_peer number f ps)
 changed-well [] number f k h = tt
@@ -34,29 +32,15 @@ changed-well (p ∷ ps) number f k h = go (p.0 == number) (changed-well ps numbe
     go true r = (k p.1 h.0, h.1)
     go false r = (h.0, r)
 
-pair-well : (peer : ℕ) (pair : Pair) (call : PairCall) (h : Host) → AreWell h.peers → AreWell (at_peer peer (state_calls pair call) h.peers)
-pair-well peer pair call h s = changed-well h.peers peer (state_calls pair call) (λ x k. (sound-calls pair call x.peer x.slots k.0, fit-calls pair call x.peer k.1)) s
+asked-well : (asked : Asked) (s : PeerState) → IsWell s → IsWell (state_after_asked asked s)
+asked-well (Asks pair call) s k = (sound-calls pair call s.peer s.slots k.0, fit-calls pair call s.peer k.1)
+asked-well (Asks_echo byte) s k = (sound-echo byte s.peer s.slots k.0, fit-echo byte s.peer k.1)
+asked-well Asks_reset s k = (sound-reset _ s.peer s.slots k.0, fit-reset _ s.peer k.1)
+asked-well Asks_wake s k = (sound-wakes s k.0, k.1)
 
-called-well : (call : Call) (h : Host) → AreWell h.peers → AreWell (after_call call h).peers
-called-well (Call.Reset peer) h s = changed-well h.peers peer state_calls_reset (λ x k. (sound-reset _ x.peer x.slots k.0, fit-reset _ x.peer k.1)) s
-called-well (Call.AskSend peer local remote size room) h s = pair-well peer (sockets local remote) (Ask_to_send size room) h s
-called-well (Call.AskReceive peer local remote room) h s = pair-well peer (sockets local remote) (Ask_to_receive room) h s
-called-well (Call.Give peer pair text) h s = pair-well peer pair (Give text) h s
-called-well (Call.Take peer pair bytes) h s = pair-well peer pair (Take bytes) h s
-called-well (Call.Allocate peer pair messages bits) h s = pair-well peer pair (Allocate messages bits) h s
-called-well (Call.CallBack peer pair fm fb) h s = pair-well peer pair (Call_back fm fb) h s
-called-well (Call.Interrupt peer pair) h s = pair-well peer pair Interrupt h s
-called-well (Call.Echo peer byte) h s = changed-well h.peers peer (state_calls_echo byte) (λ x k. (sound-echo byte x.peer x.slots k.0, fit-echo byte x.peer k.1)) s
-called-well (Call.Close peer pair) h s = pair-well peer pair Close h s
-called-well (Call.Wake peer) h s = changed-well h.peers peer state_calls_wake (λ x k. (sound-wakes x k.0, k.1)) s
-called-well (Call.State peer pair) h s = s
-called-well (Call.Phase peer) h s = s
-called-well (Call.Echoed peer) h s = s
-called-well (Call.Errors peer) h s = s
-called-well (Call.Counts peer) h s = s
-called-well (Call.Waiting peer place) h s = s
-called-well (Call.Kept peer link) h s = s
-called-well Call.Ignored h s = s
+called-well : (asked : Option (ℕ × Asked)) (h : Host) → AreWell h.peers → AreWell (host_after_asked asked h).peers
+called-well None h s = s
+called-well (Some (peer, asked)) h s = changed-well h.peers peer (state_after_asked asked) (asked-well asked) s
 
 bits-of : (leader : Leader) (bits : List Bool) (s : PeerState) → IsWell s → IsWell (after_bits leader bits s)
 bits-of leader bits s k = (sound-bits leader bits s k.0, fit-bits leader bits s k.1)
@@ -77,21 +61,12 @@ bits-well (Ok leader) bits h s = go (is_kind leader.kind) (state_of h leader.hos
     go false o = s
 
 note-well : (ns : List ℕ) (note : HostNote) (h : Host) → Holds ns h → IsHostSaid note h → AreWell h.peers → AreWell (after_note note h).peers
-note-well ns (HostNote.Refused call fault) h k p s = s
-note-well ns (HostNote.Done call) h k p s = called-well call h s
-note-well ns (HostNote.Took peer pair bytes text) h k p s = pair-well peer pair (Take bytes) h s
-note-well ns (HostNote.State peer pair r) h k p s = s
-note-well ns (HostNote.Phase peer flags) h k p s = s
-note-well ns (HostNote.Echoed peer byte) h k p s = s
-note-well ns (HostNote.Errors peer errors) h k p s = s
-note-well ns (HostNote.Counts peer counts) h k p s = s
-note-well ns (HostNote.Waiting peer place command) h k p s = s
-note-well ns (HostNote.Kept peer link message) h k p s = s
-note-well ns (HostNote.Ignored ignored) h k p s = s
+note-well ns (HostNote.Done call) h k p s = called-well (asked_in call) h s
+note-well ns (HostNote.Took peer pair bytes text) h k p s = changed-well h.peers peer (state_calls pair (Take bytes)) (asked-well (Asks pair (Take bytes))) s
 note-well ns (HostNote.Out message) h k p s = let t = out-turn ns h message k p in subst AreWell (sym t.after) (changed-well h.peers t.n (after_output t.on message) (λ x g. (sound-output t.on message x g.0, fit-output t.on message x g.1)) s)
-note-well ns HostNote.Nothing h k p s = s
 note-well ns (HostNote.In message received) h k p s = bits-well (leader_in message) message h s
 note-well ns (HostNote.Answered peer link how received) h k p s = changed-well h.peers peer (answer_comes link how) (λ x g. answer-well link how x g) s
+note-well ns other h k p s = s
 
 all-well : (ns : List ℕ) (all : List HostNote) (h : Host) → Holds ns h → IsHostRun all h → AreWell h.peers → AreWell (after_notes all h).peers
 all-well ns [] h k p s = s

@@ -7,8 +7,7 @@ use Rattle.ncp_leader.specs.Leader.{leader_in}
 use Rattle.ncp_leader.specs.Message.{message_in}
 use Rattle.ncp_model.specs.declared.pair.Pair.{Pair}
 use Rattle.ncp_model.specs.declared.call_fault.CallFault.{CallFault}
-use Rattle.ncp_model.specs.Peers.{Take, comes_of, reply_of_take, reply_of_echo}
-use Rattle.ncp_model.specs.Phase.{reset_answer}
+use Rattle.ncp_model.specs.Peers.{Take, comes_of, reply_of_take}
 use Rattle.ncp_host.specs.declared.received.Received.{Received}
 use Rattle.ncp_host.specs.PeerState.{PeerState, state_calls, answer_comes}
 use Rattle.ncp_host.specs.Hearing.{regular, message_received, answer_received}
@@ -23,10 +22,12 @@ use Rattle.ncp_transcript.specs.Answers.{answer_to}
 use Rattle.ncp_transcript.specs.After.{after_note}
 use Rattle.ncp_transcript.specs.Noting.{answer_with}
 use Rattle.ncp_transcript.specs.Runs.{answer_told, IsHostSaid}
-use Rattle.ncp_proof_runs.specs.Peers.{peer_of_call, peer_of_leader, is_this_number, names, out_for, note_for}
+use Rattle.ncp_proof_runs.specs.Peers.{peer_of_leader, is_this_number, names, out_for, note_for}
 use Rattle.ncp_proof_runs.proofs.Said.{IsDone, IsOut, IsIn, IsSaidOf}
-use Rattle.ncp_proof_runs.proofs.States.{done, done_nothing, kind_first, at_peer-state, changed-state, called-state, bits-state, Turn, turn}
+use Rattle.ncp_proof_runs.proofs.States.{done, done_nothing, kind_first, at_peer-state, changed-state, called-state, bits-state, Turn, turn, asked-peer}
 use Rattle.ncp_proof_runs.proofs.Ready.{Addressed, first_is, link_small, output-leader}
+use Rattle.ncp_transcript.specs.Asked.{Asked, asked_in, reply_to, as_done, asked_reply, peer_of_call}
+use Rattle.ncp_transcript.proofs.AskedCalls.{done-asked}
 
 -- its peers are these, and every message that is kept for one names it
 pub record Holds (ns : List ℕ) (h : Host) : Type 0 where
@@ -55,29 +56,17 @@ out-is ns h message k t =
 
 -- One note.
 
-answers-stay : (note : HostNote) (h : Host) (n : ℕ) → state_of h n ≡ done (names n note) (λ s. s) (state_of h n)
-answers-stay note h n = done_nothing (names n note) (state_of h n)
-
 pub note-state : (ns : List ℕ) (note : HostNote) (h : Host) (n : ℕ) → Holds ns h → IsHostSaid note h → state_of (after_note note h) n ≡ done (names n note) (note_for note) (state_of h n)
-note-state ns (HostNote.Refused call fault) h n k p = answers-stay (HostNote.Refused call fault) h n
 note-state ns (HostNote.Done call) h n k p = called-state call h n
 note-state ns (HostNote.Took peer pair bytes text) h n k p = changed-state h peer n (state_calls pair (Take bytes))
-note-state ns (HostNote.State peer pair r) h n k p = answers-stay (HostNote.State peer pair r) h n
-note-state ns (HostNote.Phase peer flags) h n k p = answers-stay (HostNote.Phase peer flags) h n
-note-state ns (HostNote.Echoed peer byte) h n k p = answers-stay (HostNote.Echoed peer byte) h n
-note-state ns (HostNote.Errors peer errors) h n k p = answers-stay (HostNote.Errors peer errors) h n
-note-state ns (HostNote.Counts peer counts) h n k p = answers-stay (HostNote.Counts peer counts) h n
-note-state ns (HostNote.Waiting peer place command) h n k p = answers-stay (HostNote.Waiting peer place command) h n
-note-state ns (HostNote.Kept peer link message) h n k p = answers-stay (HostNote.Kept peer link message) h n
-note-state ns (HostNote.Ignored ignored) h n k p = answers-stay (HostNote.Ignored ignored) h n
 note-state ns (HostNote.Out message) h n k p =
     let t = out-turn ns h message k p in
     ap (λ (ps : List (ℕ × PeerState)). state_in ps n) t.after
     ∙ at_peer-state h.peers t.n n (after_output t.on message)
     ∙ ap (λ (m : Result Leader Short). done (is_this_number n (peer_of_leader m)) (out_for m message) (state_of h n)) (sym (out-leader ns h message k t))
-note-state ns HostNote.Nothing h n k p = answers-stay HostNote.Nothing h n
 note-state ns (HostNote.In message received) h n k p = bits-state (leader_in message) message h n p.0
 note-state ns (HostNote.Answered peer link how received) h n k p = changed-state h peer n (answer_comes link how)
+note-state ns other h n k p = done_nothing (names n other) (state_of h n)
 
 -- What the note says of what is kept for its peer.
 
@@ -111,31 +100,22 @@ pub done-ok : (call : Call) (r : Result (Unit {0}) CallFault) → done_or_refuse
 done-ok call (Ok it) e = refl
 done-ok call (Err fault) e = absurd (cc)
 
-done-said : (call : Call) (h : Host) (n : ℕ) (s : PeerState) → answer_to call h ≡ HostNote.Done call → state_of h n ≡ Some s → is_this_number n (peer_of_call call) ≡ true → IsDone call s
-done-said (Call.Reset peer) h n s p f e =
-    done-ok (Call.Reset peer) (reset_answer s.peer.phase)
-    (ap (λ (o : Option PeerState). done_or_refused (Call.Reset peer) (if_known o (λ x. reset_answer x.peer.phase))) (sym (at_number h peer n s e f)) ∙ p)
-done-said (Call.Echo peer byte) h n s p f e =
-    done-ok (Call.Echo peer byte) (reply_of_echo byte s.peer)
-    (ap (λ (o : Option PeerState). done_or_refused (Call.Echo peer byte) (if_known o (λ x. reply_of_echo byte x.peer))) (sym (at_number h peer n s e f)) ∙ p)
-done-said call h n s p f e = tt
+done-said : (call : Call) (h : Host) (n : ℕ) (s : PeerState) → answer_to call h ≡ HostNote.Done call → state_of h n ≡ Some s → is_this_number n (peer_of_call call) ≡ true → IsDone (asked_in call) s
+done-said call h n s p f e = go (asked_in call) refl (done-asked call h p)
+  where
+    go : (a : Option (ℕ × Asked)) → asked_in call ≡ a → asked_reply a h ≡ Ok tt → IsDone a s
+    go None i r = tt
+    go (Some (peer, asked)) i r =
+        let here : (peer == n) ≡ true = ap (is_this_number n) (sym (asked-peer call peer asked i)) ∙ e in
+        ap (λ (o : Option PeerState). if_known o (λ x. as_done (reply_to asked x))) (sym (at_number h peer n s here f)) ∙ r
 
 pub note-said : (ns : List ℕ) (note : HostNote) (h : Host) (n : ℕ) (s : PeerState) → Holds ns h → IsHostSaid note h → state_of h n ≡ Some s → names n note ≡ true → IsSaidOf n note s
-note-said ns (HostNote.Refused call fault) h n s k p f e = tt
 note-said ns (HostNote.Done call) h n s k p f e = done-said call h n s p f e
 note-said ns (HostNote.Took peer pair bytes text) h n s k p f e =
     took-said (reply_of_take (comes_of pair (Take bytes) s.peer)) peer pair bytes text
     (ap (λ (o : Option PeerState). told_or_refused (Call.Take peer pair bytes) (HostNote.Took peer pair bytes) (if_known o (λ x. reply_of_take (comes_of pair (Take bytes) x.peer)))) (sym (at_number h peer n s e f)) ∙ p)
-note-said ns (HostNote.State peer pair r) h n s k p f e = tt
-note-said ns (HostNote.Phase peer flags) h n s k p f e = tt
-note-said ns (HostNote.Echoed peer byte) h n s k p f e = tt
-note-said ns (HostNote.Errors peer errors) h n s k p f e = tt
-note-said ns (HostNote.Counts peer counts) h n s k p f e = tt
-note-said ns (HostNote.Waiting peer place command) h n s k p f e = tt
-note-said ns (HostNote.Kept peer link message) h n s k p f e = tt
-note-said ns (HostNote.Ignored ignored) h n s k p f e = tt
 note-said ns (HostNote.Out message) h n s k p f e = out-said ns message h n s k (out-turn ns h message k p) f e
-note-said ns HostNote.Nothing h n s k p f e = tt
 note-said ns (HostNote.In message received) h n s k p f e = in-said (leader_in message) message received h n s p.0 p.1 f e
 note-said ns (HostNote.Answered peer link how received) h n s k p f e =
     some_same (sym p ∙ ap (λ (o : Option PeerState). answer_told o link) (at_number h peer n s e f))
+note-said ns other h n s k p f e = tt

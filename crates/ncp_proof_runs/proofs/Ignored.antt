@@ -15,11 +15,11 @@ use Rattle.ncp_host.specs.PeerState.{PeerState, control_link, is_answered}
 use Rattle.ncp_host.specs.Hearing.{regular, is_kind, is_wrong_link, control_size, took, message_received, answer_received, received_of}
 use Rattle.ncp_host.specs.Host.{Host, state_of, new_host}
 use Rattle.ncp_host.specs.Arrivals.{received_with, received_from, after_with, after_from, one_other}
-use Rattle.ncp_transcript.specs.declared.call.Call.{Call}
 use Rattle.ncp_transcript.specs.declared.note.HostNote.{HostNote}
-use Rattle.ncp_transcript.specs.After.{after_call, after_note, after_notes}
+use Rattle.ncp_transcript.specs.After.{after_note, after_notes}
 use Rattle.ncp_transcript.specs.Runs.{IsHostSaid, IsHostRun}
 use Rattle.ncp_proof_runs.specs.Peers.{FromBeginning, ignored_more, ignored_after, ignored_by}
+use Rattle.ncp_transcript.specs.Asked.{Asked, asked_in, host_after_asked}
 
 -- what comes from a peer is not ignored
 
@@ -57,43 +57,14 @@ bits-counts (Ok leader) bits h = by (is_kind leader.kind) (state_of h leader.hos
     by true (Some s) = sym (peer-counts leader bits s h.ignored)
     by false o = refl
 
-called-counts : (call : Call) (h : Host) → (after_call call h).ignored ≡ h.ignored
-called-counts (Call.Reset peer) h = refl
-called-counts (Call.AskSend peer local remote size room) h = refl
-called-counts (Call.AskReceive peer local remote room) h = refl
-called-counts (Call.Give peer pair text) h = refl
-called-counts (Call.Take peer pair bytes) h = refl
-called-counts (Call.Allocate peer pair messages bits) h = refl
-called-counts (Call.CallBack peer pair fm fb) h = refl
-called-counts (Call.Interrupt peer pair) h = refl
-called-counts (Call.Echo peer byte) h = refl
-called-counts (Call.Close peer pair) h = refl
-called-counts (Call.Wake peer) h = refl
-called-counts (Call.State peer pair) h = refl
-called-counts (Call.Phase peer) h = refl
-called-counts (Call.Echoed peer) h = refl
-called-counts (Call.Errors peer) h = refl
-called-counts (Call.Counts peer) h = refl
-called-counts (Call.Waiting peer place) h = refl
-called-counts (Call.Kept peer link) h = refl
-called-counts Call.Ignored h = refl
+called-counts : (asked : Option (ℕ × Asked)) (h : Host) → (host_after_asked asked h).ignored ≡ h.ignored
+called-counts None h = refl
+called-counts (Some (peer, asked)) h = refl
 
 note-counts : (note : HostNote) (h : Host) → IsHostSaid note h → (after_note note h).ignored ≡ ignored_after note h.ignored
-note-counts (HostNote.Refused call fault) h p = refl
-note-counts (HostNote.Done call) h p = called-counts call h
-note-counts (HostNote.Took peer pair bytes text) h p = refl
-note-counts (HostNote.State peer pair r) h p = refl
-note-counts (HostNote.Phase peer flags) h p = refl
-note-counts (HostNote.Echoed peer byte) h p = refl
-note-counts (HostNote.Errors peer errors) h p = refl
-note-counts (HostNote.Counts peer counts) h p = refl
-note-counts (HostNote.Waiting peer place command) h p = refl
-note-counts (HostNote.Kept peer link message) h p = refl
-note-counts (HostNote.Ignored ignored) h p = refl
-note-counts (HostNote.Out message) h p = refl
-note-counts HostNote.Nothing h p = refl
+note-counts (HostNote.Done call) h p = called-counts (asked_in call) h
 note-counts (HostNote.In message received) h p = bits-counts (leader_in message) message h ∙ ap (λ t. ignored_more t h.ignored) p.1
-note-counts (HostNote.Answered peer link how received) h p = refl
+note-counts other h p = refl
 
 all-counts : (all : List HostNote) (h : Host) → IsHostRun all h → (after_notes all h).ignored ≡ ignored_by all h.ignored
 all-counts [] h p = refl

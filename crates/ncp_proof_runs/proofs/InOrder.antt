@@ -24,21 +24,22 @@ use Rattle.ncp_model.specs.Ends.{text_in, answered_in}
 use Rattle.ncp_model.specs.Echo.{echo_answer}
 use Rattle.ncp_model.specs.Phase.{Phase, up, is_resetting, wants_reset, makes_all, phase_settles, resets}
 use Rattle.ncp_model.specs.Sending.{is_full, next_commands}
-use Rattle.ncp_model.specs.Peers.{Peer, Ask_to_send, Ask_to_receive, Close, Give, Take, Allocate, Call_back, Interrupt, happened_at, PairCall, calls, calls_echo, calls_reset, calls_up, cleared, cuts, echo_called, frees, frees_up, makes, peer_sends, takes_text}
+use Rattle.ncp_model.specs.Peers.{Peer, Take, happened_at, PairCall, calls, calls_echo, calls_reset, calls_up, cleared, cuts, echo_called, frees, frees_up, makes, peer_sends, takes_text}
 use Rattle.ncp_host.specs.Counting.{one_more}
 use Rattle.ncp_host.specs.PeerState.{PeerState, new_state, control_link, is_answered, answer_taken, answer_comes, frees_on, after_answer}
 use Rattle.ncp_host.specs.Hearing.{control_size, state_after_control, state_after_text, is_wrong_link, state_hears, state_hears_all, hears_last, message_after}
 use Rattle.ncp_host.specs.Output.{control_message, output_by, output_on, after_by}
 use Rattle.ncp_host.specs.declared.flags.Flags.{Flags}
-use Rattle.ncp_host.specs.Calls.{flags_of, flags_told, sockets}
+use Rattle.ncp_host.specs.Calls.{flags_of, flags_told}
 use Rattle.ncp_host.specs.Host.{Host, state_of, new_host, if_known}
+use Rattle.ncp_transcript.specs.Asked.{asked_in, Asked, Asks, Asks_echo, Asks_reset, Asks_wake}
 use Rattle.ncp_transcript.specs.Notes.{told_or_refused}
 use Rattle.ncp_transcript.specs.declared.call.Call.{Call}
 use Rattle.ncp_transcript.specs.declared.note.HostNote.{HostNote}
 use Rattle.ncp_transcript.specs.After.{after_notes}
-use Rattle.ncp_proof_runs.specs.Peers.{FromBeginning, notes_of_peer, is_this_number, called_for, bits_for, out_for, note_for, notes_for}
+use Rattle.ncp_proof_runs.specs.Peers.{FromBeginning, notes_of_peer, is_this_number, state_asked, bits_for, out_for, note_for, notes_for}
 use Rattle.ncp_proof_runs.specs.Links.{LinkSoFar, nothing_told, takes_fresh, goes_fresh, link_of_leader, told_by, slot_of_answer, fresh_by, fresh_from, fresh_on}
-use Rattle.ncp_proof_runs.specs.Making.{Made, reset_asked, made_sent, all_made_in, settling_made, by_pair_call, by_echo, by_reset, by_call, by_command, by_commands, by_fault, by_control, by_text, by_message, by_bits, by_freeing, by_answer, by_answered, by_out, made_by_note, made_from, nothing_made, made_of, is_up_told, message_of, joined}
+use Rattle.ncp_proof_runs.specs.Making.{Made, reset_asked, made_sent, all_made_in, settling_made, by_pair_call, by_echo, by_reset, by_asked, by_command, by_commands, by_fault, by_control, by_text, by_message, by_bits, by_freeing, by_answer, by_answered, by_out, made_by_note, made_from, nothing_made, made_of, is_up_told, message_of, joined}
 use Rattle.ncp_proof_runs.proofs.Said.{IsOut, IsSaidOf, IsRunOf}
 use Rattle.ncp_proof_runs.proofs.EachPeer.{each_peer}
 use Rattle.ncp_proof_runs.proofs.LinksTold.{Tells, ready-is, out-free, note-tells, new-tells}
@@ -72,26 +73,12 @@ module _ (g : List Command) where
           subst (λ (b : Bool). Agrees (settling_made (is_quiet s.slots) (wants_reset s.peer.phase) (reset_asked l)) (if b then s.peer.phase else phase_settles (is_quiet s.slots) (wants_reset s.peer.phase)) g) (sym e)
           (asked-agrees g (is_quiet s.slots) s.peer.phase l a)
 
-  call-agrees : (call : Call) (s : PeerState) (l : Made) → Agrees l s.peer.phase g → Agrees (by_call call s l) (called_for call s).peer.phase g
-  call-agrees (Call.Reset peer) s l a = reset-call s l a
-  call-agrees (Call.AskSend peer local remote size room) s l a = pair-call (sockets local remote) (Ask_to_send size room) s l a
-  call-agrees (Call.AskReceive peer local remote room) s l a = pair-call (sockets local remote) (Ask_to_receive room) s l a
-  call-agrees (Call.Give peer pair text) s l a = pair-call pair (Give text) s l a
-  call-agrees (Call.Take peer pair bytes) s l a = pair-call pair (Take bytes) s l a
-  call-agrees (Call.Allocate peer pair messages bits) s l a = pair-call pair (Allocate messages bits) s l a
-  call-agrees (Call.CallBack peer pair fm fb) s l a = pair-call pair (Call_back fm fb) s l a
-  call-agrees (Call.Interrupt peer pair) s l a = pair-call pair Interrupt s l a
-  call-agrees (Call.Echo peer byte) s l a = echo-call byte s l a
-  call-agrees (Call.Close peer pair) s l a = pair-call pair Close s l a
-  call-agrees (Call.Wake peer) s l a = a
-  call-agrees (Call.State peer pair) s l a = a
-  call-agrees (Call.Phase peer) s l a = a
-  call-agrees (Call.Echoed peer) s l a = a
-  call-agrees (Call.Errors peer) s l a = a
-  call-agrees (Call.Counts peer) s l a = a
-  call-agrees (Call.Waiting peer place) s l a = a
-  call-agrees (Call.Kept peer link) s l a = a
-  call-agrees Call.Ignored s l a = a
+  call-agrees : (asked : Option (ℕ × Asked)) (s : PeerState) (l : Made) → Agrees l s.peer.phase g → Agrees (by_asked asked s l) (state_asked asked s).peer.phase g
+  call-agrees None s l a = a
+  call-agrees (Some (peer, Asks pair call)) s l a = pair-call pair call s l a
+  call-agrees (Some (peer, Asks_echo byte)) s l a = echo-call byte s l a
+  call-agrees (Some (peer, Asks_reset)) s l a = reset-call s l a
+  call-agrees (Some (peer, Asks_wake)) s l a = a
 
   commands-agree : (cs : List Command) (s : PeerState) (l : Made) → Agrees l s.peer.phase g → Agrees (by_commands cs s l) (state_hears_all cs s).peer.phase g
   commands-agree [] s l a = a
@@ -211,21 +198,12 @@ module _ (n : ℕ) (message : List Bool) (s : PeerState) (t : LinkSoFar) (l : Ma
 
 note-went : (n : ℕ) (note : HostNote) (s : PeerState) (t : LinkSoFar) (l : Made) (g : List Command) → IsSaidOf n note s → Tells control_link s t → Agrees l s.peer.phase g
     → Went n (fresh_by control_link note t) (made_by_note note s t l) (note_for note s).peer.phase g
-note-went n (HostNote.Refused call fault) s t l g p e a = none-went n l s.peer.phase g a
-note-went n (HostNote.Done call) s t l g p e a = none-went n (by_call call s l) (called_for call s).peer.phase g (call-agrees g call s l a)
+note-went n (HostNote.Done call) s t l g p e a = none-went n (by_asked (asked_in call) s l) (state_asked (asked_in call) s).peer.phase g (call-agrees g (asked_in call) s l a)
 note-went n (HostNote.Took peer pair bytes text) s t l g p e a = none-went n (by_pair_call pair (Take bytes) s l) (calls pair (Take bytes) s.peer).phase g (pair-call g pair (Take bytes) s l a)
-note-went n (HostNote.State peer pair r) s t l g p e a = none-went n l s.peer.phase g a
-note-went n (HostNote.Phase peer flags) s t l g p e a = none-went n l s.peer.phase g a
-note-went n (HostNote.Echoed peer byte) s t l g p e a = none-went n l s.peer.phase g a
-note-went n (HostNote.Errors peer errors) s t l g p e a = none-went n l s.peer.phase g a
-note-went n (HostNote.Counts peer counts) s t l g p e a = none-went n l s.peer.phase g a
-note-went n (HostNote.Waiting peer place command) s t l g p e a = none-went n l s.peer.phase g a
-note-went n (HostNote.Kept peer link message) s t l g p e a = none-went n l s.peer.phase g a
-note-went n (HostNote.Ignored ignored) s t l g p e a = none-went n l s.peer.phase g a
 note-went n (HostNote.Out message) s t l g p e a = out-went n message s t l g e a p
-note-went n HostNote.Nothing s t l g p e a = none-went n l s.peer.phase g a
 note-went n (HostNote.In message told) s t l g p e a = none-went n (by_bits (leader_in message) message s l) (bits_for (leader_in message) message s).peer.phase g (bits-agree g (leader_in message) message s l a)
 note-went n (HostNote.Answered peer link how told) s t l g p e a = none-went n (by_answered link how s l) (answer_comes link how s).peer.phase g (answered-agrees g link how s l a)
+note-went n other s t l g p e a = none-went n l s.peer.phase g a
 
 joined-append : (xs ys : List (List Command)) → joined (xs ++ ys) ≡ joined xs ++ joined ys
 joined-append [] ys = refl

@@ -18,9 +18,10 @@ use Rattle.ncp_host.specs.declared.received.Received.{Received}
 use Rattle.ncp_host.specs.PeerState.{PeerState, new_state, is_answered, answer_taken, answer_comes}
 use Rattle.ncp_host.specs.Hearing.{answer_received}
 use Rattle.ncp_host.specs.Output.{made_on, output_by, output_on}
+use Rattle.ncp_transcript.specs.Asked.{asked_in}
 use Rattle.ncp_transcript.specs.declared.call.Call.{Call}
 use Rattle.ncp_transcript.specs.declared.note.HostNote.{HostNote}
-use Rattle.ncp_proof_runs.specs.Peers.{is_this_number, called_for, bits_for, out_for, note_for, notes_for}
+use Rattle.ncp_proof_runs.specs.Peers.{is_this_number, state_asked, bits_for, out_for, note_for, notes_for}
 use Rattle.ncp_proof_runs.specs.Links.{LinkSoFar, nothing_told, takes_fresh, goes_fresh, link_went_out, was_answered, was_woken, link_of_leader, told_by, link_told_from, slot_of_answer, slot_so_far, received_told, ready_after, ready_told}
 use Rattle.ncp_proof_runs.proofs.Said.{IsOut, IsSaidOf, IsRunOf}
 use Rattle.ncp_proof_runs.proofs.PeerRuns.{message-slots}
@@ -170,43 +171,16 @@ bits-tells : (on : ℕ) (r : Result Leader Short) (bits : List Bool) (s : PeerSt
 bits-tells on (Err short) bits s t e = e
 bits-tells on (Ok leader) bits s t e = ap (λ (x : LinkSlots). slot_at x on) (message-slots leader.link bits (message_in bits) s) ∙ e
 
-called-tells : (on : ℕ) (call : Call) (s : PeerState) (t : LinkSoFar) → Tells on s t → Tells on (called_for call s) (told_by on (HostNote.Done call) t)
-called-tells on (Call.Reset peer) s t e = e
-called-tells on (Call.AskSend peer local remote size room) s t e = e
-called-tells on (Call.AskReceive peer local remote room) s t e = e
-called-tells on (Call.Give peer pair text) s t e = e
-called-tells on (Call.Take peer pair bytes) s t e = e
-called-tells on (Call.Allocate peer pair messages bits) s t e = e
-called-tells on (Call.CallBack peer pair fm fb) s t e = e
-called-tells on (Call.Interrupt peer pair) s t e = e
-called-tells on (Call.Echo peer byte) s t e = e
-called-tells on (Call.Close peer pair) s t e = e
+called-tells : (on : ℕ) (call : Call) (s : PeerState) (t : LinkSoFar) → Tells on s t → Tells on (state_asked (asked_in call) s) (told_by on (HostNote.Done call) t)
 called-tells on (Call.Wake peer) s t e = wake-tells on s t e
-called-tells on (Call.State peer pair) s t e = e
-called-tells on (Call.Phase peer) s t e = e
-called-tells on (Call.Echoed peer) s t e = e
-called-tells on (Call.Errors peer) s t e = e
-called-tells on (Call.Counts peer) s t e = e
-called-tells on (Call.Waiting peer place) s t e = e
-called-tells on (Call.Kept peer link) s t e = e
-called-tells on Call.Ignored s t e = e
+called-tells on call s t e = e
 
 pub note-tells : (n on : ℕ) (note : HostNote) (s : PeerState) (t : LinkSoFar) → IsSaidOf n note s → Tells on s t → Tells on (note_for note s) (told_by on note t)
-note-tells n on (HostNote.Refused call fault) s t p e = e
 note-tells n on (HostNote.Done call) s t p e = called-tells on call s t e
-note-tells n on (HostNote.Took peer pair bytes text) s t p e = e
-note-tells n on (HostNote.State peer pair r) s t p e = e
-note-tells n on (HostNote.Phase peer flags) s t p e = e
-note-tells n on (HostNote.Echoed peer byte) s t p e = e
-note-tells n on (HostNote.Errors peer errors) s t p e = e
-note-tells n on (HostNote.Counts peer counts) s t p e = e
-note-tells n on (HostNote.Waiting peer place command) s t p e = e
-note-tells n on (HostNote.Kept peer link message) s t p e = e
-note-tells n on (HostNote.Ignored ignored) s t p e = e
 note-tells n on (HostNote.Out message) s t p e = out-tells n on message s t p e
-note-tells n on HostNote.Nothing s t p e = e
 note-tells n on (HostNote.In message received) s t p e = bits-tells on (leader_in message) message s t e
 note-tells n on (HostNote.Answered peer link how received) s t p e = answer-tells on link how s t e
+note-tells n on other s t p e = e
 
 pub run-tells : (n on : ℕ) (all : List HostNote) (s : PeerState) (t : LinkSoFar) → IsRunOf n all s → Tells on s t → Tells on (notes_for all s) (link_told_from on all t)
 run-tells n on [] s t p e = e

@@ -21,9 +21,9 @@ use Rattle.ncp_host.specs.Counting.{one_more}
 use Rattle.ncp_host.specs.PeerState.{PeerState, control_link, is_answered, answer_taken, answer_comes}
 use Rattle.ncp_host.specs.Hearing.{is_wrong_link, control_size, state_after_control, state_after_text, state_hears, state_hears_all, hears_last, message_after}
 use Rattle.ncp_host.specs.Output.{leader_to}
-use Rattle.ncp_transcript.specs.declared.call.Call.{Call}
+use Rattle.ncp_transcript.specs.Asked.{asked_in, Asked, Asks, Asks_echo, Asks_reset, Asks_wake}
 use Rattle.ncp_transcript.specs.declared.note.HostNote.{HostNote}
-use Rattle.ncp_proof_runs.specs.Peers.{called_for, bits_for, out_for, note_for}
+use Rattle.ncp_proof_runs.specs.Peers.{state_asked, bits_for, out_for, note_for}
 use Rattle.ncp_proof_runs.proofs.Said.{IsOut, IsSaidOf}
 use Rattle.ncp_proof_runs.proofs.Ready.{Addressed}
 
@@ -92,26 +92,12 @@ addressed-answer n on how s a = go (is_answered on s)
 addressed-same : (n : ℕ) (s t : PeerState) → t.slots ≡ s.slots → Addressed n s → Addressed n t
 addressed-same n s t is a on message e = a on message (sym (ap (λ (x : LinkSlots). kept_message (slot_at x on)) is) ∙ e)
 
-addressed-called : (n : ℕ) (call : Call) (s : PeerState) → Addressed n s → Addressed n (called_for call s)
-addressed-called n (Call.Reset peer) s a = a
-addressed-called n (Call.AskSend peer local remote size room) s a = a
-addressed-called n (Call.AskReceive peer local remote room) s a = a
-addressed-called n (Call.Give peer pair text) s a = a
-addressed-called n (Call.Take peer pair bytes) s a = a
-addressed-called n (Call.Allocate peer pair messages bits) s a = a
-addressed-called n (Call.CallBack peer pair fm fb) s a = a
-addressed-called n (Call.Interrupt peer pair) s a = a
-addressed-called n (Call.Echo peer byte) s a = a
-addressed-called n (Call.Close peer pair) s a = a
-addressed-called n (Call.Wake peer) s a = λ on message e. a on message (kept-woken (slot_at s.slots on) message (sym (ap kept_message (slot_at-all_woken s.slots on)) ∙ e))
-addressed-called n (Call.State peer pair) s a = a
-addressed-called n (Call.Phase peer) s a = a
-addressed-called n (Call.Echoed peer) s a = a
-addressed-called n (Call.Errors peer) s a = a
-addressed-called n (Call.Counts peer) s a = a
-addressed-called n (Call.Waiting peer place) s a = a
-addressed-called n (Call.Kept peer link) s a = a
-addressed-called n Call.Ignored s a = a
+addressed-called : (n : ℕ) (asked : Option (ℕ × Asked)) (s : PeerState) → Addressed n s → Addressed n (state_asked asked s)
+addressed-called n None s a = a
+addressed-called n (Some (peer, Asks pair call)) s a = a
+addressed-called n (Some (peer, Asks_echo byte)) s a = a
+addressed-called n (Some (peer, Asks_reset)) s a = a
+addressed-called n (Some (peer, Asks_wake)) s a = λ on message e. a on message (kept-woken (slot_at s.slots on) message (sym (ap kept_message (slot_at-all_woken s.slots on)) ∙ e))
 
 addressed-out : (n : ℕ) (message : List Bool) (s : PeerState) → IsOut n message s → Addressed n s → Addressed n (out_for (leader_in message) message s)
 addressed-out n message s p a =
@@ -123,18 +109,8 @@ addressed-in n (Err short) bits s a = a
 addressed-in n (Ok leader) bits s a = addressed-same n s (message_after leader.link bits (message_in bits) s) (message-slots leader.link bits (message_in bits) s) a
 
 pub addressed-after : (n : ℕ) (note : HostNote) (s : PeerState) → IsSaidOf n note s → Addressed n s → Addressed n (note_for note s)
-addressed-after n (HostNote.Refused call fault) s p a = a
-addressed-after n (HostNote.Done call) s p a = addressed-called n call s a
-addressed-after n (HostNote.Took peer pair bytes text) s p a = a
-addressed-after n (HostNote.State peer pair r) s p a = a
-addressed-after n (HostNote.Phase peer flags) s p a = a
-addressed-after n (HostNote.Echoed peer byte) s p a = a
-addressed-after n (HostNote.Errors peer errors) s p a = a
-addressed-after n (HostNote.Counts peer counts) s p a = a
-addressed-after n (HostNote.Waiting peer place command) s p a = a
-addressed-after n (HostNote.Kept peer link message) s p a = a
-addressed-after n (HostNote.Ignored ignored) s p a = a
+addressed-after n (HostNote.Done call) s p a = addressed-called n (asked_in call) s a
 addressed-after n (HostNote.Out message) s p a = addressed-out n message s p a
-addressed-after n HostNote.Nothing s p a = a
 addressed-after n (HostNote.In message received) s p a = addressed-in n (leader_in message) message s a
 addressed-after n (HostNote.Answered peer link how received) s p a = addressed-answer n link how s a
+addressed-after n other s p a = a

@@ -1,20 +1,19 @@
 -- What the notes of a peer say of what is kept for it before each: a message that goes out to it is the one
 -- that is ready on the link of its leader, and what comes from it and what is taken is answered by the rules.
-use Rattle.std.proofs.Common.{◌≡◌, ℕ, Bool, true, List, [], ◌∷◌, Some, Result, Ok, Err}
+use Rattle.std.proofs.Common.{◌≡◌, ℕ, Bool, true, List, [], ◌∷◌, Some, Result, Ok, Err, None, Option}
 use Rattle.ncp_leader.specs.declared.leader.Leader.{Leader}
 use Rattle.ncp_leader.specs.declared.leader.Short.{Short}
 use Rattle.ncp_leader.specs.Leader.{leader_in}
 use Rattle.ncp_leader.specs.Message.{message_in}
-use Rattle.ncp_model.specs.Peers.{Take, comes_of, reply_of_take, reply_of_echo}
-use Rattle.ncp_model.specs.Phase.{reset_answer}
+use Rattle.ncp_model.specs.Peers.{Take, comes_of, reply_of_take}
 use Rattle.ncp_host.specs.declared.received.Received.{Received}
 use Rattle.ncp_host.specs.PeerState.{PeerState}
 use Rattle.ncp_host.specs.Hearing.{message_received, answer_received}
 use Rattle.ncp_host.specs.Output.{leader_to, links, output_on}
 use Rattle.ncp_host.specs.Host.{is_one_of}
-use Rattle.ncp_transcript.specs.declared.call.Call.{Call}
 use Rattle.ncp_transcript.specs.declared.note.HostNote.{HostNote}
 use Rattle.ncp_proof_runs.specs.Peers.{note_for}
+use Rattle.ncp_transcript.specs.Asked.{Asked, asked_in, reply_to, as_done}
 
 pub record IsOut (n : ℕ) (message : List Bool) (s : PeerState) : Type 0 where
   pub on : ℕ
@@ -26,14 +25,13 @@ abbrev pub IsIn : Result Leader Short → List Bool → Received → PeerState �
 IsIn (Err short) bits told s = ⊥
 IsIn (Ok leader) bits told s = told ≡ message_received leader.link (message_in bits) s
 
--- a reset that was done was not refused, and neither was an echo
-abbrev pub IsDone : Call → PeerState → Type 0
-IsDone (Call.Reset peer) s = reset_answer s.peer.phase ≡ Ok tt
-IsDone (Call.Echo peer byte) s = reply_of_echo byte s.peer ≡ Ok tt
-IsDone call s = Unit {0}
+-- what was done was not refused
+abbrev pub IsDone : Option (ℕ × Asked) → PeerState → Type 0
+IsDone None s = Unit {0}
+IsDone (Some (peer, asked)) s = as_done (reply_to asked s) ≡ Ok tt
 
 abbrev pub IsSaidOf : ℕ → HostNote → PeerState → Type 0
-IsSaidOf n (HostNote.Done call) s = IsDone call s
+IsSaidOf n (HostNote.Done call) s = IsDone (asked_in call) s
 IsSaidOf n (HostNote.Took peer pair bytes text) s = reply_of_take (comes_of pair (Take bytes) s.peer) ≡ Ok text
 IsSaidOf n (HostNote.Out message) s = IsOut n message s
 IsSaidOf n (HostNote.In message told) s = IsIn (leader_in message) message told s

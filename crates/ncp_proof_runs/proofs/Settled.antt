@@ -25,17 +25,16 @@ use Rattle.ncp_model.specs.Ends.{text_in}
 use Rattle.ncp_model.specs.Echo.{echo_answer}
 use Rattle.ncp_model.specs.Sending.{is_full}
 use Rattle.ncp_model.specs.Phase.{Phase, Reaction, up, is_rst, is_rrp, is_other, is_resetting, has_place, wants_reset, owes_answer, goes_down, queued, phase_answers, phase_asks, makes_all, phase_hears, phase_makes, phase_settles, resets}
-use Rattle.ncp_model.specs.Peers.{Peer, Ask_to_send, Ask_to_receive, Close, Give, Take, Allocate, Call_back, Interrupt, happened_at, PairCall, calls_reset, calls_up, cleared, cuts, echo_called, hears, hears_other, makes, peer_sends, reaction, takes_text}
+use Rattle.ncp_model.specs.Peers.{Peer, Take, happened_at, PairCall, calls_reset, calls_up, cleared, cuts, echo_called, hears, hears_other, makes, peer_sends, reaction, takes_text}
 use Rattle.ncp_host.specs.Counting.{one_more}
 use Rattle.ncp_host.specs.PeerState.{PeerState, new_state, state_calls, control_link, frees_on, is_answered, answer_taken, answer_comes}
 use Rattle.ncp_host.specs.Hearing.{control_size, state_after_control, state_after_text, is_wrong_link, state_hears, state_hears_all, hears_last, message_after}
 use Rattle.ncp_host.specs.Output.{after_by}
 use Rattle.ncp_host.specs.Host.{state_of, is_one_of, new_host}
-use Rattle.ncp_host.specs.Calls.{sockets}
-use Rattle.ncp_transcript.specs.declared.call.Call.{Call}
+use Rattle.ncp_transcript.specs.Asked.{asked_in, Asked, Asks, Asks_echo, Asks_reset, Asks_wake}
 use Rattle.ncp_transcript.specs.declared.note.HostNote.{HostNote}
 use Rattle.ncp_transcript.specs.After.{after_notes}
-use Rattle.ncp_proof_runs.specs.Peers.{FromBeginning, notes_of_peer, called_for, bits_for, out_for, note_for, notes_for}
+use Rattle.ncp_proof_runs.specs.Peers.{FromBeginning, notes_of_peer, state_asked, bits_for, out_for, note_for, notes_for}
 use Rattle.ncp_proof_runs.specs.Links.{told_on, is_quiet_told}
 use Rattle.ncp_proof_runs.specs.Making.{made_of}
 use Rattle.ncp_proof_runs.proofs.EachPeer.{each_peer}
@@ -148,26 +147,12 @@ woken-quiet slots = was-quiet slots (all_woken slots) (λ link e. was (slot_at s
 pair-settled : (pair : Pair) (call : PairCall) (s : PeerState) → Settled s → Settled (state_calls pair call s)
 pair-settled pair call s k = λ q. up-clear (happened_at pair call s.peer).made s.peer (calls_up pair call s.peer) refl (k q)
 
-called-settled : (call : Call) (s : PeerState) → Settled s → Settled (called_for call s)
-called-settled (Call.Reset peer) s k = λ q. reset-clear (is_quiet s.slots) s.peer (k q) q
-called-settled (Call.AskSend peer local remote size room) s k = pair-settled (sockets local remote) (Ask_to_send size room) s k
-called-settled (Call.AskReceive peer local remote room) s k = pair-settled (sockets local remote) (Ask_to_receive room) s k
-called-settled (Call.Give peer pair text) s k = pair-settled pair (Give text) s k
-called-settled (Call.Take peer pair bytes) s k = pair-settled pair (Take bytes) s k
-called-settled (Call.Allocate peer pair messages bits) s k = pair-settled pair (Allocate messages bits) s k
-called-settled (Call.CallBack peer pair fm fb) s k = pair-settled pair (Call_back fm fb) s k
-called-settled (Call.Interrupt peer pair) s k = pair-settled pair Interrupt s k
-called-settled (Call.Echo peer byte) s k = λ q. up-clear (made_by_call (echo_answer byte (is_full s.peer.phase) s.peer.echoes)) s.peer (echo_called byte s.peer) refl (k q)
-called-settled (Call.Close peer pair) s k = pair-settled pair Close s k
-called-settled (Call.Wake peer) s k = λ q. k (woken-quiet s.slots q)
-called-settled (Call.State peer pair) s k = k
-called-settled (Call.Phase peer) s k = k
-called-settled (Call.Echoed peer) s k = k
-called-settled (Call.Errors peer) s k = k
-called-settled (Call.Counts peer) s k = k
-called-settled (Call.Waiting peer place) s k = k
-called-settled (Call.Kept peer link) s k = k
-called-settled Call.Ignored s k = k
+called-settled : (asked : Option (ℕ × Asked)) (s : PeerState) → Settled s → Settled (state_asked asked s)
+called-settled None s k = k
+called-settled (Some (peer, Asks pair call)) s k = pair-settled pair call s k
+called-settled (Some (peer, Asks_echo byte)) s k = λ q. up-clear (made_by_call (echo_answer byte (is_full s.peer.phase) s.peer.echoes)) s.peer (echo_called byte s.peer) refl (k q)
+called-settled (Some (peer, Asks_reset)) s k = λ q. reset-clear (is_quiet s.slots) s.peer (k q) q
+called-settled (Some (peer, Asks_wake)) s k = λ q. k (woken-quiet s.slots q)
 
 heard-settled : (cs : List Command) (s : PeerState) → Settled s → Settled (state_hears_all cs s)
 heard-settled [] s k = k
@@ -233,21 +218,12 @@ out-settled (Ok leader) message s k = λ q. by (slot_at s.slots leader.link) (k 
     by (Held m) c = c
 
 note-settled : (note : HostNote) (s : PeerState) → Settled s → Settled (note_for note s)
-note-settled (HostNote.Refused call fault) s k = k
-note-settled (HostNote.Done call) s k = called-settled call s k
+note-settled (HostNote.Done call) s k = called-settled (asked_in call) s k
 note-settled (HostNote.Took peer pair bytes text) s k = pair-settled pair (Take bytes) s k
-note-settled (HostNote.State peer pair r) s k = k
-note-settled (HostNote.Phase peer flags) s k = k
-note-settled (HostNote.Echoed peer byte) s k = k
-note-settled (HostNote.Errors peer errors) s k = k
-note-settled (HostNote.Counts peer counts) s k = k
-note-settled (HostNote.Waiting peer place command) s k = k
-note-settled (HostNote.Kept peer link message) s k = k
-note-settled (HostNote.Ignored ignored) s k = k
 note-settled (HostNote.Out message) s k = out-settled (leader_in message) message s k
-note-settled HostNote.Nothing s k = k
 note-settled (HostNote.In message received) s k = bits-settled (leader_in message) message s k
 note-settled (HostNote.Answered peer link how received) s k = answer-settled link how s k
+note-settled other s k = k
 
 run-settled : (all : List HostNote) (s : PeerState) → Settled s → Settled (notes_for all s)
 run-settled [] s k = k

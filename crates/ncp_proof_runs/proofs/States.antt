@@ -9,10 +9,11 @@ use Rattle.ncp_host.specs.Output.{next_of, after_output}
 use Rattle.ncp_host.specs.Host.{Host, state_in, state_of, at_peer, changed, numbers_of, is_one_of, are_distinct}
 use Rattle.ncp_host.specs.Arrivals.{one_other, after_with, after_hearing, after_from}
 use Rattle.ncp_host.specs.Turns.{message_in_turn, after_turn, first_message, first_goes}
+use Rattle.ncp_transcript.specs.Asked.{asked_in, Asked, state_after_asked, host_after_asked, peer_of_call, peer_asked}
 use Rattle.ncp_transcript.specs.declared.call.Call.{Call}
 use Rattle.ncp_transcript.specs.After.{after_call}
 use Rattle.ncp_transcript.specs.Noting.{is_answer, if_peer, answer_with}
-use Rattle.ncp_proof_runs.specs.Peers.{peer_of_call, peer_of_leader, is_this_number, called_for, bits_for}
+use Rattle.ncp_proof_runs.specs.Peers.{peer_of_leader, is_this_number, state_asked, bits_for}
 
 -- a peer's state, where the host has the peer, after what happened if it did
 abbrev pub done : Bool → (PeerState → PeerState) → Option PeerState → Option PeerState
@@ -57,26 +58,23 @@ at_peer-state (p ∷ ps) k n f = go (p.0 == k) (p.0 == n) refl refl (at_peer-sta
 pub changed-state : (h : Host) (k n : ℕ) (f : PeerState → PeerState) → state_of (changed k f h) n ≡ done (k == n) f (state_of h n)
 changed-state h k n f = at_peer-state h.peers k n f
 
-pub called-state : (call : Call) (h : Host) (n : ℕ) → state_of (after_call call h) n ≡ done (is_this_number n (peer_of_call call)) (called_for call) (state_of h n)
-called-state (Call.Reset peer) h n = changed-state h peer n _
-called-state (Call.AskSend peer local remote size room) h n = changed-state h peer n _
-called-state (Call.AskReceive peer local remote room) h n = changed-state h peer n _
-called-state (Call.Give peer pair text) h n = changed-state h peer n _
-called-state (Call.Take peer pair bytes) h n = changed-state h peer n _
-called-state (Call.Allocate peer pair messages bits) h n = changed-state h peer n _
-called-state (Call.CallBack peer pair fm fb) h n = changed-state h peer n _
-called-state (Call.Interrupt peer pair) h n = changed-state h peer n _
-called-state (Call.Echo peer byte) h n = changed-state h peer n _
-called-state (Call.Close peer pair) h n = changed-state h peer n _
-called-state (Call.Wake peer) h n = changed-state h peer n _
-called-state (Call.State peer pair) h n = done_nothing _ (state_of h n)
-called-state (Call.Phase peer) h n = done_nothing _ (state_of h n)
-called-state (Call.Echoed peer) h n = done_nothing _ (state_of h n)
-called-state (Call.Errors peer) h n = done_nothing _ (state_of h n)
-called-state (Call.Counts peer) h n = done_nothing _ (state_of h n)
-called-state (Call.Waiting peer place) h n = done_nothing _ (state_of h n)
-called-state (Call.Kept peer link) h n = done_nothing _ (state_of h n)
-called-state Call.Ignored h n = done_not (λ s. s) (state_of h n)
+-- a call of which something is asked names the peer of whom it is asked
+pub asked-peer : (call : Call) (peer : ℕ) (asked : Asked) → asked_in call ≡ Some (peer, asked) → peer_of_call call ≡ Some peer
+asked-peer (Call.State peer pair) n asked e = absurd (cc)
+asked-peer (Call.Phase peer) n asked e = absurd (cc)
+asked-peer (Call.Echoed peer) n asked e = absurd (cc)
+asked-peer (Call.Errors peer) n asked e = absurd (cc)
+asked-peer (Call.Counts peer) n asked e = absurd (cc)
+asked-peer (Call.Waiting peer place) n asked e = absurd (cc)
+asked-peer (Call.Kept peer link) n asked e = absurd (cc)
+asked-peer call n asked e = ap peer_asked e
+
+pub called-state : (call : Call) (h : Host) (n : ℕ) → state_of (after_call call h) n ≡ done (is_this_number n (peer_of_call call)) (state_asked (asked_in call)) (state_of h n)
+called-state call h n = go (asked_in call) refl
+  where
+    go : (a : Option (ℕ × Asked)) → asked_in call ≡ a → state_of (host_after_asked a h) n ≡ done (is_this_number n (peer_of_call call)) (state_asked a) (state_of h n)
+    go None e = done_nothing _ (state_of h n)
+    go (Some (peer, asked)) e = changed-state h peer n (state_after_asked asked) ∙ ap (λ (o : Option ℕ). done (is_this_number n o) (state_after_asked asked) (state_of h n)) (sym (asked-peer call peer asked e))
 
 -- The order of turns.
 

@@ -30,12 +30,11 @@ use Rattle.ncp_model.specs.Happenings.{Happening, Outcome, Happened, Accepted, T
 use Rattle.ncp_model.specs.Leading.{suits, comes}
 use Rattle.ncp_model.specs.Phase.{Phase, up, is_resetting}
 use Rattle.ncp_model.specs.Sending.{is_full}
-use Rattle.ncp_model.specs.Peers.{Peer, Ask_to_send, Ask_to_receive, Close, Give, Take, Allocate, Call_back, Interrupt, called, PairCall, calls_up, echo_called, frees_up, hears_fault, hears_other, takes_text}
+use Rattle.ncp_model.specs.Peers.{Peer, Take, called, PairCall, calls_up, echo_called, frees_up, hears_fault, hears_other, takes_text}
 use Rattle.ncp_host.specs.PeerState.{PeerState, new_state, control_link, is_answered}
 use Rattle.ncp_host.specs.Hearing.{control_size, is_wrong_link, state_hears, state_hears_all}
-use Rattle.ncp_host.specs.Calls.{sockets}
-use Rattle.ncp_transcript.specs.declared.call.Call.{Call}
 use Rattle.ncp_transcript.specs.declared.note.HostNote.{HostNote}
+use Rattle.ncp_transcript.specs.Asked.{Asked, Asks, Asks_echo, Asks_reset, asked_in}
 use Rattle.ncp_proof_runs.specs.Peers.{note_for}
 
 -- what was done or came, how it was answered, and the commands that it made
@@ -74,18 +73,11 @@ acts_echoed byte s = if up s.peer.phase then gone_down (echo_called byte s.peer)
 abbrev pub acts_reset : PeerState → List Acted
 acts_reset s = if is_resetting s.peer.phase then [] else was_cleared ∷ []
 
-abbrev pub acts_of_call : Pair → Call → PeerState → List Acted
-acts_of_call pair (Call.Reset peer) s = acts_reset s
-acts_of_call pair (Call.AskSend peer local remote size room) s = acts_called pair (sockets local remote) (Ask_to_send size room) s
-acts_of_call pair (Call.AskReceive peer local remote room) s = acts_called pair (sockets local remote) (Ask_to_receive room) s
-acts_of_call pair (Call.Give peer p text) s = acts_called pair p (Give text) s
-acts_of_call pair (Call.Take peer p bytes) s = acts_called pair p (Take bytes) s
-acts_of_call pair (Call.Allocate peer p messages bits) s = acts_called pair p (Allocate messages bits) s
-acts_of_call pair (Call.CallBack peer p fm fb) s = acts_called pair p (Call_back fm fb) s
-acts_of_call pair (Call.Interrupt peer p) s = acts_called pair p Interrupt s
-acts_of_call pair (Call.Echo peer byte) s = acts_echoed byte s
-acts_of_call pair (Call.Close peer p) s = acts_called pair p Close s
-acts_of_call pair other s = []
+abbrev pub acts_asked : Pair → Option (ℕ × Asked) → PeerState → List Acted
+acts_asked pair (Some (peer, Asks p call)) s = acts_called pair p call s
+acts_asked pair (Some (peer, Asks_echo byte)) s = acts_echoed byte s
+acts_asked pair (Some (peer, Asks_reset)) s = acts_reset s
+acts_asked pair other s = []
 
 -- By each command that comes, and by the fault of a control text. An RST clears.
 
@@ -161,7 +153,7 @@ acts_answered pair on how s = if is_answered on s then acts_of_answer pair on ho
 -- By each note, the first note first.
 
 abbrev pub acts_by : Pair → HostNote → PeerState → List Acted
-acts_by pair (HostNote.Done call) s = acts_of_call pair call s
+acts_by pair (HostNote.Done call) s = acts_asked pair (asked_in call) s
 acts_by pair (HostNote.Took peer p bytes text) s = acts_called pair p (Take bytes) s
 acts_by pair (HostNote.Out message) s = acts_of_out pair (leader_in message) s
 acts_by pair (HostNote.In message told) s = acts_of_bits pair (leader_in message) message s

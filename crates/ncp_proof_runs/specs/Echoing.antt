@@ -16,8 +16,8 @@ use Rattle.ncp_model.specs.Phase.{Phase, up}
 use Rattle.ncp_host.specs.declared.received.Received.{Received}
 use Rattle.ncp_host.specs.PeerState.{PeerState, new_state}
 use Rattle.ncp_host.specs.Hearing.{state_hears, state_hears_all}
-use Rattle.ncp_transcript.specs.declared.call.Call.{Call}
 use Rattle.ncp_transcript.specs.declared.note.HostNote.{HostNote}
+use Rattle.ncp_transcript.specs.Asked.{Asked, Asks_echo, Asks_reset, asked_in}
 use Rattle.ncp_proof_runs.specs.Peers.{note_for}
 
 -- what was noted so far
@@ -49,10 +49,10 @@ while_up before after t = if up before then (if up after then t else echo_cleare
 
 -- By each call that was done.
 
-abbrev pub echo_done : Call → EchoHistory → EchoHistory
-echo_done (Call.Reset peer) t = echo_cleared t
-echo_done (Call.Echo peer byte) t = echo_accepted t
-echo_done call t = t
+abbrev pub echo_done : Option (ℕ × Asked) → EchoHistory → EchoHistory
+echo_done (Some (peer, Asks_echo byte)) t = echo_accepted t
+echo_done (Some (peer, Asks_reset)) t = echo_cleared t
+echo_done other t = t
 
 -- By each command that comes, to a host that is up or not. An RST clears.
 
@@ -80,7 +80,7 @@ abbrev pub commands_in_message : List Bool → List Command
 commands_in_message message = commands_read (message_in message)
 
 abbrev pub echo_noted : HostNote → EchoHistory → EchoHistory
-echo_noted (HostNote.Done call) t = echo_done call t
+echo_noted (HostNote.Done call) t = echo_done (asked_in call) t
 echo_noted note t = t
 
 abbrev pub echo_by : HostNote → PeerState → EchoHistory → EchoHistory

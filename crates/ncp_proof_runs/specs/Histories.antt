@@ -20,13 +20,12 @@ use Rattle.ncp_model.specs.Happenings.{Happening, Happened, Text_comes, happens}
 use Rattle.ncp_model.specs.Leading.{comes}
 use Rattle.ncp_model.specs.Phase.{up}
 use Rattle.ncp_model.specs.Sending.{is_full}
-use Rattle.ncp_model.specs.Peers.{Ask_to_send, Ask_to_receive, Close, Give, Take, Allocate, Call_back, Interrupt, called, PairCall}
+use Rattle.ncp_model.specs.Peers.{Take, called, PairCall}
 use Rattle.ncp_proof_watch.specs.Histories.{Past, no_past, adds, opens}
 use Rattle.ncp_host.specs.PeerState.{PeerState, new_state, control_link}
 use Rattle.ncp_host.specs.Hearing.{control_size, is_wrong_link, state_hears}
-use Rattle.ncp_host.specs.Calls.{sockets}
-use Rattle.ncp_transcript.specs.declared.call.Call.{Call}
 use Rattle.ncp_transcript.specs.declared.note.HostNote.{HostNote}
+use Rattle.ncp_transcript.specs.Asked.{Asked, Asks, asked_in}
 use Rattle.ncp_proof_runs.specs.Peers.{note_for}
 
 -- something happened to a pair: it begins anew where the connection opened
@@ -65,19 +64,12 @@ abbrev pub past_bits : Pair → Result Leader Short → List Bool → PeerState 
 past_bits pair (Err short) bits s past = past
 past_bits pair (Ok leader) bits s past = past_message pair leader.link bits (message_in bits) s past
 
-abbrev pub past_of_call : Pair → Call → PeerState → Past → Past
-past_of_call pair (Call.AskSend peer local remote size room) s past = past_called pair (sockets local remote) (Ask_to_send size room) s past
-past_of_call pair (Call.AskReceive peer local remote room) s past = past_called pair (sockets local remote) (Ask_to_receive room) s past
-past_of_call pair (Call.Give peer p text) s past = past_called pair p (Give text) s past
-past_of_call pair (Call.Take peer p bytes) s past = past_called pair p (Take bytes) s past
-past_of_call pair (Call.Allocate peer p messages bits) s past = past_called pair p (Allocate messages bits) s past
-past_of_call pair (Call.CallBack peer p fm fb) s past = past_called pair p (Call_back fm fb) s past
-past_of_call pair (Call.Interrupt peer p) s past = past_called pair p Interrupt s past
-past_of_call pair (Call.Close peer p) s past = past_called pair p Close s past
-past_of_call pair other s past = past
+abbrev pub past_asked : Pair → Option (ℕ × Asked) → PeerState → Past → Past
+past_asked pair (Some (peer, Asks p call)) s past = past_called pair p call s past
+past_asked pair other s past = past
 
 abbrev pub past_by : Pair → HostNote → PeerState → Past → Past
-past_by pair (HostNote.Done call) s past = past_of_call pair call s past
+past_by pair (HostNote.Done call) s past = past_asked pair (asked_in call) s past
 past_by pair (HostNote.Took peer p bytes text) s past = past_called pair p (Take bytes) s past
 past_by pair (HostNote.In message told) s past = past_bits pair (leader_in message) message s past
 past_by pair other s past = past

@@ -28,13 +28,12 @@ use Rattle.ncp_model.specs.Ends.{hear, text_in, answered_in}
 use Rattle.ncp_model.specs.Echo.{echo_answer}
 use Rattle.ncp_model.specs.Phase.{Phase, up, is_rst, is_rrp, is_reset, is_other, is_resetting, has_place, wants_reset, owes_answer, phase_answers, phase_makes}
 use Rattle.ncp_model.specs.Sending.{is_full, next_commands}
-use Rattle.ncp_model.specs.Peers.{Peer, Ask_to_send, Ask_to_receive, Close, Give, Take, Allocate, Call_back, Interrupt, happened_at, is_full_up, echo_replies, PairCall}
+use Rattle.ncp_model.specs.Peers.{Peer, Take, happened_at, is_full_up, echo_replies, PairCall}
 use Rattle.ncp_host.specs.PeerState.{PeerState, new_state, control_link, is_answered, frees_on}
 use Rattle.ncp_host.specs.Hearing.{control_size, is_wrong_link, state_hears, state_hears_all}
 use Rattle.ncp_host.specs.Output.{message_to}
-use Rattle.ncp_host.specs.Calls.{sockets}
-use Rattle.ncp_transcript.specs.declared.call.Call.{Call}
 use Rattle.ncp_transcript.specs.declared.note.HostNote.{HostNote}
+use Rattle.ncp_transcript.specs.Asked.{Asked, Asks, Asks_echo, Asks_reset, asked_in}
 use Rattle.ncp_proof_runs.specs.Peers.{is_this_number, note_for}
 use Rattle.ncp_proof_runs.specs.Links.{LinkSoFar, nothing_told, goes_fresh, link_of_leader, told_by}
 
@@ -129,18 +128,11 @@ by_echo byte s l = if up s.peer.phase then all_made_in (made_by_call (echo_answe
 abbrev pub by_reset : PeerState → Made → Made
 by_reset s l = if is_resetting s.peer.phase then l else settling_made (is_quiet s.slots) (wants_reset s.peer.phase) (reset_asked l)
 
-abbrev pub by_call : Call → PeerState → Made → Made
-by_call (Call.Reset peer) s l = by_reset s l
-by_call (Call.AskSend peer local remote size room) s l = by_pair_call (sockets local remote) (Ask_to_send size room) s l
-by_call (Call.AskReceive peer local remote room) s l = by_pair_call (sockets local remote) (Ask_to_receive room) s l
-by_call (Call.Give peer pair text) s l = by_pair_call pair (Give text) s l
-by_call (Call.Take peer pair bytes) s l = by_pair_call pair (Take bytes) s l
-by_call (Call.Allocate peer pair messages bits) s l = by_pair_call pair (Allocate messages bits) s l
-by_call (Call.CallBack peer pair fm fb) s l = by_pair_call pair (Call_back fm fb) s l
-by_call (Call.Interrupt peer pair) s l = by_pair_call pair Interrupt s l
-by_call (Call.Echo peer byte) s l = by_echo byte s l
-by_call (Call.Close peer pair) s l = by_pair_call pair Close s l
-by_call other s l = l
+abbrev pub by_asked : Option (ℕ × Asked) → PeerState → Made → Made
+by_asked (Some (peer, Asks pair call)) s l = by_pair_call pair call s l
+by_asked (Some (peer, Asks_echo byte)) s l = by_echo byte s l
+by_asked (Some (peer, Asks_reset)) s l = by_reset s l
+by_asked other s l = l
 
 -- By each command that comes, and by the fault of a control text.
 
@@ -199,7 +191,7 @@ abbrev pub by_out : Result Leader Short → LinkSoFar → Made → Made
 by_out r t l = if is_this_number control_link (link_of_leader r) then (if goes_fresh t then made_sent l else l) else l
 
 abbrev pub made_by_note : HostNote → PeerState → LinkSoFar → Made → Made
-made_by_note (HostNote.Done call) s t l = by_call call s l
+made_by_note (HostNote.Done call) s t l = by_asked (asked_in call) s l
 made_by_note (HostNote.Took peer pair bytes text) s t l = by_pair_call pair (Take bytes) s l
 made_by_note (HostNote.Out message) s t l = by_out (leader_in message) t l
 made_by_note (HostNote.In message told) s t l = by_bits (leader_in message) message s l

@@ -5,17 +5,16 @@ use Rattle.ncp_leader.specs.declared.leader.Leader.{Leader}
 use Rattle.ncp_leader.specs.declared.leader.Short.{Short}
 use Rattle.ncp_leader.specs.Leader.{leader_in}
 use Rattle.ncp_leader.specs.Message.{message_in}
-use Rattle.ncp_model.specs.Peers.{Ask_to_send, Ask_to_receive, Close, Give, Take, Allocate, Call_back, Interrupt}
+use Rattle.ncp_model.specs.Peers.{Take}
 use Rattle.ncp_host.specs.declared.counts.Ignored.{Ignored}
 use Rattle.ncp_host.specs.declared.received.Received.{Received}
 use Rattle.ncp_host.specs.Counting.{one_more}
-use Rattle.ncp_host.specs.PeerState.{PeerState, state_calls, state_calls_reset, state_calls_echo, state_calls_wake, answer_comes}
+use Rattle.ncp_host.specs.PeerState.{PeerState, state_calls, answer_comes}
 use Rattle.ncp_host.specs.Hearing.{regular, message_after}
 use Rattle.ncp_host.specs.Output.{after_output}
 use Rattle.ncp_host.specs.Host.{is_one_of, are_distinct, new_host}
-use Rattle.ncp_host.specs.Calls.{sockets}
-use Rattle.ncp_transcript.specs.declared.call.Call.{Call}
 use Rattle.ncp_transcript.specs.declared.note.HostNote.{HostNote}
+use Rattle.ncp_transcript.specs.Asked.{Asked, asked_in, state_after_asked, peer_of_call}
 use Rattle.ncp_transcript.specs.Runs.{IsHostRun}
 
 -- the notes of a host from its beginning: its peers are distinct, and each number has a place in a leader
@@ -25,33 +24,6 @@ pub record FromBeginning (me : ℕ) (ns : List ℕ) (notes : List HostNote) : Ty
   pub run : IsHostRun notes (new_host me ns)
 
 -- Which peer a note names.
-
-abbrev pub peer_of_call : Call → Option ℕ
-peer_of_call (Call.Reset peer) = Some peer
-peer_of_call (Call.AskSend peer local remote size room) = Some peer
-peer_of_call (Call.AskReceive peer local remote room) = Some peer
-peer_of_call (Call.Give peer pair text) = Some peer
-peer_of_call (Call.Take peer pair bytes) = Some peer
-peer_of_call (Call.Allocate peer pair messages bits) = Some peer
-peer_of_call (Call.CallBack peer pair fm fb) = Some peer
-peer_of_call (Call.Interrupt peer pair) = Some peer
-peer_of_call (Call.Echo peer byte) = Some peer
-peer_of_call (Call.Close peer pair) = Some peer
-peer_of_call (Call.Wake peer) = Some peer
-peer_of_call (Call.State peer pair) = Some peer
-peer_of_call (Call.Phase peer) = Some peer
-peer_of_call (Call.Echoed peer) = Some peer
-peer_of_call (Call.Errors peer) = Some peer
-peer_of_call (Call.Counts peer) = Some peer
-peer_of_call (Call.Waiting peer place) = Some peer
-peer_of_call (Call.Kept peer link) = Some peer
-peer_of_call Call.Ignored = None
-
--- the requests: of all calls they alone take memory, for the bits of their pair
-abbrev pub is_request : Call → Bool
-is_request (Call.AskSend peer local remote size room) = true
-is_request (Call.AskReceive peer local remote room) = true
-is_request call = false
 
 -- a regular message names the host of its leader: where it comes from, or goes to (BBN 1822, section 3)
 abbrev pub peer_of_leader : Result Leader Short → Option ℕ
@@ -87,19 +59,9 @@ notes_of_peer n all = filter (names n) all
 
 -- What a note makes of what is kept for the peer that it names.
 
-abbrev pub called_for : Call → PeerState → PeerState
-called_for (Call.Reset peer) s = state_calls_reset s
-called_for (Call.AskSend peer local remote size room) s = state_calls (sockets local remote) (Ask_to_send size room) s
-called_for (Call.AskReceive peer local remote room) s = state_calls (sockets local remote) (Ask_to_receive room) s
-called_for (Call.Give peer pair text) s = state_calls pair (Give text) s
-called_for (Call.Take peer pair bytes) s = state_calls pair (Take bytes) s
-called_for (Call.Allocate peer pair messages bits) s = state_calls pair (Allocate messages bits) s
-called_for (Call.CallBack peer pair fm fb) s = state_calls pair (Call_back fm fb) s
-called_for (Call.Interrupt peer pair) s = state_calls pair Interrupt s
-called_for (Call.Echo peer byte) s = state_calls_echo byte s
-called_for (Call.Close peer pair) s = state_calls pair Close s
-called_for (Call.Wake peer) s = state_calls_wake s
-called_for reading s = s
+abbrev pub state_asked : Option (ℕ × Asked) → PeerState → PeerState
+state_asked None s = s
+state_asked (Some (peer, asked)) s = state_after_asked asked s
 
 abbrev pub bits_for : Result Leader Short → List Bool → PeerState → PeerState
 bits_for (Err short) bits s = s
@@ -110,7 +72,7 @@ out_for (Err short) message s = s
 out_for (Ok leader) message s = after_output leader.link message s
 
 abbrev pub note_for : HostNote → PeerState → PeerState
-note_for (HostNote.Done call) s = called_for call s
+note_for (HostNote.Done call) s = state_asked (asked_in call) s
 note_for (HostNote.Took peer pair bytes text) s = state_calls pair (Take bytes) s
 note_for (HostNote.Out message) s = out_for (leader_in message) message s
 note_for (HostNote.In message received) s = bits_for (leader_in message) message s

@@ -5,9 +5,10 @@ ghost use Rattle.ncp_host.specs.Host.{state_of, numbers_of, new_host};
 ghost use Rattle.ncp_host.specs.Counting.{none_ignored};
 ghost use Rattle.ncp_transcript.specs.declared.call.Call.{Call};
 ghost use Rattle.ncp_transcript.specs.declared.note.HostNote.{HostNote};
+ghost use Rattle.ncp_transcript.specs.Answers.{takes_memory};
 ghost use Rattle.ncp_transcript.specs.After.{after_notes};
 ghost use Rattle.ncp_transcript.specs.Runs.{IsHostRun, host_began};
-ghost use Rattle.ncp_proof_runs.specs.Peers.{FromBeginning, is_request, notes_of_peer, notes_for, ignored_by};
+ghost use Rattle.ncp_proof_runs.specs.Peers.{FromBeginning, notes_of_peer, notes_for, ignored_by};
 ghost use Rattle.ncp_proof_runs.specs.Examples.{two_peers};
 ghost use Rattle.ncp_proof_runs.specs.WhereNoted.{WhereNoted};
 ghost use Rattle.ncp_proof_runs.specs.WhatIsKept.{AfterARun, OfItsPeers, OfHostTranscripts};
@@ -44,7 +45,7 @@ pub fn a_transcript_is_from_its_beginning()
 
 /// Want of memory is answered to a request alone: no other call, and nothing that is read, is ever refused for it.
 pub fn want_of_memory_is_of_a_request()
-    ensures { (call : Call) → WhereNoted (Refused call CallFault.OutOfMemory) (λ ns before. is_request call ≡ true) }
+    ensures { (call : Call) → WhereNoted (Refused call CallFault.OutOfMemory) (λ ns before. takes_memory call ≡ true) }
 {}
 
 /// That these laws speak of something: a run of a host with two peers, and the notes of each.

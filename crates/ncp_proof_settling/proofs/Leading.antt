@@ -11,7 +11,8 @@ use Rattle.ncp_model.specs.Peers.{Peer, PairCall}
 use Rattle.ncp_proof_resets.specs.Delivery.{Slot, MessageTransit, Accepted}
 use Rattle.ncp_proof_resets.specs.Resets.{Party, This, That}
 use Rattle.ncp_proof_machine.specs.Hosts.{TextOut, peer_of, NodeStep, TwoNodes, node_at}
-use Rattle.ncp_transcript_two.specs.World.{World, Asks, Asks_echo, Asks_reset, Asks_wake, Told, Called, Out, In, Went_lost, Went_dead, Answered, Nothing}
+use Rattle.ncp_transcript.specs.Asked.{Asks, Asks_echo, Asks_reset, Asks_wake}
+use Rattle.ncp_transcript_two.specs.World.{World, Told, Called, Out, In, Went_lost, Went_dead, Answered, Nothing}
 use Rattle.ncp_transcript_two.proofs.Ties.{IsFor, Leads}
 use Rattle.ncp_proof_progress.specs.Work.{credit}
 use Rattle.ncp_proof_progress.specs.HostsWork.{work, BothFit, IsOnDataLink, one_if_any, one_if_accepted, one_if_told, moved_at, allows_at}

@@ -20,7 +20,8 @@ use Rattle.ncp_transcript.specs.declared.call.Call.{Call}
 use Rattle.ncp_transcript.specs.Noting.{note_of_bits, note_of_message}
 use Rattle.ncp_host.specs.Turns.{next_output}
 use Rattle.ncp_transcript_two.specs.Subnet.{Holds, TransitByLink, Free, Accepted, Delivered, Lost, Dead}
-use Rattle.ncp_transcript_two.specs.World.{World, Asks_wake, Reply, Replied, Told, Called, at, WorldStep, moves, swap}
+use Rattle.ncp_transcript.specs.Asked.{Asks_wake, Reply, Replied}
+use Rattle.ncp_transcript_two.specs.World.{World, Told, Called, at, WorldStep, moves, swap}
 use Rattle.ncp_transcript_two.specs.Tie.{Whereabouts, Nowhere, Waits, Goes, Came, Failed, Died, Kept, slot_of, model_of, holds_of, OfMessage, Carries, control_bits, text_as_message, AreCommands, IsTextOn, Stands, IsMove, Tied}
 use Rattle.ncp_transcript_two.specs.declared.side.Side.{Side}
 use Rattle.ncp_transcript_two.specs.declared.side.Side.TheVariants.{A, B}

@@ -4,7 +4,8 @@ use Rattle.std.specs.Prelude.{ℕ, ◌+◌, ◌*◌, ◌≤◌, List, [], ◌∷
 use Rattle.std.specs.FinMap.{get}
 use Rattle.ncp_proof_resets.specs.Resets.{Party, This, That}
 use Rattle.ncp_proof_machine.specs.Hosts.{TwoNodes}
-use Rattle.ncp_transcript_two.specs.World.{World, swap, Asked, Asks, Asks_echo, Asks_reset, Asks_wake, Told, Called, Out, In, Went_lost, Went_dead, Answered, Nothing}
+use Rattle.ncp_transcript.specs.Asked.{Asked, Asks, Asks_echo, Asks_reset, Asks_wake}
+use Rattle.ncp_transcript_two.specs.World.{World, swap, Told, Called, Out, In, Went_lost, Went_dead, Answered, Nothing}
 use Rattle.ncp_transcript_two.specs.Tie.{Tied}
 use Rattle.ncp_transcript_two.specs.declared.note.Note.{Note}
 use Rattle.ncp_transcript_two.specs.Between.{Hosts, hosts_after_note, hosts_after_notes}

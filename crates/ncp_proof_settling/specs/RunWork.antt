@@ -1,5 +1,5 @@
 -- What the notes of a host with one of its peers bring, and how many of its messages are new.
-use Rattle.std.specs.Prelude.{ℕ, ◌+◌, Bool, List, [], ◌∷◌, Result, Ok, Err}
+use Rattle.std.specs.Prelude.{ℕ, ◌+◌, Bool, List, [], ◌∷◌, Option, Some, Result, Ok, Err}
 use Rattle.std.specs.FinMap.{get}
 use Rattle.ncp_leader.specs.declared.leader.Leader.{Leader}
 use Rattle.ncp_leader.specs.declared.leader.Short.{Short}
@@ -8,11 +8,11 @@ use Rattle.ncp_leader.specs.Message.{message_in}
 use Rattle.ncp_slot.specs.declared.slot.Slot.TheVariants.{Empty}
 use Rattle.ncp_slot.specs.Slots.{LinkSlot, slot_at}
 use Rattle.ncp_model.specs.declared.pair.Pair.{Pair}
-use Rattle.ncp_model.specs.Peers.{Ask_to_send, Ask_to_receive, Close, Give, Take, Allocate, Call_back, Interrupt, PairCall}
+use Rattle.ncp_model.specs.Peers.{PairCall}
 use Rattle.ncp_host.specs.PeerState.{PeerState}
-use Rattle.ncp_host.specs.Calls.{sockets}
 use Rattle.ncp_transcript.specs.declared.call.Call.{Call}
 use Rattle.ncp_transcript.specs.declared.note.HostNote.{HostNote}
+use Rattle.ncp_transcript.specs.Asked.{Asked, Asks, Asks_echo, Asks_reset, asked_in}
 use Rattle.ncp_proof_runs.specs.Peers.{note_for}
 use Rattle.ncp_proof_progress.specs.Work.{credit}
 use Rattle.ncp_proof_settling.specs.HostWork.{message_brings}
@@ -34,18 +34,14 @@ new_by note s = 0
 abbrev pub credit_at : Pair → PairCall → PeerState → ℕ
 credit_at pair call s = credit call (get s.peer.ends pair)
 
+abbrev pub asking_brings : Option (ℕ × Asked) → PeerState → ℕ
+asking_brings (Some (peer, Asks pair call)) s = credit_at pair call s
+asking_brings (Some (peer, Asks_echo byte)) s = 2
+asking_brings (Some (peer, Asks_reset)) s = 2
+asking_brings other s = 0
+
 abbrev pub call_brings : Call → PeerState → ℕ
-call_brings (Call.Reset peer) s = 2
-call_brings (Call.AskSend peer local remote size room) s = credit_at (sockets local remote) (Ask_to_send size room) s
-call_brings (Call.AskReceive peer local remote room) s = credit_at (sockets local remote) (Ask_to_receive room) s
-call_brings (Call.Give peer pair text) s = credit_at pair (Give text) s
-call_brings (Call.Take peer pair bytes) s = credit_at pair (Take bytes) s
-call_brings (Call.Allocate peer pair messages bits) s = credit_at pair (Allocate messages bits) s
-call_brings (Call.CallBack peer pair fm fb) s = credit_at pair (Call_back fm fb) s
-call_brings (Call.Interrupt peer pair) s = credit_at pair Interrupt s
-call_brings (Call.Echo peer byte) s = 2
-call_brings (Call.Close peer pair) s = credit_at pair Close s
-call_brings reading s = 0
+call_brings call s = asking_brings (asked_in call) s
 
 -- bits that come
 abbrev pub arrival_brings : Result Leader Short → List Bool → ℕ

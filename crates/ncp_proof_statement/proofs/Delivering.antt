@@ -2,7 +2,8 @@
 use Rattle.std.proofs.Common.{◌≡◌, ℕ, Bool, true, false, List, [], ◌∷◌, ◌++◌, Option, None, Some, refl, sym, ap, ◌∙◌, subst}
 use Rattle.ncp_proof_resets.specs.Resets.{Party}
 use Rattle.ncp_transcript.specs.declared.note.HostNote.{HostNote}
-use Rattle.ncp_transcript_two.specs.World.{Asked, WorldNote}
+use Rattle.ncp_transcript.specs.Asked.{Asked, asked_in}
+use Rattle.ncp_transcript_two.specs.World.{WorldNote}
 use Rattle.std.proofs.lemmas.List.{append_assoc}
 use Rattle.ncp_terms.specs.declared.answer.Answer.{Answer}
 use Rattle.ncp_host.specs.declared.received.Received.{Received}
@@ -15,7 +16,7 @@ use Rattle.ncp_transcript_two.specs.Honest.{MessageDeed, Sent, Comes, Taken, Ref
 use Rattle.ncp_transcript_two.specs.declared.side.Side.{Side}
 use Rattle.ncp_transcript_two.specs.declared.side.Side.TheVariants.{A, B}
 use Rattle.ncp_transcript_two.specs.declared.note.Note.{Note}
-use Rattle.ncp_transcript_two.specs.Seen.{as_rules, asked_by, done, told_of, side_of, notes_of, told}
+use Rattle.ncp_transcript_two.specs.Seen.{as_rules, done, told_of, side_of, notes_of, told}
 use Rattle.ncp_statement.specs.Statement.{deed_noted, deeds_noted}
 
 abbrev strip : List MessageDeed → List MessageDeed
@@ -38,12 +39,12 @@ deeds-append side on (x ∷ xs) ys = ap (λ (ds : List MessageDeed). deed_told s
 abbrev Same : Side → ℕ → Note → Type 0
 Same side on note = strip (deed_noted side on note ∷ []) ≡ strip (deeds_told (as_rules side) on (notes_of (as_rules (side_of note)) (told_of note)))
 
-call-same : (side by : Side) (on : ℕ) (o : Option Asked) → [] ≡ strip (deeds_told (as_rules side) on (notes_of (as_rules by) (done o)))
+call-same : (side by : Side) (on : ℕ) (o : Option (ℕ × Asked)) → [] ≡ strip (deeds_told (as_rules side) on (notes_of (as_rules by) (done o)))
 call-same side by on None = refl
-call-same A A on (Some asked) = refl
-call-same A B on (Some asked) = refl
-call-same B A on (Some asked) = refl
-call-same B B on (Some asked) = refl
+call-same A A on (Some (peer, asked)) = refl
+call-same A B on (Some (peer, asked)) = refl
+call-same B A on (Some (peer, asked)) = refl
+call-same B B on (Some (peer, asked)) = refl
 
 abbrev Linked : Note → Type 0
 Linked (Note.Answered by link hn) = (n : ℕ) × IsAnswerAbout n link hn
@@ -61,7 +62,7 @@ answer-same B B on link n how r = refl
 
 same : (side by : Side) (on : ℕ) (note : Note) → Linked note → Same side on note
 same side by on (Note.Answered at link hn) (n, (how, r, is)) = subst (λ (h : HostNote). Same side on (Note.Answered at link h)) (sym is) (answer-same side at on link n how r)
-same side by on (Note.Called at (HostNote.Done call)) e = call-same side at on (asked_by call)
+same side by on (Note.Called at (HostNote.Done call)) e = call-same side at on (asked_in call)
 same A by on (Note.Called A hn) e = refl
 same A by on (Note.Called B hn) e = refl
 same B by on (Note.Called A hn) e = refl

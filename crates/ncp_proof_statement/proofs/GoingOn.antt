@@ -38,7 +38,9 @@ use Rattle.ncp_proof_statement.proofs.Noted.{took-known, noted-from}
 use Rattle.ncp_proof_statement.proofs.Receiving.{Held, held-at, taken-tallied, allowed-tallied, run-kept}
 use Rattle.ncp_proof_statement.proofs.Sending
 use Rattle.ncp_proof_statement.proofs.Sending.{given-tallied}
-use Rattle.ncp_proof_statement.proofs.Walking.{mine, ours, only-one}
+use Rattle.ncp_proof_promises.proofs.CallsNoted.{only-one}
+use Rattle.ncp_proof_promises.proofs.MadeWalking.{ours}
+use Rattle.ncp_proof_statement.proofs.Walking.{mine}
 use Rattle.ncp_proof_statement.proofs.Walk.{here, there}
 use Rattle.ncp_proof_statement.proofs.Using.{taken-by, given-by, allowed-by}
 

@@ -14,17 +14,19 @@ use Rattle.ncp_model.specs.Peers.{PairCall, Ask_to_send, Ask_to_receive, Give, T
 use Rattle.ncp_proof_watch.specs.Histories.{is_outcome_accepted}
 use Rattle.ncp_host.specs.PeerState.{PeerState, new_state}
 use Rattle.ncp_host.specs.Host.{state_of, new_host, if_known}
-use Rattle.ncp_host.specs.Calls.{sockets}
 use Rattle.ncp_transcript.specs.declared.call.Call.{Call}
 use Rattle.ncp_transcript.specs.declared.note.HostNote.{HostNote}
 use Rattle.ncp_transcript.specs.Notes.{told_or_refused}
+use Rattle.ncp_transcript.specs.Asked.{Asked, Asks, Replied, asked_in, reply_to, as_done}
+use Rattle.ncp_transcript.specs.Answers.{answer_to}
 use Rattle.ncp_transcript.specs.After.{after_notes}
-use Rattle.ncp_proof_runs.specs.Peers.{FromBeginning, names, notes_of_peer, note_for, notes_for}
+use Rattle.ncp_transcript.proofs.AskedCalls.{CallOutcome, Was_done, Was_taken, Was_refused, Was_read, reads, outcome-of}
+use Rattle.ncp_proof_runs.specs.Peers.{FromBeginning, is_this_number, names, notes_of_peer, note_for, notes_for}
 use Rattle.ncp_proof_runs.proofs.InRuns.{before_note, kept_as_noted}
-use Rattle.ncp_proof_runs.proofs.Given.{done-before}
 use Rattle.ncp_proof_runs.proofs.BooksOfRuns.{same_pair}
-use Rattle.ncp_statement.specs.Statement.{Use, Asked, Gave, Had, Let, Else, on_pair, use_of}
-use Rattle.ncp_proof_statement.specs.Since.{had_out, use_then, did_at, did_called, did_by, did_run, uses_by}
+use Rattle.ncp_proof_promises.proofs.CallsNoted.{asked-peer}
+use Rattle.ncp_statement.specs.Statement.{Use, Gave, Had, Let, Else, on_pair, use_by, use_of}
+use Rattle.ncp_proof_statement.specs.Since.{had_out, use_then, did_called, did_asked, did_by, did_run, uses_by}
 
 -- a call that was done, by its outcome
 done-use : {A : Type 0} (u : Use) (r : Result A CallFault) → reply (outcome_of_call r) ≡ Ok tt → u ≡ (if is_outcome_accepted (outcome_of_call r) then u else Else)
@@ -45,31 +47,56 @@ had-use Outcome.WrongSize text e = cc
 had-use Outcome.Over text e = cc
 had-use Outcome.NotOpen text e = cc
 
--- what the rules say of a call that was done while the host was up
-module _ (pair p : Pair) (call : PairCall) (s : PeerState) (is_up : up s.peer.phase ≡ true) where
-  does : (u : Use) → ((q : Pair) → reply (happened_at q call s.peer).outcome ≡ Ok tt → u ≡ use_then (called call (is_full s.peer.phase) s.peer.ends) (happened_at q call s.peer).outcome) → reply (happened_at p call s.peer).outcome ≡ Ok tt
-      → on_pair (same pair p) u ≡ did_called pair p call s
-  does u says fine = go (same pair p) refl ∙ ap (λ (b : Bool). if b then did_at pair p (called call (is_full s.peer.phase) s.peer.ends) s.peer.ends else Else) (sym is_up)
-    where
-      go : (b : Bool) → same pair p ≡ b → on_pair b u ≡ (if b then use_then (called call (is_full s.peer.phase) s.peer.ends) (happened_at pair call s.peer).outcome else Else)
-      go true e = says pair (ap (λ (q : Pair). reply (happened_at q call s.peer).outcome) (same_pair pair p e) ∙ fine)
-      go false e = refl
+-- what the rules say of a call that answered so, and does not while the host is down
+does : {T : Type 0} (answers : Outcome → Result T CallFault) (x : T) (pair p : Pair) (call : PairCall) (s : PeerState) (u : Use) → (answers (Refused NotUp) ≡ Ok x → ⊥)
+    → ((q : Pair) → answers (happened_at q call s.peer).outcome ≡ Ok x → u ≡ use_then (called call (is_full s.peer.phase) s.peer.ends) (happened_at q call s.peer).outcome)
+    → answers (comes_of p call s.peer) ≡ Ok x → on_pair (same pair p) u ≡ did_called pair p call s
+does answers x pair p call s u not_down says e = go (up s.peer.phase) (same pair p) e refl
+  where
+    go : (b d : Bool) → answers (if b then (happened_at p call s.peer).outcome else Refused NotUp) ≡ Ok x → same pair p ≡ d
+        → on_pair d u ≡ (if b then (if d then use_then (called call (is_full s.peer.phase) s.peer.ends) (happened_at pair call s.peer).outcome else Else) else Else)
+    go false d e i = absurd (not_down e)
+    go true true e i = says pair (ap (λ (q : Pair). answers (happened_at q call s.peer).outcome) (same_pair pair p i) ∙ e)
+    go true false e i = refl
 
 takes : (pair p : Pair) (bytes : ℕ) (text : List Bool) (s : PeerState) → reply_of_take (comes_of p (Take bytes) s.peer) ≡ Ok text
     → on_pair (same pair p) (Had text) ≡ did_called pair p (Take bytes) s
-takes pair p bytes text s e = go (up s.peer.phase) (same pair p) e refl
+takes pair p bytes text s e = does reply_of_take text pair p (Take bytes) s (Had text) (λ f. cc f) (λ q f. had-use (happened_at q (Take bytes) s.peer).outcome text f) e
+
+-- What is asked, as the page reads it.
+
+abbrev use_asked : Pair → Option (ℕ × Asked) → Use
+use_asked pair (Some (peer, Asks p (Ask_to_send size room))) = on_pair (same pair p) Use.Asked
+use_asked pair (Some (peer, Asks p (Ask_to_receive room))) = on_pair (same pair p) Use.Asked
+use_asked pair (Some (peer, Asks p (Give text))) = on_pair (same pair p) (Gave text)
+use_asked pair (Some (peer, Asks p (Allocate messages bits))) = on_pair (same pair p) (Let bits)
+use_asked pair other = Else
+
+by-call : (pair : Pair) (call : Call) → use_by pair call ≡ use_asked pair (asked_in call)
+by-call pair (Call.Reset peer) = refl
+by-call pair call = refl
+
+-- that it was done is what the rules say then
+done-says : (pair : Pair) (n : ℕ) (asked : Asked) (s : PeerState) → reply_to asked s ≡ Replied (Ok tt) → use_asked pair (Some (n, asked)) ≡ did_asked pair (Some (n, asked)) s
+done-says pair n (Asks p call) s e = go call e
   where
-    go : (u b : Bool) → reply_of_take (if u then (happened_at p (Take bytes) s.peer).outcome else Refused NotUp) ≡ Ok text → same pair p ≡ b
-        → on_pair b (Had text) ≡ (if u then (if b then had_out (happened_at pair (Take bytes) s.peer).outcome else Else) else Else)
-    go false b e i = absurd (cc)
-    go true true e i = had-use (happened_at pair (Take bytes) s.peer).outcome text (ap (λ (q : Pair). reply_of_take (happened_at q (Take bytes) s.peer).outcome) (same_pair pair p i) ∙ e)
-    go true false e i = refl
+    made : (call : PairCall) (u : Use) → ((q : Pair) → reply (happened_at q call s.peer).outcome ≡ Ok tt → u ≡ use_then (called call (is_full s.peer.phase) s.peer.ends) (happened_at q call s.peer).outcome)
+        → Replied (reply (comes_of p call s.peer)) ≡ Replied (Ok tt) → on_pair (same pair p) u ≡ did_called pair p call s
+    made call u says e = does reply tt pair p call s u (λ f. cc f) says (ap as_done e)
 
--- A call that was done names the peer.
+    no_use : (a b : Bool) → Else ≡ (if a then (if b then Else else Else) else Else)
+    no_use true true = refl
+    no_use true false = refl
+    no_use false b = refl
 
-took-not-done : (peer : ℕ) (p : Pair) (bytes : ℕ) (r : Result (List Bool) CallFault) → told_or_refused (Call.Take peer p bytes) (HostNote.Took peer p bytes) r ≡ HostNote.Done (Call.Take peer p bytes) → ⊥
-took-not-done peer p bytes (Ok text) e = absurd (cc)
-took-not-done peer p bytes (Err fault) e = absurd (cc)
+    go : (call : PairCall) → reply_to (Asks p call) s ≡ Replied (Ok tt) → use_asked pair (Some (n, Asks p call)) ≡ did_called pair p call s
+    go (Ask_to_send size room) e = made (Ask_to_send size room) Use.Asked (λ q f. done-use Use.Asked _ f) e
+    go (Ask_to_receive room) e = made (Ask_to_receive room) Use.Asked (λ q f. done-use Use.Asked _ f) e
+    go (Give text) e = made (Give text) (Gave text) (λ q f. done-use (Gave text) _ f) e
+    go (Allocate messages bits) e = made (Allocate messages bits) (Let bits) (λ q f. done-use (Let bits) _ f) e
+    go (Take bytes) e = absurd (cc e)
+    go call e = no_use (up s.peer.phase) (same pair p)
+done-says pair n asked s e = refl
 
 pub took-known : (o : Option PeerState) (n : ℕ) (p : Pair) (bytes : ℕ) (text : List Bool) → told_or_refused (Call.Take n p bytes) (HostNote.Took n p bytes) (if_known o (λ x. reply_of_take (comes_of p (Take bytes) x.peer))) ≡ HostNote.Took n p bytes text
     → (s : PeerState) × (o ≡ Some s) × (reply_of_take (comes_of p (Take bytes) s.peer) ≡ Ok text)
@@ -86,74 +113,35 @@ module _ (me : ℕ) (ns : List ℕ) (n : ℕ) (pair : Pair) where
 
   -- each note of the peer
 
-  asks-send : (p : Pair) (size room : ℕ) (before after : List HostNote) → FromBeginning me ns (before ++ HostNote.Done (Call.AskSend n p.local p.remote size room) ∷ after) → Says (HostNote.Done (Call.AskSend n p.local p.remote size room)) before
-  asks-send p size room before after from =
-      let b = before_note me ns before after (HostNote.Done (Call.AskSend n p.local p.remote size room)) from in
-      let w = done-before me ns before n p (Ask_to_send size room) (Call.AskSend n p.local p.remote size room) b.from b.said in
-      does pair p (Ask_to_send size room) (notes_for (notes_of_peer n before) new_state) w.is_up Asked (λ q e. done-use Asked _ e) w.fine
+  was-done : (call : Call) (before after : List HostNote) → FromBeginning me ns (before ++ HostNote.Done call ∷ after) → names n (HostNote.Done call) ≡ true → Says (HostNote.Done call) before
+  was-done call before after from e =
+      let b = before_note me ns before after (HostNote.Done call) from in
+      go b.from (answer_to call (after_notes before (new_host me ns))) (outcome-of call (after_notes before (new_host me ns))) b.said
+    where
+      s : PeerState
+      s = notes_for (notes_of_peer n before) new_state
 
-  asks-receive : (p : Pair) (room : ℕ) (before after : List HostNote) → FromBeginning me ns (before ++ HostNote.Done (Call.AskReceive n p.local p.remote room) ∷ after) → Says (HostNote.Done (Call.AskReceive n p.local p.remote room)) before
-  asks-receive p room before after from =
-      let b = before_note me ns before after (HostNote.Done (Call.AskReceive n p.local p.remote room)) from in
-      let w = done-before me ns before n p (Ask_to_receive room) (Call.AskReceive n p.local p.remote room) b.from b.said in
-      does pair p (Ask_to_receive room) (notes_for (notes_of_peer n before) new_state) w.is_up Asked (λ q e. done-use Asked _ e) w.fine
-
-  gives : (p : Pair) (text : List Bool) (before after : List HostNote) → FromBeginning me ns (before ++ HostNote.Done (Call.Give n p text) ∷ after) → Says (HostNote.Done (Call.Give n p text)) before
-  gives p text before after from =
-      let b = before_note me ns before after (HostNote.Done (Call.Give n p text)) from in
-      let w = done-before me ns before n p (Give text) (Call.Give n p text) b.from b.said in
-      does pair p (Give text) (notes_for (notes_of_peer n before) new_state) w.is_up (Gave text) (λ q e. done-use (Gave text) _ e) w.fine
-
-  allocates : (p : Pair) (m bits : ℕ) (before after : List HostNote) → FromBeginning me ns (before ++ HostNote.Done (Call.Allocate n p m bits) ∷ after) → Says (HostNote.Done (Call.Allocate n p m bits)) before
-  allocates p m bits before after from =
-      let b = before_note me ns before after (HostNote.Done (Call.Allocate n p m bits)) from in
-      let w = done-before me ns before n p (Allocate m bits) (Call.Allocate n p m bits) b.from b.said in
-      does pair p (Allocate m bits) (notes_for (notes_of_peer n before) new_state) w.is_up (Let bits) (λ q e. done-use (Let bits) _ e) w.fine
-
-  by-call : (call : Call) (before after : List HostNote) → FromBeginning me ns (before ++ HostNote.Done call ∷ after) → names n (HostNote.Done call) ≡ true → Says (HostNote.Done call) before
-  by-call (Call.AskSend peer local remote size room) before after from e = asks-send (sockets local remote) size room before after (subst (λ (k : ℕ). FromBeginning me ns (before ++ HostNote.Done (Call.AskSend k local remote size room) ∷ after)) (eqb-true peer n e) from)
-  by-call (Call.AskReceive peer local remote room) before after from e = asks-receive (sockets local remote) room before after (subst (λ (k : ℕ). FromBeginning me ns (before ++ HostNote.Done (Call.AskReceive k local remote room) ∷ after)) (eqb-true peer n e) from)
-  by-call (Call.Give peer p text) before after from e = gives p text before after (subst (λ (k : ℕ). FromBeginning me ns (before ++ HostNote.Done (Call.Give k p text) ∷ after)) (eqb-true peer n e) from)
-  by-call (Call.Take peer p bytes) before after from e =
-      let b = before_note me ns before after (HostNote.Done (Call.Take peer p bytes)) from in
-      absurd (took-not-done peer p bytes _ b.said)
-  by-call (Call.Allocate peer p m bits) before after from e = allocates p m bits before after (subst (λ (k : ℕ). FromBeginning me ns (before ++ HostNote.Done (Call.Allocate k p m bits) ∷ after)) (eqb-true peer n e) from)
-  by-call (Call.Reset peer) before after from e = refl
-  by-call (Call.CallBack peer p fm fb) before after from e = refl
-  by-call (Call.Interrupt peer p) before after from e = refl
-  by-call (Call.Echo peer byte) before after from e = refl
-  by-call (Call.Close peer p) before after from e = refl
-  by-call (Call.Wake peer) before after from e = refl
-  by-call (Call.State peer p) before after from e = refl
-  by-call (Call.Phase peer) before after from e = refl
-  by-call (Call.Echoed peer) before after from e = refl
-  by-call (Call.Errors peer) before after from e = refl
-  by-call (Call.Counts peer) before after from e = refl
-  by-call (Call.Waiting peer place) before after from e = refl
-  by-call (Call.Kept peer link) before after from e = refl
-  by-call Call.Ignored before after from e = refl
+      go : FromBeginning me ns before → (note : HostNote) → CallOutcome call (after_notes before (new_host me ns)) note → note ≡ HostNote.Done call → Says (HostNote.Done call) before
+      go b note (Was_done peer asked t at says by) f =
+          let here : peer ≡ n = eqb-true peer n (ap (is_this_number n) (sym (asked-peer call peer asked by)) ∙ e) in
+          let is : t ≡ s = kept_as_noted me ns before n t b (subst (λ (k : ℕ). state_of (after_notes before (new_host me ns)) k ≡ Some t) here at) in
+          by-call pair call
+          ∙ ap (use_asked pair) by
+          ∙ done-says pair peer asked s (ap (reply_to asked) (sym is) ∙ says)
+          ∙ sym (ap (λ (o : Option (ℕ × Asked)). did_asked pair o s) by)
+      go b note (Was_taken peer p bytes text t at says is) f = absurd (cc f)
+      go b note (Was_refused fault why) f = absurd (cc f)
+      go b note (Was_read read is) f = absurd (cc (is, ap reads f))
 
   by-note : (note : HostNote) (before after : List HostNote) → FromBeginning me ns (before ++ note ∷ after) → names n note ≡ true → Says note before
-  by-note (HostNote.Done call) before after from e = by-call call before after from e
+  by-note (HostNote.Done call) before after from e = was-done call before after from e
   by-note (HostNote.Took peer p bytes text) before after from e =
       let from-n = subst (λ (k : ℕ). FromBeginning me ns (before ++ HostNote.Took k p bytes text ∷ after)) (eqb-true peer n e) from in
       let b = before_note me ns before after (HostNote.Took n p bytes text) from-n in
       let w = took-known (state_of (after_notes before (new_host me ns)) n) n p bytes text b.said in
       let is : w.0 ≡ notes_for (notes_of_peer n before) new_state = kept_as_noted me ns before n w.0 b.from w.1 in
       takes pair p bytes text (notes_for (notes_of_peer n before) new_state) (ap (λ (x : PeerState). reply_of_take (comes_of p (Take bytes) x.peer)) (sym is) ∙ w.2)
-  by-note (HostNote.Refused call fault) before after from e = refl
-  by-note (HostNote.State peer p told) before after from e = refl
-  by-note (HostNote.Phase peer flags) before after from e = refl
-  by-note (HostNote.Echoed peer byte) before after from e = refl
-  by-note (HostNote.Errors peer errors) before after from e = refl
-  by-note (HostNote.Counts peer counts) before after from e = refl
-  by-note (HostNote.Waiting peer place command) before after from e = refl
-  by-note (HostNote.Kept peer link message) before after from e = refl
-  by-note (HostNote.Ignored ignored) before after from e = refl
-  by-note (HostNote.Out message) before after from e = refl
-  by-note HostNote.Nothing before after from e = refl
-  by-note (HostNote.In message told) before after from e = refl
-  by-note (HostNote.Answered peer link how told) before after from e = refl
+  by-note note before after from e = refl
 
   for-more : (before : List HostNote) (note : HostNote) (s : PeerState) → notes_for (before ++ note ∷ []) s ≡ note_for note (notes_for before s)
   for-more [] note s = refl

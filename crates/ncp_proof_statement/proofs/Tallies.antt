@@ -23,11 +23,11 @@ use Rattle.ncp_model.specs.Act.{Act, end_after}
 use Rattle.ncp_model.specs.Texts
 use Rattle.ncp_model.specs.Ends.{Ends, uses_link, hears_link, pair_of, receiver_on, sender_on, leads_to, hear, text_in, cut_in, answered_in, map_after, map_after_at, no_ends, put}
 use Rattle.ncp_model.specs.Happenings.{Happening, Text_comes, Text_goes_out, Is_answered, happens}
-use Rattle.ncp_model.specs.Texts.{made_by_text, hear_text}
+use Rattle.ncp_model.specs.Texts.{hear_text}
 use Rattle.ncp_model.specs.Leading.{suits, comes}
 use Rattle.ncp_model.specs.Phase.{Phase, up, is_resetting, resets}
 use Rattle.ncp_model.specs.Sending.{is_full}
-use Rattle.ncp_model.specs.Peers.{Peer, Ask_to_send, Ask_to_receive, Close, Give, Take, Allocate, Call_back, Interrupt, kept, called, happened_at, PairCall, calls, calls_echo, calls_reset, calls_up, cleared, cuts, echo_called, frees_up, hears, hears_fault, hears_other, hears_text, makes, peer_sends, takes_text}
+use Rattle.ncp_model.specs.Peers.{Peer, Take, kept, called, happened_at, PairCall, calls, calls_echo, calls_reset, calls_up, cleared, cuts, echo_called, frees_up, hears, hears_fault, hears_other, hears_text, makes, peer_sends, takes_text}
 use Rattle.ncp_model.specs.Peers
 use Rattle.ncp_model.proofs.EndsAfter.{after-at, after-elsewhere}
 use Rattle.ncp_model.proofs.LinksLead.{led, command-led, cut-led, answered-led, hearer-sends, user-receives, suits-led}
@@ -38,16 +38,15 @@ use Rattle.ncp_host.specs.Counting.{one_more}
 use Rattle.ncp_host.specs.PeerState.{PeerState, new_state, control_link, is_answered, answer_taken, answer_comes, frees_on, after_answer}
 use Rattle.ncp_host.specs.Hearing.{control_size, state_after_control, state_after_text, is_wrong_link, state_hears, state_hears_all, hears_last, message_after}
 use Rattle.ncp_host.specs.Output.{after_made, after_by}
-use Rattle.ncp_host.specs.Calls.{sockets}
-use Rattle.ncp_transcript.specs.declared.call.Call.{Call}
+use Rattle.ncp_transcript.specs.Asked.{Asked, Asks, Asks_echo, Asks_reset, Asks_wake, asked_in}
 use Rattle.ncp_transcript.specs.declared.note.HostNote.{HostNote}
-use Rattle.ncp_proof_runs.specs.Peers.{called_for, bits_for, out_for, note_for, notes_for}
-use Rattle.ncp_proof_runs.specs.Histories.{past_then, past_at, past_called, past_heard, past_heard_all, past_text, past_message, past_bits, past_of_call, past_by, past_from}
+use Rattle.ncp_proof_runs.specs.Peers.{state_asked, bits_for, out_for, note_for, notes_for}
+use Rattle.ncp_proof_runs.specs.Histories.{past_then, past_at, past_called, past_heard, past_heard_all, past_text, past_message, past_bits, past_asked, past_by, past_from}
 use Rattle.ncp_model.specs.Happenings.{Outcome}
 use Rattle.ncp_proof_runs.proofs.HostRuns.{some_same}
 use Rattle.ncp_proof_runs.proofs.BooksOfRuns.{same_pair, another, put_here, put_there, called-suits, comes-led}
 use Rattle.ncp_statement.specs.Statement.{Use, Else}
-use Rattle.ncp_proof_statement.specs.Since.{use_then, did_at, did_called, did_by, did_run, tallied}
+use Rattle.ncp_proof_statement.specs.Since.{use_then, did_at, did_called, did_asked, did_by, did_run, tallied}
 
 -- A tally of a pair, and what ties it to the end and to the history of the pair.
 pub record Ties (X : Type 0) (add : Use → X → X) (K : Pair → Option End → Past → X → Type 0) : Type 0 where
@@ -115,15 +114,6 @@ module _ (X : Type 0) (add : Use → X → X) (K : Pair → Option End → Past 
         go : (b : Bool) → Kept pair (add (if b then did_at pair p (called call (is_full s.peer.phase) s.peer.ends) s.peer.ends else Else) t) (if b then calls_up p call s.peer else s.peer).ends (if b then past_at pair (Some p) (Some (called call (is_full s.peer.phase) s.peer.ends)) s.peer.ends past else past)
         go true = while-up pair (add (did_at pair p (called call (is_full s.peer.phase) s.peer.ends) s.peer.ends) t) (calls_up p call s.peer).phase (put s.peer.ends p (happened_at p call s.peer).after) (past_at pair (Some p) (Some (called call (is_full s.peer.phase) s.peer.ends)) s.peer.ends past) moves
         go false = subst (λ (x : X). Kept pair x s.peer.ends past) (sym (ties.quiet t)) k
-
-    either : (a b : Bool) → (if a then (if b then Else else Else) else Else) ≡ Else
-    either true true = refl
-    either true false = refl
-    either false b = refl
-
-    -- the other calls are no use of the pair
-    other-call : (p : Pair) (call : PairCall) (s : PeerState) (past : Past) → did_called pair p call s ≡ Else → Kept pair t s.peer.ends past → Kept pair (add Else t) (calls p call s.peer).ends (past_called pair p call s past)
-    other-call p call s past e k = subst (λ (u : Use). Kept pair (add u t) (calls p call s.peer).ends (past_called pair p call s past)) e (call-kept p call s past k)
 
     -- what is no use of the pair leaves the tally
     quiet-kept : (m : Ends) (past : Past) → Kept pair t m past → Kept pair (add Else t) m past
@@ -308,7 +298,7 @@ module _ (X : Type 0) (add : Use → X → X) (K : Pair → Option End → Past 
     bits-kept (Err short) bits s past k = k
     bits-kept (Ok leader) bits s past k = message-kept leader.link bits (message_in bits) s past k
 
-    -- The other calls.
+    -- What else is asked.
 
     reset-kept : (quiet : Bool) (p : Peer) (past : Past) → Kept pair t p.ends past → Kept pair t (calls_reset quiet p).ends past
     reset-kept quiet p past k = go (is_resetting p.phase)
@@ -324,43 +314,20 @@ module _ (X : Type 0) (add : Use → X → X) (K : Pair → Option End → Past 
         go true = while-up pair t (echo_called byte p).phase p.ends past k
         go false = k
 
-    done-kept : (call : Call) (s : PeerState) (past : Past) → Kept pair t s.peer.ends past → Kept pair (add (did_by pair (HostNote.Done call) s) t) (called_for call s).peer.ends (past_of_call pair call s past)
-    done-kept (Call.Reset peer) s past k = quiet-kept (calls_reset (is_quiet s.slots) s.peer).ends past (reset-kept (is_quiet s.slots) s.peer past k)
-    done-kept (Call.AskSend peer local remote size room) s past k = call-kept (sockets local remote) (Ask_to_send size room) s past k
-    done-kept (Call.AskReceive peer local remote room) s past k = call-kept (sockets local remote) (Ask_to_receive room) s past k
-    done-kept (Call.Give peer p text) s past k = call-kept p (Give text) s past k
-    done-kept (Call.Take peer p bytes) s past k = call-kept p (Take bytes) s past k
-    done-kept (Call.Allocate peer p messages bits) s past k = call-kept p (Allocate messages bits) s past k
-    done-kept (Call.CallBack peer p fm fb) s past k = other-call p (Call_back fm fb) s past (either (up s.peer.phase) (same pair p)) k
-    done-kept (Call.Interrupt peer p) s past k = other-call p Interrupt s past (either (up s.peer.phase) (same pair p)) k
-    done-kept (Call.Echo peer byte) s past k = quiet-kept (calls_echo byte s.peer).ends past (echo-kept byte s.peer past k)
-    done-kept (Call.Close peer p) s past k = other-call p Close s past (either (up s.peer.phase) (same pair p)) k
-    done-kept (Call.Wake peer) s past k = quiet-kept s.peer.ends past k
-    done-kept (Call.State peer p) s past k = quiet-kept s.peer.ends past k
-    done-kept (Call.Phase peer) s past k = quiet-kept s.peer.ends past k
-    done-kept (Call.Echoed peer) s past k = quiet-kept s.peer.ends past k
-    done-kept (Call.Errors peer) s past k = quiet-kept s.peer.ends past k
-    done-kept (Call.Counts peer) s past k = quiet-kept s.peer.ends past k
-    done-kept (Call.Waiting peer place) s past k = quiet-kept s.peer.ends past k
-    done-kept (Call.Kept peer link) s past k = quiet-kept s.peer.ends past k
-    done-kept Call.Ignored s past k = quiet-kept s.peer.ends past k
+    asked-kept : (o : Option (ℕ × Asked)) (s : PeerState) (past : Past) → Kept pair t s.peer.ends past → Kept pair (add (did_asked pair o s) t) (state_asked o s).peer.ends (past_asked pair o s past)
+    asked-kept (Some (peer, Asks p call)) s past k = call-kept p call s past k
+    asked-kept (Some (peer, Asks_echo byte)) s past k = quiet-kept (calls_echo byte s.peer).ends past (echo-kept byte s.peer past k)
+    asked-kept (Some (peer, Asks_reset)) s past k = quiet-kept (calls_reset (is_quiet s.slots) s.peer).ends past (reset-kept (is_quiet s.slots) s.peer past k)
+    asked-kept (Some (peer, Asks_wake)) s past k = quiet-kept s.peer.ends past k
+    asked-kept None s past k = quiet-kept s.peer.ends past k
 
     note-kept : (note : HostNote) (s : PeerState) (past : Past) → Kept pair t s.peer.ends past → Kept pair (add (did_by pair note s) t) (note_for note s).peer.ends (past_by pair note s past)
-    note-kept (HostNote.Refused call fault) s past k = quiet-kept s.peer.ends past k
-    note-kept (HostNote.Done call) s past k = done-kept call s past k
+    note-kept (HostNote.Done call) s past k = asked-kept (asked_in call) s past k
     note-kept (HostNote.Took peer p bytes text) s past k = call-kept p (Take bytes) s past k
-    note-kept (HostNote.State peer p told) s past k = quiet-kept s.peer.ends past k
-    note-kept (HostNote.Phase peer flags) s past k = quiet-kept s.peer.ends past k
-    note-kept (HostNote.Echoed peer byte) s past k = quiet-kept s.peer.ends past k
-    note-kept (HostNote.Errors peer errors) s past k = quiet-kept s.peer.ends past k
-    note-kept (HostNote.Counts peer counts) s past k = quiet-kept s.peer.ends past k
-    note-kept (HostNote.Waiting peer place command) s past k = quiet-kept s.peer.ends past k
-    note-kept (HostNote.Kept peer link message) s past k = quiet-kept s.peer.ends past k
-    note-kept (HostNote.Ignored ignored) s past k = quiet-kept s.peer.ends past k
     note-kept (HostNote.Out message) s past k = quiet-kept (out_for (leader_in message) message s).peer.ends past (sent-kept (leader_in message) message s past k)
-    note-kept HostNote.Nothing s past k = quiet-kept s.peer.ends past k
     note-kept (HostNote.In message told) s past k = quiet-kept (bits_for (leader_in message) message s).peer.ends (past_bits pair (leader_in message) message s past) (bits-kept (leader_in message) message s past k)
     note-kept (HostNote.Answered peer link how told) s past k = quiet-kept (answer_comes link how s).peer.ends past (answers-kept link how s past k)
+    note-kept note s past k = quiet-kept s.peer.ends past k
 
   pub run-kept : (pair : Pair) (all : List HostNote) (s : PeerState) (past : Past) (t : X) → Kept pair t s.peer.ends past → Kept pair (tallied add t (did_run pair all s)) (notes_for all s).peer.ends (past_from pair all s past)
   run-kept pair [] s past t k = k

@@ -1,24 +1,16 @@
 -- What users did, by the notes of a transcript, is what they did by the notes of each host for the other.
-use Rattle.std.proofs.Common.{◌≡◌, ℕ, ◌+◌, ◌==◌, Bool, true, false, cond, if◌then◌else◌, List, [], ◌∷◌, ◌++◌, Option, None, Some, Result, Ok, Err, inl, inr, refl, sym, ap, ◌∙◌, subst}
+use Rattle.std.proofs.Common.{◌≡◌, ℕ, ◌+◌, Bool, true, false, cond, if◌then◌else◌, List, [], ◌∷◌, ◌++◌, Option, None, Some, refl, sym, ap, ◌∙◌, subst}
 use Rattle.std.proofs.lemmas.Bool.{eq-eqb}
 use Rattle.std.proofs.lemmas.List.Elements.{filter-append}
 use Rattle.ncp_leader.specs.declared.leader.Leader.{Leader}
-use Rattle.ncp_model.specs.declared.call_fault.CallFault.{CallFault}
-use Rattle.ncp_model.specs.declared.call_fault.CallFault.TheVariants.{OutOfMemory, UnknownPeer}
 use Rattle.ncp_model.specs.declared.pair.Pair.{Pair}
-use Rattle.ncp_model.specs.Peers.{Ask_to_send, Ask_to_receive, Close, Give, Take, Allocate, Call_back, Interrupt, comes_of, reply, reply_of_take, reply_of_echo}
-use Rattle.ncp_model.specs.Phase.{reset_answer}
-use Rattle.ncp_host.specs.PeerState.{PeerState}
-use Rattle.ncp_host.specs.Host.{state_of, if_known}
-use Rattle.ncp_host.specs.Calls.{record_told, flags_told, echoed_told, errors_told, counts_told, sockets}
 use Rattle.ncp_host.specs.Arrivals.{received_in}
 use Rattle.ncp_host.specs.Turns.{next_output}
 use Rattle.ncp_host.specs.declared.received.Received.{Received}
 use Rattle.ncp_subnet.specs.Messages.{arriving, answer_about}
 use Rattle.ncp_transcript.specs.declared.call.Call.{Call}
 use Rattle.ncp_transcript.specs.declared.note.HostNote.{HostNote}
-use Rattle.ncp_transcript.specs.Notes.{done_or_refused, told_or_refused}
-use Rattle.ncp_transcript.specs.Answers.{answer_to}
+use Rattle.ncp_transcript.proofs.AskedCalls.{reads}
 use Rattle.ncp_transcript.specs.Noting.{CallNoted, answer_in, note_as, note_of_bits, note_of_message}
 use Rattle.ncp_proof_runs.specs.Peers.{names, notes_of_peer}
 use Rattle.ncp_transcript_two.specs.Sides.{if_same, notes_at_side, notes_at}
@@ -30,13 +22,12 @@ use Rattle.ncp_transcript_two.specs.declared.note.Note.{Note}
 use Rattle.ncp_transcript_two.specs.Between.{Hosts, other, side_number, host_of, transit_of, hosts_after_note}
 use Rattle.ncp_transcript_two.specs.Happening.{Noted, note_of_coming, note_of_answering}
 use Rattle.ncp_transcript_two.specs.Transcript.{IsRun, began, IsTranscript}
-use Rattle.ncp_transcript_two.proofs.OnePeer.{only-peer}
 use Rattle.ncp_transcript_two.proofs.SeenSteps.{Stand}
 use Rattle.ncp_transcript_two.proofs.SeenRuns.{stand-after}
 use Rattle.ncp_transcript_two.proofs.Headlines.{stands}
 use Rattle.ncp_statement.specs.Statement.{Use, Asked, Gave, Had, Let, Else, use_of, use_at, uses, taken_from, given_from, allowed_from, taken, given, allowed}
 use Rattle.ncp_proof_statement.specs.Since.{uses_by}
-use Rattle.ncp_proof_statement.proofs.Walking.{only-one}
+use Rattle.ncp_proof_promises.proofs.CallsNoted.{asked-names, own-kinds}
 use Rattle.ncp_proof_statement.proofs.Walk.{stays}
 
 -- without what is none of the pair
@@ -106,55 +97,21 @@ module _ (pair : Pair) where
     quiet : (hn : HostNote) → use_of pair hn ≡ Else → Own hn
     quiet hn e = nothing (names (side_number (other side) w) hn) hn e
 
-    of_peer : (peer : ℕ) (hn : HostNote) → names (side_number (other side) w) hn ≡ (peer == side_number (other side) w) → peer ≡ side_number (other side) w → Own hn
-    of_peer peer hn e is = named (names (side_number (other side) w) hn) hn (e ∙ eq-eqb peer (side_number (other side) w) is)
+    own-took : (q : Pair) (bytes : ℕ) (text : List Bool) → Own (HostNote.Took (side_number (other side) w) q bytes text)
+    own-took q bytes text = named (names (side_number (other side) w) (HostNote.Took (side_number (other side) w) q bytes text)) (HostNote.Took (side_number (other side) w) q bytes text) (eq-eqb (side_number (other side) w) (side_number (other side) w) refl)
 
-    own-made : {T : Type 0} (call : Call) (told : T → HostNote) (peer : ℕ) (f : PeerState → Result T CallFault) → ((x : T) → peer ≡ side_number (other side) w → Own (told x)) → Own (told_or_refused call told (if_known (state_of (host_of side w) peer) f))
-    own-made call told peer f made = go (state_of (host_of side w) peer) refl
-      where
-        by : (s : PeerState) → state_of (host_of side w) peer ≡ Some s → (r : Result _ CallFault) → Own (told_or_refused call told r)
-        by s e (Ok x) = made x (only-peer (side_number (other side) w) peer s (host_of side w).peers (only-one side w k) e)
-        by s e (Err fault) = quiet (HostNote.Refused call fault) refl
-
-        go : (o : Option PeerState) → state_of (host_of side w) peer ≡ o → Own (told_or_refused call told (if_known o f))
-        go None e = quiet (HostNote.Refused call UnknownPeer) refl
-        go (Some s) e = by s e (f s)
-
-    own-done : (call : Call) (peer : ℕ) (f : PeerState → Result (Unit {0}) CallFault) → names (side_number (other side) w) (HostNote.Done call) ≡ (peer == side_number (other side) w) → Own (done_or_refused call (if_known (state_of (host_of side w) peer) f))
-    own-done call peer f e = subst Own (sym (same_note (if_known (state_of (host_of side w) peer) f))) (own-made call (λ (u : Unit {0}). HostNote.Done call) peer f (λ x is. of_peer peer (HostNote.Done call) e is))
-      where
-        same_note : (r : Result (Unit {0}) CallFault) → done_or_refused call r ≡ told_or_refused call (λ (u : Unit {0}). HostNote.Done call) r
-        same_note (Ok u) = refl
-        same_note (Err fault) = refl
-
-    reading : {T : Type 0} (call : Call) (told : T → HostNote) (r : Result T CallFault) → ((x : T) → use_of pair (told x) ≡ Else) → Own (told_or_refused call told r)
-    reading call told (Ok x) says = quiet (told x) (says x)
-    reading call told (Err fault) says = quiet (HostNote.Refused call fault) refl
-
-    own-answer : (call : Call) → Own (answer_to call (host_of side w))
-    own-answer (Call.Reset peer) = own-done (Call.Reset peer) peer (λ s. reset_answer s.peer.phase) refl
-    own-answer (Call.AskSend peer local remote size room) = own-done (Call.AskSend peer local remote size room) peer (λ s. reply (comes_of (sockets local remote) (Ask_to_send size room) s.peer)) refl
-    own-answer (Call.AskReceive peer local remote room) = own-done (Call.AskReceive peer local remote room) peer (λ s. reply (comes_of (sockets local remote) (Ask_to_receive room) s.peer)) refl
-    own-answer (Call.Give peer q text) = own-done (Call.Give peer q text) peer (λ s. reply (comes_of q (Give text) s.peer)) refl
-    own-answer (Call.Take peer q bytes) = own-made (Call.Take peer q bytes) (HostNote.Took peer q bytes) peer (λ s. reply_of_take (comes_of q (Take bytes) s.peer)) (λ x is. of_peer peer (HostNote.Took peer q bytes x) refl is)
-    own-answer (Call.Allocate peer q m b) = own-done (Call.Allocate peer q m b) peer (λ s. reply (comes_of q (Allocate m b) s.peer)) refl
-    own-answer (Call.CallBack peer q fm fb) = own-done (Call.CallBack peer q fm fb) peer (λ s. reply (comes_of q (Call_back fm fb) s.peer)) refl
-    own-answer (Call.Interrupt peer q) = own-done (Call.Interrupt peer q) peer (λ s. reply (comes_of q Interrupt s.peer)) refl
-    own-answer (Call.Echo peer byte) = own-done (Call.Echo peer byte) peer (λ s. reply_of_echo byte s.peer) refl
-    own-answer (Call.Close peer q) = own-done (Call.Close peer q) peer (λ s. reply (comes_of q Close s.peer)) refl
-    own-answer (Call.Wake peer) = own-done (Call.Wake peer) peer (λ s. Ok tt) refl
-    own-answer (Call.State peer q) = reading (Call.State peer q) (HostNote.State peer q) (record_told peer q (host_of side w)) (λ x. refl)
-    own-answer (Call.Phase peer) = reading (Call.Phase peer) (HostNote.Phase peer) (flags_told peer (host_of side w)) (λ x. refl)
-    own-answer (Call.Echoed peer) = reading (Call.Echoed peer) (HostNote.Echoed peer) (echoed_told peer (host_of side w)) (λ x. refl)
-    own-answer (Call.Errors peer) = reading (Call.Errors peer) (HostNote.Errors peer) (errors_told peer (host_of side w)) (λ x. refl)
-    own-answer (Call.Counts peer) = reading (Call.Counts peer) (HostNote.Counts peer) (counts_told peer (host_of side w)) (λ x. refl)
-    own-answer (Call.Waiting peer place) = quiet (answer_to (Call.Waiting peer place) (host_of side w)) refl
-    own-answer (Call.Kept peer link) = quiet (answer_to (Call.Kept peer link) (host_of side w)) refl
-    own-answer Call.Ignored = quiet (answer_to Call.Ignored (host_of side w)) refl
+    was-read : (hn : HostNote) (call : Call) → reads hn ≡ Some call → Own hn
+    was-read (HostNote.Done call) of e = absurd (cc e)
+    was-read (HostNote.Took peer q bytes text) of e = absurd (cc e)
+    was-read hn of e = quiet hn refl
 
     own : (call : Call) (hn : HostNote) → CallNoted call hn (host_of side w) → Own hn
-    own call hn (inl e) = subst Own (sym e) (own-answer call)
-    own call hn (inr want) = subst Own (sym want.said) (quiet (HostNote.Refused call OutOfMemory) refl)
+    own =
+        own-kinds side w k Own
+        (λ call asked is. named (names (side_number (other side) w) (HostNote.Done call)) (HostNote.Done call) (asked-names (side_number (other side) w) call asked is))
+        own-took
+        (λ call fault. quiet (HostNote.Refused call fault) refl)
+        was-read
 
   called : (side by : Side) (w : Hosts) → Stand w → (call : Call) (hn : HostNote) → CallNoted call hn (host_of by w) → UseStep side (Note.Called by hn) w
   called A A w k call hn c = own A w k call hn c

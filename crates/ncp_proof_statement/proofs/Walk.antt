@@ -33,7 +33,8 @@ use Rattle.ncp_transcript_two.proofs.Runs.{new-ties}
 use Rattle.ncp_transcript_two.proofs.Headlines.{stands, new}
 use Rattle.ncp_transcript_two.proofs.Growing.{began_noted}
 use Rattle.ncp_transcript_two.proofs.OneSide.{of_event}
-use Rattle.ncp_proof_statement.proofs.Walking.{mine, ours, step-here}
+use Rattle.ncp_proof_promises.proofs.MadeWalking.{ours}
+use Rattle.ncp_proof_statement.proofs.Walking.{mine, step-here}
 
 -- One list of notes behind another.
 

@@ -34,10 +34,10 @@ module _ (me : ℕ) (ns : List ℕ) (all : List HostNote) (n : ℕ) (pair : Pair
       at.0 live
 
 pub returns-clause-taken : goal.returns-clause-taken
-returns-clause-taken c me ns all n s pair e from there r is live = taken-is me ns all n pair from ∙ (since me ns all n pair from s e there r is live).0
+returns-clause-taken c me ns all n s pair from there e r is live = taken-is me ns all n pair from ∙ (since me ns all n pair from s e there r is live).0
 
 pub returns-clause-allowed : goal.returns-clause-allowed
-returns-clause-allowed c me ns all n s pair e from there r is live = allowed-is me ns all n pair from ∙ (since me ns all n pair from s e there r is live).1
+returns-clause-allowed c me ns all n s pair from there e r is live = allowed-is me ns all n pair from ∙ (since me ns all n pair from s e there r is live).1
 
 pub returns-clause-within : goal.returns-clause-within
 returns-clause-within c me ns all n pair from =
