@@ -1,18 +1,17 @@
 -- All that a control text of a peer holds comes: the texts that are told of the connections of a host are still what its ends have
 -- to do with.
-use Rattle.std.proofs.Common.{◌≡◌, ℕ, Bool, true, false, if◌then◌else◌, List, [], ◌∷◌, ◌++◌, Option, None, Some, Ok, refl, sym, subst}
+use Rattle.std.proofs.Common.{◌≡◌, ℕ, Bool, true, false, List, [], ◌∷◌, ◌++◌, Option, None, Some, Ok, sym, subst}
 use Rattle.std.specs.Prelude.{nat_lt}
 use Rattle.ncp_terms.specs.declared.command.Command.{Command}
 use Rattle.ncp_terms.specs.declared.fault.CommandFault.{CommandFault}
 use Rattle.ncp_control.specs.Texts.{items_of}
 use Rattle.ncp_slot.specs.Slots.{is_quiet}
 use Rattle.ncp_model.specs.Act.{answer, made_by_hearing}
-use Rattle.ncp_model.specs.Ends.{Ends, leads_to, hear, map_after_at, no_ends}
-use Rattle.ncp_model.specs.Phase.{up, is_other, phase_hears}
-use Rattle.ncp_model.specs.Peers.{Peer, echo_replies, echoes_after, reaction, hears, hears_other}
-use Rattle.ncp_model.specs.Echo.{Echoes}
+use Rattle.ncp_model.specs.Ends.{leads_to, hear, map_after_at}
+use Rattle.ncp_model.specs.Phase.{is_other}
+use Rattle.ncp_model.specs.Peers.{Peer, echo_replies}
 use Rattle.ncp_proof_machine.specs.Hosts.{Pasts}
-use Rattle.ncp_proof_machine.proofs.EndsGood.{Good, none-good}
+use Rattle.ncp_proof_machine.proofs.EndsGood.{Good}
 use Rattle.ncp_host.specs.PeerState.{PeerState}
 use Rattle.ncp_host.specs.Hearing.{state_hears, state_hears_text}
 use Rattle.ncp_host.specs.Soundness.{SoundPeer}
@@ -30,52 +29,23 @@ use Rattle.ncp_follow.specs.declared.tracks.TheConstants.{MAX_TRACKS}
 use Rattle.ncp_follow.specs.declared.session.Session.{Session}
 use Rattle.ncp_follow.specs.declared.tables.Tables.{Tables}
 use Rattle.ncp_follow.specs.Followed.{tables_after, tables_after_all, session_after}
-use Rattle.ncp_proof_umpire.proofs.EndsStay.{command_good}
 use Rattle.ncp_proof_umpire.proofs.Phased.{Sees}
 use Rattle.ncp_proof_umpire.proofs.PhaseSteps.{Stands, command_stands}
 use Rattle.ncp_proof_umpire_seen.proofs.TidyBooks.{Tidy}
 use Rattle.ncp_proof_umpire_seen.proofs.Proper.{ProperEnds}
 use Rattle.ncp_proof_umpire_talk.proofs.Carries.{ShowsBusy}
 use Rattle.ncp_proof_umpire_talk.proofs.Borne.{Borne, QuietTells, hears_borne}
-use Rattle.ncp_proof_umpire_talk.proofs.ComesTold.{awaited_after, LeavingBusy, command_tells}
+use Rattle.ncp_proof_umpire_talk.proofs.ComesTold.{LeavingBusy, command_tells}
 use Rattle.ncp_proof_umpire_talk.proofs.LeavingBusy.{leaving_busy}
 use Rattle.ncp_proof_umpire_talk.proofs.Spoken.{Tells}
 use Rattle.ncp_proof_umpire_talk.proofs.SpokenIn.{CommandTells, command_spoken}
 use Rattle.ncp_proof_umpire_talk.proofs.SpokenOut.{Known}
+use Rattle.ncp_proof_umpire_talk.proofs.PeerIn.{awaits_after, hears_good}
 use Rattle.ncp_proof_umpire_owes.proofs.BooksRead.{Reads, talk_reads, items_read}
 use Rattle.ncp_proof_follow_books.proofs.Besides.{front_none, rest_none}
 use Rattle.ncp_proof_follow.proofs.SameItems.{Followed, item_followed}
 use Rattle.ncp_proof_follow_books.proofs.Placed.{Placed}
 use Rattle.ncp_proof_follow.proofs.ControlComes.{AtHost, from_peer, their_talk, heard, command_after}
-
-awaits_after : (c : Command) (s : Echoes) → (echoes_after c s).awaited ≡ awaited_after c s.awaited
-awaits_after Command.Nop s = refl
-awaits_after (Command.Rts x y z) s = refl
-awaits_after (Command.Str x y z) s = refl
-awaits_after (Command.Cls x y) s = refl
-awaits_after (Command.All x y z) s = refl
-awaits_after (Command.Gvb x y z) s = refl
-awaits_after (Command.Ret x y z) s = refl
-awaits_after (Command.Inr x) s = refl
-awaits_after (Command.Ins x) s = refl
-awaits_after (Command.Eco x) s = refl
-awaits_after (Command.Erp x) s = refl
-awaits_after (Command.Err x y) s = refl
-awaits_after Command.Rst s = refl
-awaits_after Command.Rrp s = refl
-
-kept_good : (b : Bool) (m : Ends) → Good m → Good (if b then m else no_ends)
-kept_good true m g = g
-kept_good false m g = none-good
-
-good_where : (b : Bool) (p q : Peer) → Good p.ends → Good q.ends → Good (if b then p else q).ends
-good_where true p q k l = k
-good_where false p q k l = l
-
-hears_good : (q : Bool) (c : Command) (p : Peer) → Good p.ends → Good (hears q c p).ends
-hears_good q Command.Rst p k = none-good
-hears_good q Command.Rrp p k = k
-hears_good q c p k = good_where (up p.phase) (hears_other q c p) p (kept_good (up (phase_hears c (reaction q c p) p.phase)) (map_after_at p.ends (leads_to c p.ends) (hear c p.ends)) (command_good c p.ends k)) k
 
 module _ (number me n : ℕ) (busy : Option ℕ) (zero : Bool) (kept : List Kept) (roomy : (i : ℕ) → nat_lt i MAX_BOOKS ≡ true → nat_lt i MAX_TRACKS ≡ true) where
   heard_tells : (c : Command) (p : Peer) (b : SeenBooks) → Good p.ends → ProperEnds p.ends → LeavingBusy me n p.ends kept → Tidy b → is_other c ≡ true → CommandTells me n busy zero kept c p b

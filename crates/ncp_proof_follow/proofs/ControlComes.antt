@@ -273,20 +273,9 @@ module _ (number me n : ℕ) (busy : Option ℕ) (zero : Bool) (kept : List Kept
         still x = ap (λ (z : Bool). is_live (get (if z then x else s.peer).ends q)) d ∙ none
 
         at_thing : (c : Command) → IsThing c → is_live (get (hears (is_quiet s.slots) c s.peer).ends q) ≡ false
-        at_thing Command.Nop j = still (hears_other (is_quiet s.slots) Command.Nop s.peer)
-        at_thing (Command.Rts x y z) j = still (hears_other (is_quiet s.slots) (Command.Rts x y z) s.peer)
-        at_thing (Command.Str x y z) j = still (hears_other (is_quiet s.slots) (Command.Str x y z) s.peer)
-        at_thing (Command.Cls x y) j = still (hears_other (is_quiet s.slots) (Command.Cls x y) s.peer)
-        at_thing (Command.All x y z) j = still (hears_other (is_quiet s.slots) (Command.All x y z) s.peer)
-        at_thing (Command.Gvb x y z) j = still (hears_other (is_quiet s.slots) (Command.Gvb x y z) s.peer)
-        at_thing (Command.Ret x y z) j = still (hears_other (is_quiet s.slots) (Command.Ret x y z) s.peer)
-        at_thing (Command.Inr x) j = still (hears_other (is_quiet s.slots) (Command.Inr x) s.peer)
-        at_thing (Command.Ins x) j = still (hears_other (is_quiet s.slots) (Command.Ins x) s.peer)
-        at_thing (Command.Eco x) j = still (hears_other (is_quiet s.slots) (Command.Eco x) s.peer)
-        at_thing (Command.Erp x) j = still (hears_other (is_quiet s.slots) (Command.Erp x) s.peer)
-        at_thing (Command.Err x y) j = still (hears_other (is_quiet s.slots) (Command.Err x y) s.peer)
         at_thing Command.Rst j = absurd (cc j.act)
         at_thing Command.Rrp j = absurd (cc j.act)
+        at_thing c j = still (hears_other (is_quiet s.slots) c s.peer)
 
     -- ---- what is neither, while the host is up: it is heard
 

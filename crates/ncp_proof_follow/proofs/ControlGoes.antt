@@ -17,7 +17,8 @@ use Rattle.ncp_follow.specs.declared.choice.Choice.{Choice}
 use Rattle.ncp_follow.specs.Sessions.{is_heard}
 use Rattle.ncp_follow.specs.Tables.{pair_place, link_place, after_request, is_right, is_of_receiver, after_asking, closed_at}
 use Rattle.ncp_follow.specs.Followed.{after_command, heard_after, end_of_reset, tables_after, tables_after_all, session_after}
-use Rattle.ncp_proof_umpire_seen.proofs.OwnMoves.{says_of, all_says}
+use Rattle.ncp_proof_umpire_seen.proofs.OwnMoves.{all_says}
+use Rattle.ncp_proof_umpire_seen.proofs.Comes.{says_append}
 use Rattle.ncp_proof_follow_books.proofs.Placed.{Name, named, text_named, Placed, Stays, stays_same}
 use Rattle.ncp_proof_follow_books.proofs.PlacedSteps.{after_request_stays, IsOver, ClosedSo, closed_so, granted_stays, returned_stays, cleared_so, cleared_named}
 use Rattle.ncp_proof_follow_books.proofs.LeftsStay.{LeftsStay, lefts_same, command_lefts}
@@ -38,14 +39,10 @@ cls_said u w e ((p, c) ∷ more) = go (same u p) c (cls_said u w e more)
 abbrev pub IsSaid : List Command → Command → Type 0
 IsSaid w c = (before : List Command) × (after : List Command) × (w ≡ before ++ c ∷ after)
 
-says_parts : (xs ys : List Command) → all_says (xs ++ ys) ≡ all_says xs ++ all_says ys
-says_parts [] ys = refl
-says_parts (x ∷ xs) ys = ap (λ (zs : List (Sockets × Say)). says_of x ++ zs) (says_parts xs ys) ∙ sym (append_assoc (says_of x) (all_says xs) (all_says ys))
-
 cls_waits : (w : List Command) (my your : ℕ) → IsSaid w (Command.Cls my your) → leaves_in (about (my, your) (all_says w)) ≡ true
 cls_waits w my your (before, after, is) =
     subst (λ (x : List Command). leaves_in (about (my, your) (all_says x)) ≡ true) (sym is)
-    (subst (λ (x : List (Sockets × Say)). leaves_in (about (my, your) x) ≡ true) (sym (says_parts before (Command.Cls my your ∷ after)))
+    (subst (λ (x : List (Sockets × Say)). leaves_in (about (my, your) x) ≡ true) (sym (says_append before (Command.Cls my your ∷ after)))
     (cls_said (my, your) (all_says (Command.Cls my your ∷ after)) here (all_says before)))
   where
     itself : same (my, your) (my, your) ≡ true
@@ -118,12 +115,7 @@ module _ (number me n : ℕ) (m : Ends) (w : List Command) (start : Tables) wher
     obeyed t (Command.Ret link messages bits) said k =
         by_stays t (after_command saying (Command.Ret link messages bits) t) k (returned_stays saying t k.placed true link messages bits (link_place me n true link t.tracks) refl) (command_lefts saying t k.placed (Command.Ret link messages bits))
     obeyed t (Command.Inr link) said k = k
-    obeyed t (Command.Ins link) said k = k
-    obeyed t (Command.Eco byte) said k = k
-    obeyed t (Command.Erp byte) said k = k
-    obeyed t (Command.Err code bytes) said k = k
-    obeyed t Command.Rst said k = k
-    obeyed t Command.Rrp said k = k
+    obeyed t c said k = k
 
     heard_or_not : (t : Tables) (c : Command) (σ : Session) → IsSaid w c → GoneOut t → GoneOut (heard_after saying c σ t)
     heard_or_not t c σ said k = go (is_heard σ true)
@@ -141,18 +133,7 @@ module _ (number me n : ℕ) (m : Ends) (w : List Command) (start : Tables) wher
           lefts = λ j track e g. k.lefts j track (cleared_named saying t k.placed j track e) g;
         }
     item_goes t Command.Rrp σ said k = k
-    item_goes t Command.Nop σ said k = heard_or_not t Command.Nop σ said k
-    item_goes t (Command.Rts x y z) σ said k = heard_or_not t (Command.Rts x y z) σ said k
-    item_goes t (Command.Str x y z) σ said k = heard_or_not t (Command.Str x y z) σ said k
-    item_goes t (Command.Cls x y) σ said k = heard_or_not t (Command.Cls x y) σ said k
-    item_goes t (Command.All x y z) σ said k = heard_or_not t (Command.All x y z) σ said k
-    item_goes t (Command.Gvb x y z) σ said k = heard_or_not t (Command.Gvb x y z) σ said k
-    item_goes t (Command.Ret x y z) σ said k = heard_or_not t (Command.Ret x y z) σ said k
-    item_goes t (Command.Inr x) σ said k = heard_or_not t (Command.Inr x) σ said k
-    item_goes t (Command.Ins x) σ said k = heard_or_not t (Command.Ins x) σ said k
-    item_goes t (Command.Eco x) σ said k = heard_or_not t (Command.Eco x) σ said k
-    item_goes t (Command.Erp x) σ said k = heard_or_not t (Command.Erp x) σ said k
-    item_goes t (Command.Err x y) σ said k = heard_or_not t (Command.Err x y) σ said k
+    item_goes t c σ said k = heard_or_not t c σ said k
 
     pub all_go : (cs rest : List Command) (t : Tables) (σ : Session) (before : List Command) → w ≡ before ++ (cs ++ rest) → GoneOut t → GoneOut (tables_after_all saying (map Ok cs) σ t)
     all_go [] rest t σ before is k = k

@@ -24,7 +24,8 @@ use Rattle.ncp_transcript.specs.declared.note.HostNote.{HostNote}
 use Rattle.ncp_transcript.specs.After.{after_note}
 use Rattle.ncp_transcript.specs.Noting.{note_of_message, note_of_bits}
 use Rattle.ncp_transcript_two.specs.Subnet.{Free, Accepted, Delivered, Lost, Dead, from_host, answer_bits}
-use Rattle.ncp_transcript_two.specs.World.{World, Asked, Asks, Replied, Took, WorldStep, Call_is_made, Goes_out, Is_delivered, Is_lost, Finds_dead, Is_answered, Told, Called, swap, goes, delivers, loses, dies, answers_for, moves}
+use Rattle.ncp_transcript.specs.Asked.{Asked, Asks, Replied, Took, asked_in}
+use Rattle.ncp_transcript_two.specs.World.{World, WorldStep, Call_is_made, Goes_out, Is_delivered, Is_lost, Finds_dead, Is_answered, Told, Called, swap, goes, delivers, loses, dies, answers_for, moves}
 use Rattle.ncp_transcript_two.specs.Watch.{Both, turn, histories_after_told, pasts_after_message}
 use Rattle.ncp_transcript_two.specs.declared.side.Side.TheVariants.{A, B}
 use Rattle.ncp_transcript_two.specs.declared.event.Event.{Event}
@@ -32,7 +33,7 @@ use Rattle.ncp_transcript_two.specs.declared.note.Move.{Move}
 use Rattle.ncp_transcript_two.specs.declared.note.Note.{Note}
 use Rattle.ncp_transcript_two.specs.Between.{Hosts, transit_of, hosts_after_note}
 use Rattle.ncp_transcript_two.specs.Happening.{Noted, IsCalled, note_of_coming, note_of_answering, note_of_out, note_of_delivery, note_of_loss, note_of_death, note_of_answer}
-use Rattle.ncp_transcript_two.specs.Seen.{had_for, seen, asked_by, done, told_call, told_in, told_answer, watched}
+use Rattle.ncp_transcript_two.specs.Seen.{had_for, seen, done, told_call, told_in, told_answer, watched}
 use Rattle.ncp_transcript_two.proofs.OnePeer.{had-changed, noted-message, noted-answer}
 use Rattle.ncp_transcript_two.proofs.SeenRuns.{turned, DoesOn, event-does}
 use Rattle.ncp_transcript_two.proofs.Written.{answer_leader}
@@ -93,26 +94,14 @@ abbrev is_called : Told → Bool
 is_called (Called asked reply) = true
 is_called other = false
 
-done_called : (o : Option Asked) (t : Told) → done o ≡ Some t → is_called t ≡ true
+done_called : (o : Option (ℕ × Asked)) (t : Told) → done o ≡ Some t → is_called t ≡ true
 done_called None t e = absurd (cc e)
-done_called (Some asked) t e = let is : Called asked (Replied (Ok tt)) ≡ t = cc e in ap is_called (sym is)
+done_called (Some (peer, asked)) t e = let is : Called asked (Replied (Ok tt)) ≡ t = cc e in ap is_called (sym is)
 
 told_called : (h : HostNote) (t : Told) → told_call h ≡ Some t → is_called t ≡ true
-told_called (HostNote.Refused call fault) t e = absurd (cc e)
-told_called (HostNote.Done call) t e = done_called (asked_by call) t e
+told_called (HostNote.Done call) t e = done_called (asked_in call) t e
 told_called (HostNote.Took peer pair bytes text) t e = let is : Called (Asks pair (Take bytes)) (Took (Ok text)) ≡ t = cc e in ap is_called (sym is)
-told_called (HostNote.State peer pair r) t e = absurd (cc e)
-told_called (HostNote.Phase peer flags) t e = absurd (cc e)
-told_called (HostNote.Echoed peer byte) t e = absurd (cc e)
-told_called (HostNote.Errors peer errors) t e = absurd (cc e)
-told_called (HostNote.Counts peer counts) t e = absurd (cc e)
-told_called (HostNote.Waiting peer place command) t e = absurd (cc e)
-told_called (HostNote.Kept peer link message) t e = absurd (cc e)
-told_called (HostNote.Ignored ignored) t e = absurd (cc e)
-told_called (HostNote.Out message) t e = absurd (cc e)
-told_called HostNote.Nothing t e = absurd (cc e)
-told_called (HostNote.In message received) t e = absurd (cc e)
-told_called (HostNote.Answered peer link how received) t e = absurd (cc e)
+told_called other t e = absurd (cc e)
 
 -- only a call is told as one
 
@@ -151,20 +140,7 @@ answers_uncalled on Dead v = refl
 -- what comes to a host and is not a message of its peer changes no history
 answered_histories : (link : ℕ) (h : HostNote) (v : World) (p : Both) → watched This (told_answer link h) v p ≡ p
 answered_histories link (HostNote.Refused call fault) v p = refl
-answered_histories link (HostNote.Done call) v p = refl
-answered_histories link (HostNote.Took peer pair bytes text) v p = refl
-answered_histories link (HostNote.State peer pair r) v p = refl
-answered_histories link (HostNote.Phase peer flags) v p = refl
-answered_histories link (HostNote.Echoed peer byte) v p = refl
-answered_histories link (HostNote.Errors peer errors) v p = refl
-answered_histories link (HostNote.Counts peer counts) v p = refl
-answered_histories link (HostNote.Waiting peer place command) v p = refl
-answered_histories link (HostNote.Kept peer link' message) v p = refl
-answered_histories link (HostNote.Ignored ignored) v p = refl
-answered_histories link (HostNote.Out message) v p = refl
-answered_histories link HostNote.Nothing v p = refl
-answered_histories link (HostNote.In message received) v p = refl
-answered_histories link (HostNote.Answered peer on how received) v p = refl
+answered_histories link note v p = refl
 
 -- of the other side
 watched_turned : (o : Option Told) (v : World) (p : Both) → turn (watched This o (swap v) (turn p)) ≡ watched That o v p
@@ -312,12 +288,7 @@ module _ (Kept : Hosts → Umpire → Type 0) (known_of : (w : Hosts) (u : Umpir
       where
         one : (t : Told) → is_called t ≡ true → (histories_after_told t (seen w) p).that ≡ p.that
         one (Called asked reply) c = refl
-        one (Told.Out m) c = absurd (cc c)
-        one (Told.In on m r) c = absurd (cc c)
-        one (Told.Went_lost on) c = absurd (cc c)
-        one (Told.Went_dead on) c = absurd (cc c)
-        one (Told.Answered on how r) c = absurd (cc c)
-        one Told.Nothing c = absurd (cc c)
+        one told c = absurd (cc c)
 
         go : (o : Option Told) → told_call x ≡ o → (watched This o (seen w) p).that ≡ p.that
         go None e = refl

@@ -11,7 +11,7 @@ use Rattle.std.specs.FinMap.Entries.{by_order, below_all, is_sorted, where_key, 
 use Rattle.std.proofs.lemmas.Map.Views.{tells_apart}
 use Rattle.std.proofs.lemmas.List.Sums.{count_by-le-length, sum_by-cons}
 use Rattle.ncp_terms.specs.declared.command.Command.{Command}
-use Rattle.ncp_terms.specs.declared.command.Command.TheVariants.{Rts, Str, Cls, Eco, Erp, Err, Nop, All, Gvb, Ret, Inr, Ins, Rst, Rrp}
+use Rattle.ncp_terms.specs.declared.command.Command.TheVariants.{Rts, Str, Cls, All, Gvb, Ret, Inr, Ins, Rst, Rrp}
 use Rattle.ncp_model.specs.declared.pair.Pair.{Pair}
 use Rattle.ncp_model.specs.declared.limits.TheConstants.{MAX_OWN, MAX_BY_PEER}
 use Rattle.ncp_model.specs.Pairs.{pair_cmp}
@@ -27,7 +27,7 @@ use Rattle.ncp_model.proofs.LinksLead.{itself, led, command-led, cut-led, answer
 use Rattle.ncp_model.proofs.PairOrder.{pairs_exact, pairs_total}
 use Rattle.ncp_proof_resets.specs.Delivery.{Slot, Empty, Ready, Travelling, Held, MessageTransit, Free, Accepted, Delivered, Lost, Dead}
 use Rattle.ncp_proof_resets.specs.Resets.{is_up, host_resets, Party, This, That}
-use Rattle.ncp_proof_machine.specs.Hosts.{PairCall, called, quiet, node_cleared, TextOut, Node, node_kept, node_hears, node_hears_other, node_hears_all, node_takes_text, node_hears_text, node_cuts, node_sends_text, node_frees, text_answered, control_answered, node_calls, happens_at, node_echo_called, TwoNodes, nodes_swapped, message_comes, node_text_comes, NodeStep, Calls_reset, Calls, Calls_echo, Falls, Sends, Sends_text, Hears, Hears_text, Loses, Loses_text, Dies, Text_dies, Is_answered, Text_is_answered, Wakes, node_steps, node_at}
+use Rattle.ncp_proof_machine.specs.Hosts.{PairCall, called, quiet, node_cleared, TextOut, Node, node_kept, node_hears, node_hears_other, node_hears_all, node_takes_text, node_hears_text, node_cuts, node_sends_text, node_frees, text_answered, control_answered, node_calls, happens_at, node_echo_called, TwoNodes, nodes_swapped, message_comes, node_text_comes, NodeStep, Calls_reset, Calls, Calls_echo, Falls, Sends_text, Hears, Hears_text, Is_answered, Text_is_answered, node_steps, node_at}
 use Rattle.ncp_proof_machine.proofs.HostsBase.{either, other-keeps}
 use Rattle.ncp_transcript_two.specs.Tie.{Reached, Begins, Goes_on}
 
@@ -384,18 +384,7 @@ few_kept false m few = few_none
 few_hears : (c : Command) (n : Node) → Few n.ends → Few (node_hears c n).ends
 few_hears Rst n few = few_none
 few_hears Rrp n few = few
-few_hears (Rts receive send link) n few = either (λ (k : Node). Few k.ends) (is_up n.host) (node_hears_other (Rts receive send link) n) n (few_kept (is_up (node_hears_other (Rts receive send link) n).host) (map_after_at n.ends (leads_to (Rts receive send link) n.ends) (hear (Rts receive send link) n.ends)) (few_command (Rts receive send link) n.ends few)) few
-few_hears (Str send receive size) n few = either (λ (k : Node). Few k.ends) (is_up n.host) (node_hears_other (Str send receive size) n) n (few_kept (is_up (node_hears_other (Str send receive size) n).host) (map_after_at n.ends (leads_to (Str send receive size) n.ends) (hear (Str send receive size) n.ends)) (few_command (Str send receive size) n.ends few)) few
-few_hears (Cls my your) n few = either (λ (k : Node). Few k.ends) (is_up n.host) (node_hears_other (Cls my your) n) n (few_kept (is_up (node_hears_other (Cls my your) n).host) (map_after_at n.ends (leads_to (Cls my your) n.ends) (hear (Cls my your) n.ends)) (few_command (Cls my your) n.ends few)) few
-few_hears (Eco byte) n few = either (λ (k : Node). Few k.ends) (is_up n.host) (node_hears_other (Eco byte) n) n (few_kept (is_up (node_hears_other (Eco byte) n).host) (map_after_at n.ends (leads_to (Eco byte) n.ends) (hear (Eco byte) n.ends)) (few_command (Eco byte) n.ends few)) few
-few_hears (Erp byte) n few = either (λ (k : Node). Few k.ends) (is_up n.host) (node_hears_other (Erp byte) n) n (few_kept (is_up (node_hears_other (Erp byte) n).host) (map_after_at n.ends (leads_to (Erp byte) n.ends) (hear (Erp byte) n.ends)) (few_command (Erp byte) n.ends few)) few
-few_hears (Err code bytes) n few = either (λ (k : Node). Few k.ends) (is_up n.host) (node_hears_other (Err code bytes) n) n (few_kept (is_up (node_hears_other (Err code bytes) n).host) (map_after_at n.ends (leads_to (Err code bytes) n.ends) (hear (Err code bytes) n.ends)) (few_command (Err code bytes) n.ends few)) few
-few_hears Nop n few = either (λ (k : Node). Few k.ends) (is_up n.host) (node_hears_other Nop n) n (few_kept (is_up (node_hears_other Nop n).host) (map_after_at n.ends (leads_to Nop n.ends) (hear Nop n.ends)) (few_command Nop n.ends few)) few
-few_hears (All link messages bits) n few = either (λ (k : Node). Few k.ends) (is_up n.host) (node_hears_other (All link messages bits) n) n (few_kept (is_up (node_hears_other (All link messages bits) n).host) (map_after_at n.ends (leads_to (All link messages bits) n.ends) (hear (All link messages bits) n.ends)) (few_command (All link messages bits) n.ends few)) few
-few_hears (Gvb link fm fb) n few = either (λ (k : Node). Few k.ends) (is_up n.host) (node_hears_other (Gvb link fm fb) n) n (few_kept (is_up (node_hears_other (Gvb link fm fb) n).host) (map_after_at n.ends (leads_to (Gvb link fm fb) n.ends) (hear (Gvb link fm fb) n.ends)) (few_command (Gvb link fm fb) n.ends few)) few
-few_hears (Ret link messages bits) n few = either (λ (k : Node). Few k.ends) (is_up n.host) (node_hears_other (Ret link messages bits) n) n (few_kept (is_up (node_hears_other (Ret link messages bits) n).host) (map_after_at n.ends (leads_to (Ret link messages bits) n.ends) (hear (Ret link messages bits) n.ends)) (few_command (Ret link messages bits) n.ends few)) few
-few_hears (Inr link) n few = either (λ (k : Node). Few k.ends) (is_up n.host) (node_hears_other (Inr link) n) n (few_kept (is_up (node_hears_other (Inr link) n).host) (map_after_at n.ends (leads_to (Inr link) n.ends) (hear (Inr link) n.ends)) (few_command (Inr link) n.ends few)) few
-few_hears (Ins link) n few = either (λ (k : Node). Few k.ends) (is_up n.host) (node_hears_other (Ins link) n) n (few_kept (is_up (node_hears_other (Ins link) n).host) (map_after_at n.ends (leads_to (Ins link) n.ends) (hear (Ins link) n.ends)) (few_command (Ins link) n.ends few)) few
+few_hears c n few = either (λ (k : Node). Few k.ends) (is_up n.host) (node_hears_other c n) n (few_kept (is_up (node_hears_other c n).host) (map_after_at n.ends (leads_to c n.ends) (hear c n.ends)) (few_command c n.ends few)) few
 
 few_hears_all : (cs : List Command) (n : Node) → Few n.ends → Few (node_hears_all cs n).ends
 few_hears_all [] n few = few
@@ -459,17 +448,12 @@ few_step Calls_reset w few = either (λ (k : Node). Few k.ends) (is_resetting w.
 few_step (Calls pair call) w few = few_calls pair call w.this few
 few_step (Calls_echo byte) w few = either (λ (k : Node). Few k.ends) (is_up w.this.host) (node_echo_called byte w.this) w.this (few_kept (is_up (node_echo_called byte w.this).host) w.this.ends few) few
 few_step Falls w few = few_none
-few_step (Sends n) w few = few
 few_step (Sends_text on) w few = few_sends_text on (w.this.texts on).slot w.this few
 few_step Hears w few = few_message w.that.control.subnet w few
 few_step (Hears_text on head) w few = few_text_comes on head (w.that.texts on).subnet w few
-few_step Loses w few = few
-few_step (Loses_text on) w few = few
-few_step Dies w few = few
-few_step (Text_dies on) w few = few
 few_step Is_answered w few = few_control_answered w.this.control.slot w.this.control.subnet w.this few
 few_step (Text_is_answered on) w few = few_text_answered on (w.this.texts on).slot (w.this.texts on).subnet w.this few
-few_step Wakes w few = few
+few_step it w few = few
 
 few_both : (step : NodeStep) (w : TwoNodes) → Few w.this.ends → Few w.that.ends → Few (node_steps step w).this.ends × Few (node_steps step w).that.ends
 few_both step w few other = (few_step step w few, other-keeps (λ (n : Node). Few n.ends) (λ n l k. k) (λ n ls k. k) step w other)

@@ -8,7 +8,7 @@ use Rattle.std.proofs.lemmas.Bool.Decides.{nat_tests}
 use Rattle.ncp_leader.specs.declared.fault.MessageFault.{MessageFault}
 use Rattle.ncp_leader.specs.Message.{Message}
 use Rattle.ncp_terms.specs.declared.command.Command.{Command}
-use Rattle.ncp_terms.specs.declared.command.Command.TheVariants.{Rts, Str, Cls, Eco, Erp, Err, Nop, All, Gvb, Ret, Inr, Ins, Rst, Rrp}
+use Rattle.ncp_terms.specs.declared.command.Command.TheVariants.{Err, Rst, Rrp}
 use Rattle.ncp_terms.specs.declared.fault.CommandFault.{CommandFault}
 use Rattle.ncp_terms.specs.Spelling.{spelling}
 use Rattle.ncp_control.specs.Texts.{items_of}
@@ -118,18 +118,7 @@ module _ (at peer : ℕ) (turn : Turn) (kept : List Kept) where
       go true = filter_few (λ life. not (is_life_between at peer life)) b.lives
       go false = omega arith
   reset_few Rrp e v b = omega arith
-  reset_few (Rts receive send link) e v b = absurd (cc e)
-  reset_few (Str send receive size) e v b = absurd (cc e)
-  reset_few (Cls my your) e v b = absurd (cc e)
-  reset_few (Eco byte) e v b = absurd (cc e)
-  reset_few (Erp byte) e v b = absurd (cc e)
-  reset_few (Err code bytes) e v b = absurd (cc e)
-  reset_few Nop e v b = absurd (cc e)
-  reset_few (All link messages bits) e v b = absurd (cc e)
-  reset_few (Gvb link fm fb) e v b = absurd (cc e)
-  reset_few (Ret link messages bits) e v b = absurd (cc e)
-  reset_few (Inr link) e v b = absurd (cc e)
-  reset_few (Ins link) e v b = absurd (cc e)
+  reset_few c e v b = absurd (cc e)
 
   commands_few : (cs : List Command) (v : View) (b : SeenBooks) → length (after_talked turn talk kept (items_of cs None) v b).lives ≤ length b.lives + 3 * others_in cs
   commands_few [] v b = omega arith

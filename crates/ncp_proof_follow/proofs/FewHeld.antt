@@ -10,7 +10,7 @@ use Rattle.std.proofs.lemmas.Bool.{eqb-true, and_parts}
 use Rattle.std.proofs.lemmas.List.{length-map, length-append}
 use Rattle.std.proofs.lemmas.Map.Views.{tells_apart}
 use Rattle.ncp_terms.specs.declared.command.Command.{Command}
-use Rattle.ncp_terms.specs.declared.command.Command.TheVariants.{Rts, Str, Cls, Eco, Erp, Err, Nop, All, Gvb, Ret, Inr, Ins, Rst, Rrp}
+use Rattle.ncp_terms.specs.declared.command.Command.TheVariants.{Rst}
 use Rattle.ncp_model.specs.declared.pair.Pair.{Pair}
 use Rattle.ncp_model.specs.Pairs.{pair_cmp, sends}
 use Rattle.ncp_model.specs.End.{End}
@@ -267,20 +267,8 @@ unsaid u ((p, c) ∷ w) e =
 
 said_length : (w : List Command) → length (all_says w) ≤ length w
 said_length [] = omega arith
-said_length (Rts receive send link ∷ w) = let rest = said_length w in omega (arith, rest)
-said_length (Str send receive size ∷ w) = let rest = said_length w in omega (arith, rest)
-said_length (Cls my your ∷ w) = let rest = said_length w in omega (arith, rest)
-said_length (Eco byte ∷ w) = let rest = said_length w in omega (arith, rest)
-said_length (Erp byte ∷ w) = let rest = said_length w in omega (arith, rest)
-said_length (Err code bytes ∷ w) = let rest = said_length w in omega (arith, rest)
-said_length (Nop ∷ w) = let rest = said_length w in omega (arith, rest)
-said_length (All link messages bits ∷ w) = let rest = said_length w in omega (arith, rest)
-said_length (Gvb link fm fb ∷ w) = let rest = said_length w in omega (arith, rest)
-said_length (Ret link messages bits ∷ w) = let rest = said_length w in omega (arith, rest)
-said_length (Inr link ∷ w) = let rest = said_length w in omega (arith, rest)
-said_length (Ins link ∷ w) = let rest = said_length w in omega (arith, rest)
 said_length (Rst ∷ w) = let rest = said_length w in omega (arith, rest)
-said_length (Rrp ∷ w) = let rest = said_length w in omega (arith, rest)
+said_length (c ∷ w) = let rest = said_length w in omega (arith, rest)
 
 pub few_lives_up : (me n : ℕ) (m : Ends) (w : List Command) (b : SeenBooks) → ((u : Sockets) → Unique (is_of_sockets me n u.0 u.1) b.lives) → ((u : Sockets) → rests_of me n b u ≡ false) → PairsAgree me n m w b
     → length (filter (is_life_between me n) b.lives) ≤ length (entries m) + length w

@@ -47,6 +47,7 @@ use Rattle.ncp_umpire.specs.Judged.{view_of, slot_of_link, same_of, is_slot_out,
 use Rattle.ncp_proof_umpire_seen.proofs.Elsewhere.{Alike, alike_same}
 use Rattle.ncp_proof_umpire_owes.proofs.BooksRead.{said_alikes}
 use Rattle.ncp_proof_follow_books.proofs.GrowsBooks.{Grows, grows_none, grows_both, grows_more, item_grows, text_grows, cleared_grows, said_grows}
+use Rattle.ncp_proof_follow_books.proofs.Besides.{rest_none}
 
 -- ---- how many commands a control text has
 
@@ -264,10 +265,6 @@ pub record Widens (a b : ℕ) (umpire now : Umpire) : Type 0 where
 widens_none : (a b : ℕ) (umpire : Umpire) → Widens a b umpire umpire
 widens_none a b umpire = record { books = grows_none 363 umpire.books; kept = omega arith; each = λ e. e; unfilled = λ f l. f; others = λ me n d o. alike_same me n umpire.books }
 
-pub append_none : {A : Type 0} (xs ys : List A) → xs ++ ys ≡ [] → ys ≡ []
-append_none [] ys e = e
-append_none (x ∷ xs) ys e = absurd (cc e)
-
 pub no_option : {A B : Type 0} (f : A → B) (o : Option A) (ys : List B) → option_to_list (option_map f o) ++ ys ≡ [] → o ≡ None
 no_option f None ys e = refl
 no_option f (Some x) ys e = absurd (cc e)
@@ -374,7 +371,7 @@ event_widens a b umpire way at bits (Event.Out peer link) i v =
     let fresh = fresh_out umpire at peer link bits in
     then_said a b umpire A at peer at link (length bits) true fresh (message_in bits) (out_widens a b umpire at peer link bits i)
     (no_option (broken_by (turn_at A at peer at true)) (rule_of_message (message_in bits) link (length bits)) (said_findings A at peer (turn_at A at peer at true) fresh (message_in bits))
-    (append_none (option_to_list (out_finding umpire at peer link bits)) (message_findings A at peer (turn_at A at peer at true) fresh link bits) v)) i.0
+    (rest_none (option_to_list (out_finding umpire at peer link bits)) (message_findings A at peer (turn_at A at peer at true) fresh link bits) v)) i.0
 event_widens a b umpire way at bits (Event.Answer kind peer link) i v =
     let A = umpire_after_answer umpire kind at peer link in
     let w = answer_widens a b umpire kind at peer link in
@@ -389,7 +386,7 @@ event_widens a b umpire way at bits (Event.In peer link) i v =
     let A = after_in umpire at peer link in
     then_said a b umpire A at peer peer link (length bits) false true (message_in bits) (in_widens a b umpire at peer link)
     (no_option (broken_by (turn_at A at peer peer false)) (rule_of_message (message_in bits) link (length bits)) (said_findings A at peer (turn_at A at peer peer false) true (message_in bits))
-    (append_none (option_to_list (unsent_finding umpire at peer link bits)) (message_findings A at peer (turn_at A at peer peer false) true link bits) v)) i.0
+    (rest_none (option_to_list (unsent_finding umpire at peer link bits)) (message_findings A at peer (turn_at A at peer peer false) true link bits) v)) i.0
 
 -- of a record by which no rule is found broken
 pub record_widens : (a b : ℕ) (umpire : Umpire) (way : Way) (at : ℕ) (bits : List Bool) → IsBetween a b at (event_of way at bits) → record_findings umpire way at bits ≡ [] → Widens a b umpire (after_record umpire way at bits)

@@ -18,7 +18,7 @@ use Rattle.ncp_host.specs.PeerState.{PeerState, control_link, is_answered, frees
 use Rattle.ncp_host.specs.Counting.{one_more}
 use Rattle.ncp_host.specs.Hearing.{state_hears, state_hears_fault, state_after_text}
 use Rattle.ncp_host.specs.Output.{after_by, after_output}
-use Rattle.ncp_transcript_two.specs.World.{Asked, Asks, Asks_echo, Asks_reset, Asks_wake, state_after_asked}
+use Rattle.ncp_transcript.specs.Asked.{Asked, Asks, Asks_echo, Asks_reset, Asks_wake, state_after_asked}
 use Rattle.ncp_transcript_two.specs.Watch.{pasts_after_asked, of_command, pasts_after_text}
 use Rattle.ncp_proof_machine.specs.Hosts.{Pasts}
 use Rattle.ncp_proof_follow.proofs.PeerLives.{SoundAll, mine, is_mine, PeerLives, peer_stays, is_ask, given_by, call_lives, echo_lives, reset_lives, is_request_of, command_lives, fault_lives, text_took, text_lives, text_cut, cut_lives, answered_lives}

@@ -22,7 +22,7 @@ use Rattle.ncp_model.specs.Happenings.{Happening, Outcome, Happened, happens, ha
 use Rattle.ncp_model.specs.Leading.{suits, passes, leads, comes}
 use Rattle.ncp_model.specs.Phase.{up, is_resetting, makes_all, resets}
 use Rattle.ncp_model.specs.Sending.{is_full}
-use Rattle.ncp_model.specs.Peers.{Peer, PairCall, Ask_to_send, Ask_to_receive, Close, Give, Take, Allocate, Call_back, Interrupt, called, happened_at, calls_up, calls, echo_called, calls_echo, cleared, calls_reset, makes, hears_other, hears, hears_fault, takes_text, hears_text, frees_up, frees, cuts}
+use Rattle.ncp_model.specs.Peers.{Peer, PairCall, Ask_to_send, Ask_to_receive, Give, Take, called, happened_at, calls_up, calls, echo_called, calls_echo, cleared, calls_reset, makes, hears_other, hears, hears_fault, takes_text, hears_text, frees_up, frees, cuts}
 use Rattle.ncp_model.proofs.PairOrder.{pairs_exact, pairs_total}
 use Rattle.ncp_model.proofs.EndsAfter.{after-at}
 use Rattle.ncp_model.proofs.LinksLead.{itself, led, command-led, cut-led, answered-led, suits-led, user-receives}
@@ -227,33 +227,15 @@ given_by call o = []
 module _ (full : Bool) (m : Ends) (o : Outcome) where
   call_given : (call : PairCall) → text_given (called call full m) o ≡ given_by call o
   call_given (Ask_to_send of_size with_room) = refl
-  call_given (Ask_to_receive with_room) = refl
-  call_given Close = refl
-  call_given (Give text) = refl
-  call_given (Take bytes) = refl
-  call_given (Allocate of_messages of_bits) = refl
-  call_given (Call_back of_messages of_bits) = refl
-  call_given Interrupt = refl
+  call_given call = refl
 
   call_come : (call : PairCall) → text_come (called call full m) o ≡ []
   call_come (Ask_to_send of_size with_room) = refl
-  call_come (Ask_to_receive with_room) = refl
-  call_come Close = refl
-  call_come (Give text) = refl
-  call_come (Take bytes) = refl
-  call_come (Allocate of_messages of_bits) = refl
-  call_come (Call_back of_messages of_bits) = refl
-  call_come Interrupt = refl
+  call_come call = refl
 
   call_asks : (call : PairCall) → is_request (called call full m) ≡ is_ask call
   call_asks (Ask_to_send of_size with_room) = refl
-  call_asks (Ask_to_receive with_room) = refl
-  call_asks Close = refl
-  call_asks (Give text) = refl
-  call_asks (Take bytes) = refl
-  call_asks (Allocate of_messages of_bits) = refl
-  call_asks (Call_back of_messages of_bits) = refl
-  call_asks Interrupt = refl
+  call_asks call = refl
 
 none_called : {A : Type 0} (r : Result A CallFault) → text_gone (outcome_of_call r) ≡ []
 none_called (Ok a) = refl
@@ -264,14 +246,8 @@ none_taken (Ok a) = refl
 none_taken (Err fault) = refl
 
 call_gone : (pair : Pair) (full : Bool) (m : Ends) (before : Option End) (call : PairCall) → text_gone (happens pair (called call full m) before).outcome ≡ []
-call_gone pair full m before (Ask_to_send of_size with_room) = none_called _
-call_gone pair full m before (Ask_to_receive with_room) = none_called _
-call_gone pair full m before Close = none_called _
-call_gone pair full m before (Give text) = none_called _
 call_gone pair full m before (Take bytes) = none_taken _
-call_gone pair full m before (Allocate of_messages of_bits) = none_called _
-call_gone pair full m before (Call_back of_messages of_bits) = none_called _
-call_gone pair full m before Interrupt = none_called _
+call_gone pair full m before call = none_called _
 
 pub call_lives : (pair : Pair) (call : PairCall) (p : Peer) (pasts : Pasts) → SoundAll p.ends → (q : Pair)
     → PeerLives q p (calls pair call p) pasts (if up p.phase then pasts_after pair (called call (is_full p.phase) p.ends) p.ends pasts else pasts)
@@ -404,18 +380,7 @@ module _ (quiet : Bool) (c : Command) (p : Peer) (pasts : Pasts) (sound : SoundA
 pub command_lives : (quiet : Bool) (c : Command) (p : Peer) (pasts : Pasts) → SoundAll p.ends → (q : Pair) → PeerLives q p (hears quiet c p) pasts (of_command c p pasts) [] [] [] (is_mine q (leads_to c p.ends) (is_request_of c))
 command_lives quiet Command.Rst p pasts sound q = peer_cleared q p (hears quiet Command.Rst p) pasts refl
 command_lives quiet Command.Rrp p pasts sound q = peer_stays q p pasts false
-command_lives quiet Command.Nop p pasts sound q = other_lives quiet Command.Nop p pasts sound q
-command_lives quiet (Command.Rts receive send on) p pasts sound q = other_lives quiet (Command.Rts receive send on) p pasts sound q
-command_lives quiet (Command.Str send receive of_size) p pasts sound q = other_lives quiet (Command.Str send receive of_size) p pasts sound q
-command_lives quiet (Command.Cls my your) p pasts sound q = other_lives quiet (Command.Cls my your) p pasts sound q
-command_lives quiet (Command.All on a b) p pasts sound q = other_lives quiet (Command.All on a b) p pasts sound q
-command_lives quiet (Command.Gvb on a b) p pasts sound q = other_lives quiet (Command.Gvb on a b) p pasts sound q
-command_lives quiet (Command.Ret on a b) p pasts sound q = other_lives quiet (Command.Ret on a b) p pasts sound q
-command_lives quiet (Command.Inr on) p pasts sound q = other_lives quiet (Command.Inr on) p pasts sound q
-command_lives quiet (Command.Ins on) p pasts sound q = other_lives quiet (Command.Ins on) p pasts sound q
-command_lives quiet (Command.Eco byte) p pasts sound q = other_lives quiet (Command.Eco byte) p pasts sound q
-command_lives quiet (Command.Erp byte) p pasts sound q = other_lives quiet (Command.Erp byte) p pasts sound q
-command_lives quiet (Command.Err code bytes) p pasts sound q = other_lives quiet (Command.Err code bytes) p pasts sound q
+command_lives quiet c p pasts sound q = other_lives quiet c p pasts sound q
 
 -- an RST leaves no end
 pub rst_clears : (quiet : Bool) (p : Peer) (q : Pair) → get (hears quiet Command.Rst p).ends q ≡ None

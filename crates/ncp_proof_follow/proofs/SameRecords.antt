@@ -39,6 +39,7 @@ use Rattle.ncp_follow.specs.Slots.{is_repeat, place_on, outs_with_message, outs_
 use Rattle.ncp_follow.specs.Followed.{payload_in, read_session, read_tables, follower_after_said, follower_after_out, follower_after_in, follower_after_answer, follower_after_read, follower_after_record}
 use Rattle.ncp_proof_umpire.proofs.PhaseSeen.{view_same, view_length}
 use Rattle.ncp_proof_umpire_whole.proofs.NeverRests.{out_awake}
+use Rattle.ncp_proof_umpire_whole.proofs.OwnBooks.{view_told}
 use Rattle.ncp_proof_follow_books.proofs.Besides.{front_none, rest_none}
 use Rattle.ncp_proof_follow_books.proofs.SameCommands.{Same}
 use Rattle.ncp_proof_follow.proofs.SameItems.{InTouch, NoneBetween, Followed}
@@ -61,17 +62,6 @@ pub data Seats (me n : ℕ) (before after : List Session) : Type 0 where
 pub record Then (me n : ℕ) (now : Umpire) (f after : Follower) : Type 0 where
   pub alike : Alike me n now after
   pub seats : Seats me n f.sessions after.sessions
-
--- while there is room the view is told as it is
-view_told : (u : Umpire) (at peer : ℕ) → (view_in u.views at peer).told ≡ true → u.full ≡ false → view_of u at peer ≡ view_in u.views at peer
-view_told u at peer t f = ap (λ (b : Bool). record v { told = b }) (ap (λ (b : Bool). v.told && not b) f ∙ open_told v.told)
-  where
-    v : View
-    v = view_in u.views at peer
-
-    open_told : (b : Bool) → (b && not false) ≡ b
-    open_told true = refl
-    open_told false = refl
 
 module _ (number me n : ℕ) (small : me < 256) (few : n < 256) (roomy : (i : ℕ) → nat_lt i MAX_BOOKS ≡ true → nat_lt i MAX_TRACKS ≡ true) (roomy_out : (i : ℕ) → nat_lt i MAX_KEPT ≡ true → nat_lt i MAX_OUT ≡ true) where
   -- ---- what a message says

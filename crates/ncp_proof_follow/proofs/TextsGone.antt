@@ -12,7 +12,7 @@ use Rattle.ncp_model.specs.Act.{answer, Stays}
 use Rattle.ncp_model.specs.End.{End, is_live}
 use Rattle.ncp_model.specs.Ends.{Ends, pair_of, sender_on, cut_at, cut_in}
 use Rattle.ncp_model.specs.Pairs.{sends, receives}
-use Rattle.ncp_model.specs.Texts.{bytes_to_send, may_send, cut_bits}
+use Rattle.ncp_model.specs.Texts.{bytes_to_send, can_send, cut_bits}
 use Rattle.ncp_proof_watch.specs.Sound.{SoundEnd, SoundAt}
 use Rattle.ncp_proof_machine.specs.Hosts.{past_of, Pasts}
 use Rattle.ncp_proof_machine.proofs.EndsGood.{Good}
@@ -56,7 +56,7 @@ record CutFrom (on : ℕ) (m : Ends) (t : ℕ × List Bool) : Type 0 where
   pub pair : Pair
   pub e : End
   pub led : sender_on on m ≡ Some (pair, e)
-  pub may : may_send pair e ≡ true
+  pub may : can_send pair e ≡ true
   pub size : t.0 ≡ e.size
   pub text : t.1 ≡ take (bytes_to_send e * e.size) e.stored
 
@@ -65,9 +65,9 @@ cut_from on m t a = go (sender_on on m) refl a
   where
     go : (o : Option (Pair × End)) → sender_on on m ≡ o → answer (cut_at o) ≡ Some t → CutFrom on m t
     go None l a = absurd (cc a)
-    go (Some (pair, e)) l a = by (may_send pair e) refl a
+    go (Some (pair, e)) l a = by (can_send pair e) refl a
       where
-        by : (x : Bool) → may_send pair e ≡ x → answer (if x then cut_bits (bytes_to_send e * e.size) e else Stays None) ≡ Some t → CutFrom on m t
+        by : (x : Bool) → can_send pair e ≡ x → answer (if x then cut_bits (bytes_to_send e * e.size) e else Stays None) ≡ Some t → CutFrom on m t
         by false k a = absurd (cc a)
         by true k a =
             let is : (e.size, take (bytes_to_send e * e.size) e.stored) ≡ t = cc a in

@@ -18,7 +18,7 @@ looked : {A : Type 0} → (m : Ends) (o : Option Pair) (act : Act A)
 looked m None act f g = g
 looked m (Some pair) act f g = let w = f pair refl in good-after m (map_after m pair act) pair w.0 w.2 (act-changes m pair w.0 act w.1) w.3 g
 
-comes_some : (c : Command) (m : Ends) (pair : Pair) → leads_to c m ≡ Some pair → (what : Happening) × (comes c m ≡ Some what)
+pub comes_some : (c : Command) (m : Ends) (pair : Pair) → leads_to c m ≡ Some pair → (what : Happening) × (comes c m ≡ Some what)
 comes_some (Command.Rts a b d) m pair e = (_, refl)
 comes_some (Command.Str a b d) m pair e = (_, refl)
 comes_some (Command.Cls a b) m pair e = (_, refl)

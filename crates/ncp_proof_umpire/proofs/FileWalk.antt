@@ -65,7 +65,7 @@ skip judged me h (one ∷ more) umpire x rest small w e k = go (one.0 == me) ref
         (later (after_record umpire one.1 one.0 one.2) (watched me h umpire (after_record umpire one.1 one.0 one.2) small (other_leaves me one.0 one.1 one.2 umpire d) w) (sym (ap next d) ∙ e))
 
 -- behind the last one
-no_more : (judged : Rule → Bool) (me : ℕ) (file : List (ℕ × Way × List Bool)) (umpire : Umpire) → at_interface me file ≡ [] → Pass (spares judged me) (found_at umpire me file)
+pub no_more : (judged : Rule → Bool) (me : ℕ) (file : List (ℕ × Way × List Bool)) (umpire : Umpire) → at_interface me file ≡ [] → Pass (spares judged me) (found_at umpire me file)
 no_more judged me [] umpire e = refl
 no_more judged me (one ∷ more) umpire e = go (one.0 == me) refl (no_more judged me more (after_record umpire one.1 one.0 one.2))
   where

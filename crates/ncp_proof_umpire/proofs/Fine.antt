@@ -28,20 +28,19 @@ use Rattle.ncp_model.specs.Happenings.{Happening, happens}
 use Rattle.ncp_model.specs.Phase.{up, is_resetting, makes_all, phase_hears, resets}
 use Rattle.ncp_model.specs.Sending.{is_full}
 use Rattle.ncp_model.specs.Texts.{made_by_text}
-use Rattle.ncp_model.specs.Peers.{Peer, PairCall, Ask_to_send, Ask_to_receive, Close, Give, Take, Allocate, Call_back, Interrupt, called, calls_echo, calls_reset, calls_up, cleared, cuts, echo_called, frees, frees_up, hears, hears_fault, hears_other, hears_text, makes, peer_sends, reaction, takes_text}
+use Rattle.ncp_model.specs.Peers.{Peer, PairCall, Take, called, calls_echo, calls_reset, calls_up, cleared, cuts, echo_called, frees, frees_up, hears, hears_fault, hears_other, hears_text, makes, peer_sends, reaction, takes_text}
 use Rattle.ncp_model.specs.Peers
 use Rattle.ncp_proof_machine.proofs.EndsGood.{Good, none-good, good-after, put-changes, called-suits, called-fresh}
-use Rattle.ncp_transcript_two.specs.Tie.{IsPair, IsCall, Well}
-use Rattle.ncp_transcript_two.specs.Seen.{told_call, NoteFits}
+use Rattle.ncp_transcript_two.specs.Tie.{IsPair, IsCall, IsAsked, Well}
+use Rattle.ncp_transcript_two.specs.Seen.{done, told_call, NoteFits}
 use Rattle.ncp_transcript_two.proofs.Well.{makes-well, calls-well, echo-well, reset-well, settles-well, sends-well, hears-well, text-well, frees-well, cuts-well}
 use Rattle.ncp_host.specs.PeerState.{PeerState, control_link, frees_on, after_answer, is_answered, answer_taken, answer_comes}
 use Rattle.ncp_host.specs.Counting.{one_more}
 use Rattle.ncp_host.specs.Hearing.{state_hears, state_hears_all, hears_last, state_hears_text, control_size, state_after_control, state_after_text, is_wrong_link, message_after}
 use Rattle.ncp_host.specs.Output.{after_by}
-use Rattle.ncp_host.specs.Calls.{sockets}
-use Rattle.ncp_transcript.specs.declared.call.Call.{Call}
+use Rattle.ncp_transcript.specs.Asked.{Asked, Asks, Asks_echo, Asks_reset, Asks_wake, asked_in, state_after_asked}
 use Rattle.ncp_transcript.specs.declared.note.HostNote.{HostNote}
-use Rattle.ncp_proof_runs.specs.Peers.{called_for, bits_for, out_for, note_for}
+use Rattle.ncp_proof_runs.specs.Peers.{state_asked, bits_for, out_for, note_for}
 use Rattle.ncp_proof_umpire.proofs.EndsStay.{command_good, text_good, cut_good, answered_good}
 
 pub record Fine (p : Peer) : Type 0 where
@@ -52,11 +51,11 @@ fine_if : (b : Bool) (p q : Peer) → Fine p → Fine q → Fine (if b then p el
 fine_if true p q k l = k
 fine_if false p q k l = l
 
-good_if : (b : Bool) (p q : Peer) → Good p.ends → Good q.ends → Good (if b then p else q).ends
+pub good_if : (b : Bool) (p q : Peer) → Good p.ends → Good q.ends → Good (if b then p else q).ends
 good_if true p q k l = k
 good_if false p q k l = l
 
-kept_good : (b : Bool) (m : Ends) → Good m → Good (if b then m else no_ends)
+pub kept_good : (b : Bool) (m : Ends) → Good m → Good (if b then m else no_ends)
 kept_good true m g = g
 kept_good false m g = none-good
 
@@ -89,26 +88,15 @@ echo_fine byte p f k = record {
 reset_fine : (q : Bool) (p : Peer) → Fine p → Fine (calls_reset q p)
 reset_fine q p k = record { good = good_if (is_resetting p.phase) p (cleared (resets q p.phase) p) k.good none-good; well = reset-well q p k.well }
 
-called_fine : (call : Call) (s : PeerState) → NoteFits (told_call (HostNote.Done call)) → Fine s.peer → Fine (called_for call s).peer
-called_fine (Call.Reset peer) s f k = reset_fine (is_quiet s.slots) s.peer k
-called_fine (Call.AskSend peer local remote size room) s f k = calls_fine (sockets local remote) (Ask_to_send size room) s.peer f k
-called_fine (Call.AskReceive peer local remote room) s f k = calls_fine (sockets local remote) (Ask_to_receive room) s.peer f k
-called_fine (Call.Give peer pair text) s f k = calls_fine pair (Give text) s.peer f k
-called_fine (Call.Take peer pair bytes) s f k = calls_fine pair (Take bytes) s.peer f k
-called_fine (Call.Allocate peer pair messages bits) s f k = calls_fine pair (Allocate messages bits) s.peer f k
-called_fine (Call.CallBack peer pair fm fb) s f k = calls_fine pair (Call_back fm fb) s.peer f k
-called_fine (Call.Interrupt peer pair) s f k = calls_fine pair Interrupt s.peer f k
-called_fine (Call.Echo peer byte) s f k = echo_fine byte s.peer f k
-called_fine (Call.Close peer pair) s f k = calls_fine pair Close s.peer f k
-called_fine (Call.Wake peer) s f k = k
-called_fine (Call.State peer pair) s f k = k
-called_fine (Call.Phase peer) s f k = k
-called_fine (Call.Echoed peer) s f k = k
-called_fine (Call.Errors peer) s f k = k
-called_fine (Call.Counts peer) s f k = k
-called_fine (Call.Waiting peer place) s f k = k
-called_fine (Call.Kept peer link) s f k = k
-called_fine Call.Ignored s f k = k
+asked_fine : (asked : Asked) (s : PeerState) → IsAsked asked → Fine s.peer → Fine (state_after_asked asked s).peer
+asked_fine (Asks pair call) s f k = calls_fine pair call s.peer f k
+asked_fine (Asks_echo byte) s f k = echo_fine byte s.peer f k
+asked_fine Asks_reset s f k = reset_fine (is_quiet s.slots) s.peer k
+asked_fine Asks_wake s f k = k
+
+done_fine : (o : Option (ℕ × Asked)) (s : PeerState) → NoteFits (done o) → Fine s.peer → Fine (state_asked o s).peer
+done_fine None s f k = k
+done_fine (Some (peer, asked)) s f k = asked_fine asked s f k
 
 -- ---- bits come
 
@@ -232,18 +220,9 @@ out_fine (Ok leader) message s k = by (slot_at s.slots leader.link)
 -- ---- a note
 
 pub note_fine : (note : HostNote) (s : PeerState) → NoteFits (told_call note) → Fine s.peer → Fine (note_for note s).peer
-note_fine (HostNote.Refused call fault) s f k = k
-note_fine (HostNote.Done call) s f k = called_fine call s f k
+note_fine (HostNote.Done call) s f k = done_fine (asked_in call) s f k
 note_fine (HostNote.Took peer pair bytes text) s f k = calls_fine pair (Take bytes) s.peer f k
-note_fine (HostNote.State peer pair r) s f k = k
-note_fine (HostNote.Phase peer flags) s f k = k
-note_fine (HostNote.Echoed peer byte) s f k = k
-note_fine (HostNote.Errors peer errors) s f k = k
-note_fine (HostNote.Counts peer counts) s f k = k
-note_fine (HostNote.Waiting peer place command) s f k = k
-note_fine (HostNote.Kept peer link message) s f k = k
-note_fine (HostNote.Ignored ignored) s f k = k
 note_fine (HostNote.Out message) s f k = out_fine (leader_in message) message s k
-note_fine HostNote.Nothing s f k = k
 note_fine (HostNote.In message received) s f k = bits_fine (leader_in message) message s k
 note_fine (HostNote.Answered peer link how received) s f k = answer_fine link how s k
+note_fine other s f k = k

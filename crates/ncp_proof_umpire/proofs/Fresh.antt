@@ -59,7 +59,7 @@ is_new p kept s n on peer bits h ready = go (placed p kept)
 abbrev pub OnLinks : PeerState → Type 0
 OnLinks s = (on : ℕ) → is_empty (slot_at s.slots on) ≡ false → is_one_of on links ≡ true
 
-in_all : (q : ℕ → Bool) (ons : List ℕ) (on : ℕ) → list_all q ons ≡ true → is_one_of on ons ≡ true → q on ≡ true
+pub in_all : (q : ℕ → Bool) (ons : List ℕ) (on : ℕ) → list_all q ons ≡ true → is_one_of on ons ≡ true → q on ≡ true
 in_all q [] on a h = absurd (cc)
 in_all q (k ∷ ons) on a h = go (k == on) refl h (in_all q ons on (and_parts (q k) (list_all q ons) a).1)
   where

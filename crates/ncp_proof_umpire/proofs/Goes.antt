@@ -1,7 +1,5 @@
 -- What goes out of a host is on a link that is used.
-use Rattle.std.proofs.Common.{◌≡◌, ℕ, ◌==◌, Bool, true, false, not, ◌&&◌, ◌||◌, if◌then◌else◌, List, [], ◌∷◌, length, None, Some, Result, Ok, Err, option_map, option_to_list, refl, sym, ap, ◌∙◌}
-use Rattle.std.specs.List.{list_all}
-use Rattle.std.proofs.lemmas.Bool.{eqb-true, and_parts}
+use Rattle.std.proofs.Common.{◌≡◌, ℕ, ◌==◌, Bool, true, false, not, ◌&&◌, if◌then◌else◌, List, length, None, Some, Result, Ok, Err, option_map, option_to_list, refl, sym, ap, ◌∙◌}
 use Rattle.ncp_leader.specs.declared.fault.MessageFault.{MessageFault}
 use Rattle.ncp_leader.specs.declared.leader.Leader.{Leader}
 use Rattle.ncp_leader.specs.Leader.{leader_in}
@@ -17,6 +15,7 @@ use Rattle.ncp_umpire.specs.Judged.{by_host, slot_of_link, same_of, out_rule, ou
 use Rattle.ncp_proof_umpire.specs.Recordings.{spares}
 use Rattle.ncp_umpire.proofs.Passing.{Pass, one}
 use Rattle.ncp_proof_umpire.proofs.Spared.{rule_spared}
+use Rattle.ncp_proof_umpire.proofs.Fresh.{in_all}
 
 -- ---- the rules of links, where they are not asked for
 
@@ -34,14 +33,6 @@ links_unjudged judged umpire me n on bits o c = go umpire.full (slot_of_link ump
     go false Slot.Again false = one (spares judged me) (by_host me (Rule.Changed on)) (rule_spared judged me (by_host me (Rule.Changed on)) c)
 
 -- ---- a link that is used
-
-in_all : (q : ℕ → Bool) (ons : List ℕ) (on : ℕ) → list_all q ons ≡ true → is_one_of on ons ≡ true → q on ≡ true
-in_all q [] on a h = absurd (cc)
-in_all q (k ∷ ons) on a h = go (k == on) refl h (in_all q ons on (and_parts (q k) (list_all q ons) a).1)
-  where
-    go : (b : Bool) → (k == on) ≡ b → (b || is_one_of on ons) ≡ true → (is_one_of on ons ≡ true → q on ≡ true) → q on ≡ true
-    go true g h rest = ap q (sym (eqb-true k on g)) ∙ (and_parts (q k) (list_all q ons) a).0
-    go false g h rest = rest h
 
 not_true : (b : Bool) → not b ≡ true → b ≡ false
 not_true true e = absurd (cc)

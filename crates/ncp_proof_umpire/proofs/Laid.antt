@@ -31,7 +31,7 @@ use Rattle.ncp_model.specs.End.{End}
 use Rattle.ncp_model.specs.Act.{Stays, answer}
 use Rattle.ncp_model.specs.Ends.{Ends, sender_on, cut_at, cut_in}
 use Rattle.ncp_model.specs.Sending.{fitting, next_commands}
-use Rattle.ncp_model.specs.Texts.{bytes_to_send, may_send, cut_bits, cut}
+use Rattle.ncp_model.specs.Texts.{bytes_to_send, can_send, cut_bits, cut}
 use Rattle.ncp_model.specs.Peers.{Peer}
 use Rattle.ncp_transcript_two.specs.Tie.{IsText}
 use Rattle.ncp_transcript_two.proofs.Well.{cut-written}
@@ -148,12 +148,12 @@ commands_whole n message (c ∷ cs) l w k e =
 -- ---- of a text
 
 some_cut : (pair : Pair) (e : End) (text : ℕ × List Bool) → 0 < text.0 → answer (cut pair (Some e)) ≡ Some text → 0 < length text.1
-some_cut pair e text size = go (may_send pair e) refl
+some_cut pair e text size = go (can_send pair e) refl
   where
     times : (k m a : ℕ) → m ≤ a / k → m * k ≤ a
     times k m a l = omega (arith, mul-le-mul_right k l, div-mul-le_self a k)
 
-    go : (b : Bool) → may_send pair e ≡ b → answer (if b then cut_bits (bytes_to_send e * e.size) e else Stays None) ≡ Some text → 0 < length text.1
+    go : (b : Bool) → can_send pair e ≡ b → answer (if b then cut_bits (bytes_to_send e * e.size) e else Stays None) ≡ Some text → 0 < length text.1
     go false b x = absurd (cc x)
     go true b x =
         let same : (e.size, take (bytes_to_send e * e.size) e.stored) ≡ text = cc x in
@@ -253,14 +253,4 @@ note_whole n (HostNote.Answered peer link how received) s p l k a = λ on x e. e
       (answered_kept how (slot_at s.slots link) x (ap kept_message (sym (answer_here link how s)) ∙ subst (λ (j : ℕ). kept_message (slot_at (answer_comes link how s).slots j) ≡ Some x) same.1 e)))
   | inr other ↦ a on x (ap kept_message (sym (answer_there link on how s other.1)) ∙ e)
 ]
-note_whole n (HostNote.Refused call fault) s p l k a = call_whole (HostNote.Refused call fault) s refl a
-note_whole n (HostNote.Done call) s p l k a = call_whole (HostNote.Done call) s refl a
-note_whole n (HostNote.Took peer pair bytes text) s p l k a = call_whole (HostNote.Took peer pair bytes text) s refl a
-note_whole n (HostNote.State peer pair r) s p l k a = a
-note_whole n (HostNote.Phase peer flags) s p l k a = a
-note_whole n (HostNote.Echoed peer byte) s p l k a = a
-note_whole n (HostNote.Errors peer errors) s p l k a = a
-note_whole n (HostNote.Counts peer counts) s p l k a = a
-note_whole n (HostNote.Waiting peer place command) s p l k a = a
-note_whole n (HostNote.Kept peer link message) s p l k a = a
-note_whole n (HostNote.Ignored ignored) s p l k a = a
+note_whole n note s p l k a = call_whole note s refl a

@@ -31,48 +31,9 @@ use Rattle.ncp_proof_umpire.proofs.HostSlots.{call_noted}
 use Rattle.ncp_proof_umpire.proofs.Linked.{Follows, after_call, after_out_of, after_in_of}
 
 unsaid : (r : Rule) → is_said r ≡ true → is_of_link r ≡ false
-unsaid (Rule.Short bits) e = refl
-unsaid (Rule.OwnHost kind link) e = refl
-unsaid (Rule.Kind kind) e = refl
-unsaid (Rule.WrongLink link) e = refl
-unsaid (Rule.Fault fault link) e = refl
-unsaid (Rule.WrongSize size) e = refl
-unsaid (Rule.Extras flags low text rest) e = refl
 unsaid (Rule.Occupied link) e = absurd (cc)
 unsaid (Rule.Changed link) e = absurd (cc)
-unsaid (Rule.Stray kind link) e = refl
-unsaid (Rule.Unsent host link why) e = refl
-unsaid (Rule.FalseAnswer kind host link came) e = refl
-unsaid (Rule.Bad fault) e = refl
-unsaid (Rule.Early what began waits owes) e = refl
-unsaid Rule.RstAgain e = refl
-unsaid Rule.RrpUnasked e = refl
-unsaid (Rule.Unquiet reply link) e = refl
-unsaid Rule.RrpFirst e = refl
-unsaid Rule.MissingRrp e = refl
-unsaid (Rule.Missing c) e = refl
-unsaid (Rule.Skipped c) e = refl
-unsaid (Rule.EcoAgain byte) e = refl
-unsaid (Rule.ErpUnasked byte) e = refl
-unsaid (Rule.ErrUnjust code bytes) e = refl
-unsaid (Rule.Sex c) e = refl
-unsaid (Rule.LinkRange c) e = refl
-unsaid (Rule.SizeZero c) e = refl
-unsaid (Rule.AskedAgain c since) e = refl
-unsaid (Rule.Unended c since) e = refl
-unsaid (Rule.LinkUsed c local remote) e = refl
-unsaid (Rule.ClsUnknown c) e = refl
-unsaid (Rule.ClsAgain c since) e = refl
-unsaid (Rule.TextOut c link) e = refl
-unsaid (Rule.NotOpen c why) e = refl
-unsaid (Rule.OverLimit c messages bits) e = refl
-unsaid (Rule.GvbAgain c) e = refl
-unsaid (Rule.RetUnasked c) e = refl
-unsaid (Rule.RetOther c messages bits) e = refl
-unsaid (Rule.RetOver c messages bits) e = refl
-unsaid (Rule.TextNotOpen link why) e = refl
-unsaid (Rule.TextSize link size asked) e = refl
-unsaid (Rule.TextOver link messages bits of_bits) e = refl
+unsaid rule e = refl
 
 -- what goes out on a link may
 free : (me n : ℕ) (h : Host) (umpire : Umpire) (s : PeerState) (message : List Bool) (is : IsOut n message s) → state_of h n ≡ Some s → Follows me h umpire

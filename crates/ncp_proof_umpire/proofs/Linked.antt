@@ -45,13 +45,13 @@ Follows me h umpire = umpire.full ≡ false → Known me h umpire.kept
 
 -- ---- links apart
 
-key : (from to on : ℕ) (k : Kept) → is_of from to on k ≡ true → (k.from ≡ from) × (k.to ≡ to) × (k.link ≡ on)
+pub key : (from to on : ℕ) (k : Kept) → is_of from to on k ≡ true → (k.from ≡ from) × (k.to ≡ to) × (k.link ≡ on)
 key from to on k e =
     let one = and_parts (k.from == from && k.to == to) (k.link == on) e in
     let two = and_parts (k.from == from) (k.to == to) one.0 in
     (eqb-true k.from from two.0, eqb-true k.to to two.1, eqb-true k.link on one.1)
 
-keys_apart : (f t l g u m : ℕ) → ((f ≡ g) × (t ≡ u) × (l ≡ m) → ⊥) → Apart (is_of f t l) (is_of g u m)
+pub keys_apart : (f t l g u m : ℕ) → ((f ≡ g) × (t ≡ u) × (l ≡ m) → ⊥) → Apart (is_of f t l) (is_of g u m)
 keys_apart f t l g u m nay k e = go (is_of g u m k) refl
   where
     go : (b : Bool) → is_of g u m k ≡ b → b ≡ false

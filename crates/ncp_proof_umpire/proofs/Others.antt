@@ -95,10 +95,10 @@ said_leaves me at peer by sent fresh (Err fault) A d p = same_leaves me A A refl
 
 -- ---- a message goes out at another interface
 
-put_apart : (at peer on : ℕ) (kept : List Kept) (bits : List Bool) → has_room kept (place_of at peer on kept) ≡ true → (q : Kept → Bool) → Apart (is_of at peer on) q → filter q (with_out kept (place_of at peer on kept) (gone_out at peer on bits)) ≡ filter q kept
+pub put_apart : (at peer on : ℕ) (kept : List Kept) (bits : List Bool) → has_room kept (place_of at peer on kept) ≡ true → (q : Kept → Bool) → Apart (is_of at peer on) q → filter q (with_out kept (place_of at peer on kept) (gone_out at peer on bits)) ≡ filter q kept
 put_apart at peer on kept bits room = (put_out (is_of at peer on) kept (gone_out at peer on bits) (placed (is_of at peer on) kept) (of_itself at peer on bits) room).others
 
-has_place : (b : Bool) → not b ≡ false → b ≡ true
+pub has_place : (b : Bool) → not b ≡ false → b ≡ true
 has_place true e = refl
 has_place false e = absurd (cc)
 

@@ -15,7 +15,7 @@ use Rattle.ncp_control.specs.Texts.{items_of}
 use Rattle.ncp_control.specs.Reading.{commands_in, fault_in}
 use Rattle.ncp_control.proofs.Reading.{spellings_small, spelled_alone}
 use Rattle.ncp_slot.specs.declared.slot.Slot.{Slot}
-use Rattle.ncp_slot.specs.Slot.{is_empty, is_travelling, answered, woken}
+use Rattle.ncp_slot.specs.Slot.{is_empty, is_travelling, answered}
 use Rattle.ncp_slot.specs.Slots.{LinkSlot, LinkSlots, slot_at, with_slot, all_woken, is_quiet}
 use Rattle.ncp_slot.proofs.Places.{slot_at-with_slot_same, slot_at-with_slot_other, is_quiet-tells, same_test}
 use Rattle.ncp_slot.proofs.Waking.{slot_at-all_woken}
@@ -27,7 +27,7 @@ use Rattle.ncp_model.specs.Texts.{Rfnm}
 use Rattle.ncp_model.specs.declared.limits.TheConstants.{MAX_CONTROL}
 use Rattle.ncp_model.specs.Phase.{Phase, up, phase_settles}
 use Rattle.ncp_model.specs.Sending.{next_commands}
-use Rattle.ncp_model.specs.Peers.{Peer, Ask_to_send, Ask_to_receive, Close, Give, Take, Allocate, Call_back, Interrupt, cuts, frees, frees_up, peer_sends, settles}
+use Rattle.ncp_model.specs.Peers.{Peer, cuts, frees, frees_up, peer_sends, settles}
 use Rattle.ncp_model.proofs.LinksLead.{led}
 use Rattle.ncp_model.proofs.ResetLists.{rrps, rrps-append}
 use Rattle.ncp_proof_machine.proofs.EndsGood.{Good}
@@ -36,10 +36,9 @@ use Rattle.ncp_host.specs.PeerState.{PeerState, control_link, is_answered, answe
 use Rattle.ncp_host.specs.Hearing.{state_hears, state_hears_text, message_after}
 use Rattle.ncp_host.specs.Output.{leader_to, links}
 use Rattle.ncp_host.specs.Host.{is_one_of}
-use Rattle.ncp_host.specs.Calls.{sockets}
-use Rattle.ncp_transcript.specs.declared.call.Call.{Call}
+use Rattle.ncp_transcript.specs.Asked.{Asked, Asks, Asks_echo, Asks_reset, Asks_wake}
 use Rattle.ncp_transcript.specs.declared.note.HostNote.{HostNote}
-use Rattle.ncp_proof_runs.specs.Peers.{called_for, note_for}
+use Rattle.ncp_proof_runs.specs.Peers.{state_asked, note_for}
 use Rattle.ncp_proof_runs.proofs.MadeOfRuns.{next-first}
 use Rattle.ncp_umpire.specs.declared.finding.Thing.{Thing}
 use Rattle.ncp_umpire.specs.declared.umpire.Umpire.{Umpire}
@@ -52,7 +51,7 @@ use Rattle.ncp_umpire.specs.Messages.{is_unused, judged_reading}
 use Rattle.ncp_umpire.specs.Phases.{early_finding, after_thing, items_findings, after_item, after_items, after_room, missing_finding}
 use Rattle.ncp_umpire.specs.Judged.{view_of, knows_zero, turn_at, is_roomy, items_said, after_read, after_said}
 use Rattle.ncp_proof_umpire.proofs.Talking.{control_parted, Parts, text_parted}
-use Rattle.ncp_proof_umpire.proofs.HostSlots.{is_of_call}
+use Rattle.ncp_proof_umpire.proofs.HostSlots.{is_of_call, asked_of_note, note_asked, empty_woken}
 use Rattle.ncp_proof_umpire.proofs.Goes.{used}
 use Rattle.ncp_proof_umpire.proofs.Laid.{fitting_all}
 use Rattle.ncp_proof_umpire.proofs.PhaseLists.{none_of}
@@ -110,50 +109,16 @@ stands_quiet p q now v e k = subst (λ (b : Bool). Stands p b v) (sym e) k
 
 -- ---- calls
 
-called_seen : (call : Call) (s : PeerState) (v : View) → Good s.peer.ends → Stands s.peer (is_quiet s.slots) v → Stands (called_for call s).peer (is_quiet (called_for call s).slots) v
-called_seen (Call.Reset peer) s v g k = reset_stands s.peer (is_quiet s.slots) v k
-called_seen (Call.AskSend peer local remote size room) s v g k = calls_stand (sockets local remote) (Ask_to_send size room) s.peer (is_quiet s.slots) v g k
-called_seen (Call.AskReceive peer local remote room) s v g k = calls_stand (sockets local remote) (Ask_to_receive room) s.peer (is_quiet s.slots) v g k
-called_seen (Call.Give peer pair text) s v g k = calls_stand pair (Give text) s.peer (is_quiet s.slots) v g k
-called_seen (Call.Take peer pair bytes) s v g k = calls_stand pair (Take bytes) s.peer (is_quiet s.slots) v g k
-called_seen (Call.Allocate peer pair messages bits) s v g k = calls_stand pair (Allocate messages bits) s.peer (is_quiet s.slots) v g k
-called_seen (Call.CallBack peer pair fm fb) s v g k = calls_stand pair (Call_back fm fb) s.peer (is_quiet s.slots) v g k
-called_seen (Call.Interrupt peer pair) s v g k = calls_stand pair Interrupt s.peer (is_quiet s.slots) v g k
-called_seen (Call.Echo peer byte) s v g k = echo_stands byte s.peer (is_quiet s.slots) v k
-called_seen (Call.Close peer pair) s v g k = calls_stand pair Close s.peer (is_quiet s.slots) v g k
-called_seen (Call.Wake peer) s v g k =
-    stands_quiet s.peer (is_quiet s.slots) (is_quiet (all_woken s.slots)) v (quiet_same (all_woken s.slots) s.slots (λ l z. ap is_empty (slot_at-all_woken s.slots l) ∙ kept (slot_at s.slots l))) k
-  where
-    kept : (x : LinkSlot) → is_empty (woken x) ≡ is_empty x
-    kept Slot.Empty = refl
-    kept (Slot.Ready m) = refl
-    kept (Slot.Travelling m) = refl
-    kept (Slot.Held m) = refl
-called_seen (Call.State peer pair) s v g k = k
-called_seen (Call.Phase peer) s v g k = k
-called_seen (Call.Echoed peer) s v g k = k
-called_seen (Call.Errors peer) s v g k = k
-called_seen (Call.Counts peer) s v g k = k
-called_seen (Call.Waiting peer place) s v g k = k
-called_seen (Call.Kept peer link) s v g k = k
-called_seen Call.Ignored s v g k = k
+asked_seen : (o : Option (ℕ × Asked)) (s : PeerState) (v : View) → Good s.peer.ends → Stands s.peer (is_quiet s.slots) v → Stands (state_asked o s).peer (is_quiet (state_asked o s).slots) v
+asked_seen None s v g k = k
+asked_seen (Some (peer, Asks pair call)) s v g k = calls_stand pair call s.peer (is_quiet s.slots) v g k
+asked_seen (Some (peer, Asks_echo byte)) s v g k = echo_stands byte s.peer (is_quiet s.slots) v k
+asked_seen (Some (peer, Asks_reset)) s v g k = reset_stands s.peer (is_quiet s.slots) v k
+asked_seen (Some (peer, Asks_wake)) s v g k =
+    stands_quiet s.peer (is_quiet s.slots) (is_quiet (all_woken s.slots)) v (quiet_same (all_woken s.slots) s.slots (λ l z. ap is_empty (slot_at-all_woken s.slots l) ∙ empty_woken (slot_at s.slots l))) k
 
 pub call_seen : (note : HostNote) (s : PeerState) (v : View) → is_of_call note ≡ true → Good s.peer.ends → Stands s.peer (is_quiet s.slots) v → Stands (note_for note s).peer (is_quiet (note_for note s).slots) v
-call_seen (HostNote.Refused call fault) s v c g k = k
-call_seen (HostNote.Done call) s v c g k = called_seen call s v g k
-call_seen (HostNote.Took peer pair bytes text) s v c g k = calls_stand pair (Take bytes) s.peer (is_quiet s.slots) v g k
-call_seen (HostNote.State peer pair r) s v c g k = k
-call_seen (HostNote.Phase peer flags) s v c g k = k
-call_seen (HostNote.Echoed peer byte) s v c g k = k
-call_seen (HostNote.Errors peer errors) s v c g k = k
-call_seen (HostNote.Counts peer counts) s v c g k = k
-call_seen (HostNote.Waiting peer place command) s v c g k = k
-call_seen (HostNote.Kept peer link message) s v c g k = k
-call_seen (HostNote.Ignored ignored) s v c g k = k
-call_seen (HostNote.Out message) s v c g k = absurd (cc)
-call_seen HostNote.Nothing s v c g k = absurd (cc)
-call_seen (HostNote.In message received) s v c g k = absurd (cc)
-call_seen (HostNote.Answered peer link how received) s v c g k = absurd (cc)
+call_seen note s v c g k = subst (λ (now : PeerState). Stands now.peer (is_quiet now.slots) v) (note_asked note c s) (asked_seen (asked_of_note note) s v g k)
 
 -- ---- a message of the peer
 
@@ -180,7 +145,7 @@ message_seen n busy zero bits m s v b k = go (is_unused m.leader.link) (m.leader
 was_down : (q : Bool) (p : Phase) → up (phase_settles q p) ≡ false → up p ≡ false
 was_down q p e = grind arith
 
-same_up : (q : Bool) (p : Phase) → up p ≡ true → phase_settles q p ≡ p
+pub same_up : (q : Bool) (p : Phase) → up p ≡ true → phase_settles q p ≡ p
 same_up q p e = grind arith
 
 settle_from : (p : Peer) (q : Bool) (v : View) → Phased p.phase q v → (up p.phase ≡ false → p.ends ≡ no_ends) → (up p.phase ≡ true → v.rests ≡ false → 0 < rrps p.phase.waiting → Unheard p.ends) → Stands (settles q p) q v
@@ -206,7 +171,7 @@ freed_stands on p v k =
     (λ e. makes_stand (made_if_any (answer act)) (map_after_at p.ends (pair_of (sender_on on p.ends)) act) p.echoes p.phase false v k.phased k.settled (no_rrp p.phase v k.phased))
     (λ e. k)
 
-travelling : (x : LinkSlot) → is_travelling x ≡ true → is_empty x ≡ false
+pub travelling : (x : LinkSlot) → is_travelling x ≡ true → is_empty x ≡ false
 travelling Slot.Empty e = absurd (cc)
 travelling (Slot.Ready m) e = absurd (cc)
 travelling (Slot.Travelling m) e = refl
@@ -275,7 +240,7 @@ pub again_out : (A : Umpire) (me n : ℕ) (r : Result Message MessageFault) (p :
 again_out A me n (Ok m) p q k = record { none = λ P t. refl; stands = k }
 again_out A me n (Err fault) p q k = record { none = λ P t. refl; stands = k }
 
-told_room : (me : ℕ) (busy : Option ℕ) (zero room : Bool) (v : View) → v.told ≡ true → after_room (record { by = me; sent = true; busy = busy; zero = zero }) room v ≡ v
+pub told_room : (me : ℕ) (busy : Option ℕ) (zero room : Bool) (v : View) → v.told ≡ true → after_room (record { by = me; sent = true; busy = busy; zero = zero }) room v ≡ v
 told_room me busy zero true v t = grind arith
 told_room me busy zero false v t = refl
 
@@ -340,7 +305,7 @@ commands_out A me n p q l a b c busy k = record {
 
 -- a text goes out of an end that heard a link
 
-heard_some : (m : Ends) (on : ℕ) (t : ℕ × List Bool) → Unheard m → answer (cut_in on m) ≡ Some t → ⊥
+pub heard_some : (m : Ends) (on : ℕ) (t : ℕ × List Bool) → Unheard m → answer (cut_in on m) ≡ Some t → ⊥
 heard_some m on t u e = go (sender_on on m) refl e
   where
     go : (o : Option (Pair × End)) → sender_on on m ≡ o → answer (cut_at o) ≡ Some t → ⊥

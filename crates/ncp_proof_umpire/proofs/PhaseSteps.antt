@@ -14,7 +14,7 @@ use Rattle.ncp_model.specs.Leading.{passes}
 use Rattle.ncp_model.specs.Phase.{Phase, Reaction, up, is_rst, is_rrp, is_other, is_resetting, has_place, queued, goes_down, wants_reset, owes_answer, hears_rrp, phase_answers, phase_asks, phase_settles, makes_all, phase_hears, phase_makes, resets}
 use Rattle.ncp_model.specs.Sending.{is_full}
 use Rattle.ncp_model.specs.Texts.{made_by_text}
-use Rattle.ncp_model.specs.Peers.{Peer, PairCall, Ask_to_send, Ask_to_receive, Close, Give, Take, Allocate, Call_back, Interrupt, happened_at, standing, called, calls, calls_echo, calls_reset, calls_up, cleared, echo_called, echoes_after, hears, hears_fault, hears_other, hears_text, makes, reaction, takes_text}
+use Rattle.ncp_model.specs.Peers.{Peer, PairCall, Ask_to_send, happened_at, standing, called, calls, calls_echo, calls_reset, calls_up, cleared, echo_called, echoes_after, hears, hears_fault, hears_other, hears_text, makes, reaction, takes_text}
 use Rattle.ncp_model.proofs.ResetLists.{rrps, rrps-append, rrps-purged}
 use Rattle.ncp_proof_machine.proofs.EndsGood.{Good, same_or, put-changes}
 use Rattle.ncp_proof_watch.proofs.LinksStay.{brings_link, heard-by}
@@ -65,13 +65,7 @@ none_heard l pair = ap (passes (hears_link l) pair) (get-empty pair_cmp pair)
 
 none_brings : (call : PairCall) (full : Bool) (m : Ends) (l : ℕ) → brings_link l (called call full m) ≡ false
 none_brings (Ask_to_send of_size with_room) full m l = refl
-none_brings (Ask_to_receive with_room) full m l = refl
-none_brings Close full m l = refl
-none_brings (Give text) full m l = refl
-none_brings (Take bytes) full m l = refl
-none_brings (Allocate of_messages of_bits) full m l = refl
-none_brings (Call_back of_messages of_bits) full m l = refl
-none_brings Interrupt full m l = refl
+none_brings call full m l = refl
 
 false_or_true : (b : Bool) → (b ≡ true → ⊥) → b ≡ false
 false_or_true true n = absurd (n refl)
@@ -111,7 +105,7 @@ pub stands_if : (b : Bool) (p other : Peer) (q : Bool) (v : View) → (b ≡ tru
 stands_if true p other q v k l = k refl
 stands_if false p other q v k l = l refl
 
-unheard_kept : (b : Bool) (m : Ends) → Unheard m → Unheard (if b then m else no_ends)
+pub unheard_kept : (b : Bool) (m : Ends) → Unheard m → Unheard (if b then m else no_ends)
 unheard_kept true m u = u
 unheard_kept false m u = none_heard
 

@@ -20,7 +20,7 @@ use Rattle.ncp_terms.specs.Spelling.{spellings}
 use Rattle.ncp_control.specs.Texts.{items_of}
 use Rattle.ncp_control.specs.Reading.{commands_in, fault_in}
 use Rattle.ncp_slot.specs.declared.slot.Slot.{Slot}
-use Rattle.ncp_slot.specs.Slot.{is_empty, answered, woken}
+use Rattle.ncp_slot.specs.Slot.{is_empty, answered}
 use Rattle.ncp_slot.specs.Slots.{LinkSlot, LinkSlots, slot_at, with_slot, is_quiet}
 use Rattle.ncp_slot.proofs.Places.{slot_at-with_slot_other, slot_at-no_slots}
 use Rattle.ncp_model.specs.Act.{answer}
@@ -67,7 +67,7 @@ use Rattle.ncp_proof_umpire.proofs.Talking.{control_talk, control_parted, messag
 use Rattle.ncp_umpire.proofs.Following.{Keeps, said_keeps, out_is, short_is, other_is, own_is, in_is, answer_is}
 use Rattle.ncp_proof_umpire.proofs.Leaders.{apart}
 use Rattle.ncp_proof_umpire.proofs.Shown.{Shows, allowed}
-use Rattle.ncp_proof_umpire.proofs.HostSlots.{is_of_call, call_leaves, answer_here, answer_there, was}
+use Rattle.ncp_proof_umpire.proofs.HostSlots.{is_of_call, empty_woken, call_leaves, answer_here, answer_there, was}
 use Rattle.ncp_proof_umpire.proofs.Linked.{Known, Follows, after_out_of, coming_keeps, no_regular}
 use Rattle.ncp_proof_umpire.proofs.Fine.{Fine}
 use Rattle.ncp_proof_umpire.proofs.Laid.{Whole, out_whole, weighs}
@@ -96,12 +96,6 @@ empty_after how Slot.Empty e = by how e
 empty_after how (Slot.Ready m) e = refl
 empty_after how (Slot.Travelling m) e = refl
 empty_after how (Slot.Held m) e = refl
-
-empty_woken : (x : LinkSlot) → is_empty (woken x) ≡ is_empty x
-empty_woken Slot.Empty = refl
-empty_woken (Slot.Ready m) = refl
-empty_woken (Slot.Travelling m) = refl
-empty_woken (Slot.Held m) = refl
 
 call_used : (note : HostNote) (s : PeerState) → is_of_call note ≡ true → OnLinks s → OnLinks (note_for note s)
 call_used note s c a on e = elim (call_leaves note c s on) [
@@ -614,18 +608,7 @@ record Untold (me : ℕ) (busy : Option ℕ) (c : Command) (v : View) : Type 0 w
 untold : (me : ℕ) (busy : Option ℕ) (c : Command) (v : View) → v.told ≡ false → Untold me busy c v
 untold me busy Command.Rst v t = record { none = grind arith; told = grind arith }
 untold me busy Command.Rrp v t = record { none = grind arith; told = grind arith }
-untold me busy Command.Nop v t = record { none = grind arith; told = t }
-untold me busy (Command.Rts x y z) v t = record { none = grind arith; told = t }
-untold me busy (Command.Str x y z) v t = record { none = grind arith; told = t }
-untold me busy (Command.Cls x y) v t = record { none = grind arith; told = t }
-untold me busy (Command.All x y z) v t = record { none = grind arith; told = t }
-untold me busy (Command.Gvb x y z) v t = record { none = grind arith; told = t }
-untold me busy (Command.Ret x y z) v t = record { none = grind arith; told = t }
-untold me busy (Command.Inr x) v t = record { none = grind arith; told = t }
-untold me busy (Command.Ins x) v t = record { none = grind arith; told = t }
-untold me busy (Command.Eco x) v t = record { none = grind arith; told = t }
-untold me busy (Command.Erp x) v t = record { none = grind arith; told = t }
-untold me busy (Command.Err x y) v t = record { none = grind arith; told = t }
+untold me busy c v t = record { none = grind arith; told = t }
 
 record AllUntold (me : ℕ) (busy : Option ℕ) (cs : List Command) (v : View) : Type 0 where
   none : items_findings (record { by = me; sent = true; busy = busy; zero = false }) (items_of cs None) v ≡ []
@@ -646,7 +629,7 @@ untold_missing me busy false v t = refl
 untold_text : (me : ℕ) (busy : Option ℕ) (zero : Bool) (v : View) → v.told ≡ false → early_finding (record { by = me; sent = true; busy = busy; zero = zero }) Thing.Text v ≡ None
 untold_text me busy zero v t = grind arith
 
-and_not : (b f : Bool) → f ≡ true → (b && not f) ≡ false
+pub and_not : (b f : Bool) → f ≡ true → (b && not f) ≡ false
 and_not true true e = refl
 and_not false true e = refl
 and_not b false e = absurd (cc)

@@ -102,23 +102,23 @@ rrp_goes me busy zero u p false v b s k = let l = leads-some u in (grind arith, 
 
 -- where another command is the first, the host is up, and neither RST nor RRP waits
 
-is_up : (c : Command) (u : List Command) (p : Phase) (q : Bool) (v : View) → is_other c ≡ true → Phased (record p { waiting = c ∷ u }) q v → up p ≡ true
+pub is_up : (c : Command) (u : List Command) (p : Phase) (q : Bool) (v : View) → is_other c ≡ true → Phased (record p { waiting = c ∷ u }) q v → up p ≡ true
 is_up c u p q v o k = go (up p) refl
   where
     go : (b : Bool) → up p ≡ b → b ≡ true
     go true e = refl
     go false e = let none = k.calm e in grind arith
 
-none_behind : (c : Command) (u : List Command) (p : Phase) (q : Bool) (v : View) → is_other c ≡ true → Phased (record p { waiting = c ∷ u }) q v → (rsts u ≡ 0) × (rrps u ≡ 0)
+pub none_behind : (c : Command) (u : List Command) (p : Phase) (q : Bool) (v : View) → is_other c ≡ true → Phased (record p { waiting = c ∷ u }) q v → (rsts u ≡ 0) × (rrps u ≡ 0)
 none_behind c u p q v o k = let e = k.order in grind arith
 
-up_began : (c : Command) (u : List Command) (p : Phase) (q : Bool) (v : View) → up p ≡ true → (rsts u ≡ 0) × (rrps u ≡ 0) → is_rst c ≡ false → is_rrp c ≡ false → Phased (record p { waiting = c ∷ u }) q v → v.host.began ≡ true
+pub up_began : (c : Command) (u : List Command) (p : Phase) (q : Bool) (v : View) → up p ≡ true → (rsts u ≡ 0) × (rrps u ≡ 0) → is_rst c ≡ false → is_rrp c ≡ false → Phased (record p { waiting = c ∷ u }) q v → v.host.began ≡ true
 up_began c u p q v up_is none r s k = let e = k.began in grind arith
 
-up_waits : (c : Command) (u : List Command) (p : Phase) (q : Bool) (v : View) → up p ≡ true → Phased (record p { waiting = c ∷ u }) q v → awaits_reply v.host.wait ≡ false
+pub up_waits : (c : Command) (u : List Command) (p : Phase) (q : Bool) (v : View) → up p ≡ true → Phased (record p { waiting = c ∷ u }) q v → awaits_reply v.host.wait ≡ false
 up_waits c u p q v up_is k = let e = k.waits in grind arith
 
-up_owes : (c : Command) (u : List Command) (p : Phase) (q : Bool) (v : View) → up p ≡ true → (rsts u ≡ 0) × (rrps u ≡ 0) → is_rst c ≡ false → is_rrp c ≡ false → Phased (record p { waiting = c ∷ u }) q v → v.owes ≡ false
+pub up_owes : (c : Command) (u : List Command) (p : Phase) (q : Bool) (v : View) → up p ≡ true → (rsts u ≡ 0) × (rrps u ≡ 0) → is_rst c ≡ false → is_rrp c ≡ false → Phased (record p { waiting = c ∷ u }) q v → v.owes ≡ false
 up_owes c u p q v up_is none r s k = let e = k.owes in grind arith
 
 not_early : (me : ℕ) (busy : Option ℕ) (zero : Bool) (what : Thing) (v : View) → is_text what ≡ false → v.host.began ≡ true → awaits_reply v.host.wait ≡ false → v.owes ≡ false → is_early (record { by = me; sent = true; busy = busy; zero = zero }) what v ≡ false

@@ -40,20 +40,7 @@ went_own me (Some message) = at_own me ToImp message
 
 went_other : (me host : ℕ) (note : HostNote) → (host == me) ≡ false → at_interface me (goes_from host note) ≡ []
 went_other me host (HostNote.Out message) d = at_other me host ToImp message d
-went_other me host (HostNote.Refused call fault) d = refl
-went_other me host (HostNote.Done call) d = refl
-went_other me host (HostNote.Took peer pair bytes text) d = refl
-went_other me host (HostNote.State peer pair r) d = refl
-went_other me host (HostNote.Phase peer flags) d = refl
-went_other me host (HostNote.Echoed peer byte) d = refl
-went_other me host (HostNote.Errors peer errors) d = refl
-went_other me host (HostNote.Counts peer counts) d = refl
-went_other me host (HostNote.Waiting peer place command) d = refl
-went_other me host (HostNote.Kept peer link message) d = refl
-went_other me host (HostNote.Ignored ignored) d = refl
-went_other me host HostNote.Nothing d = refl
-went_other me host (HostNote.In message received) d = refl
-went_other me host (HostNote.Answered peer link how received) d = refl
+went_other me host other d = refl
 
 -- ---- one event, at one side
 
@@ -170,7 +157,7 @@ whole side (event ∷ happened) (note ∷ noted) w d p =
     (subst (Recorded (side_number side now) file later) (of_event side event note w p.0).1 more))
 
 -- the notes of the steps
-steps_noted : (happened : List Event) (before now : Noted_world) → AreSteps happened before now → (all : List Note) × (now.notes ≡ before.notes ++ all) × AreNotes happened all before.hosts
+pub steps_noted : (happened : List Event) (before now : Noted_world) → AreSteps happened before now → (all : List Note) × (now.notes ≡ before.notes ++ all) × AreNotes happened all before.hosts
 steps_noted [] before now e = ([], ap (λ (w : Noted_world). w.notes) e ∙ sym (append-nil before.notes), tt)
 steps_noted (event ∷ happened) before now s =
     let rest = steps_noted happened s.0 now s.2 in
@@ -185,7 +172,7 @@ steps_noted (event ∷ happened) before now s =
 one_peer : (me n : ℕ) → (n == me) ≡ false → are_peers me (n ∷ []) ≡ true
 one_peer me n d = ap (λ (b : Bool). not (b || false)) d
 
-small_peer : (n : ℕ) → n < 256 → (m : ℕ) → is_one_of m (n ∷ []) ≡ true → m < 256
+pub small_peer : (n : ℕ) → n < 256 → (m : ℕ) → is_one_of m (n ∷ []) ≡ true → m < 256
 small_peer n l m e = go (n == m) refl e
   where
     go : (b : Bool) → (n == m) ≡ b → (b || false) ≡ true → m < 256

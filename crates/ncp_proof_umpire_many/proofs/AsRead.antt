@@ -1,5 +1,5 @@
 -- A message of one of two hosts as it is read at an interface: of commands, and of a text.
-use Rattle.std.proofs.Common.{◌≡◌, ℕ, ◌<◌, ◌==◌, Bool, true, false, not, ◌&&◌, if◌then◌else◌, List, [], ◌∷◌, ◌++◌, length, All, Option, None, Result, Ok, refl, sym, ap, ◌∙◌, arith}
+use Rattle.std.proofs.Common.{◌≡◌, ℕ, ◌<◌, ◌==◌, Bool, true, false, not, if◌then◌else◌, List, [], ◌∷◌, ◌++◌, length, All, Option, None, Result, Ok, refl, sym, ap, ◌∙◌, arith}
 use Rattle.ncp_numbers.specs.Numbers.{bits_of}
 use Rattle.ncp_numbers.specs.Bytes.{bits_of_bytes}
 use Rattle.ncp_numbers.proofs.Packing.{bytes_of-bits_of_bytes}
@@ -25,6 +25,7 @@ use Rattle.ncp_umpire.specs.Phases.{early_finding, after_thing, item_findings, a
 use Rattle.ncp_umpire.specs.Judged.{view_of, knows_zero, turn_at, items_said, said_findings, after_read, after_in, judges_coming, with_coming}
 use Rattle.ncp_umpire.proofs.Passing.{Pass}
 use Rattle.ncp_proof_umpire.proofs.Talking.{control_parted, message_talk}
+use Rattle.ncp_proof_umpire.proofs.PhaseWalk.{and_not, not_full}
 
 -- ---- the text of a control message
 
@@ -79,18 +80,7 @@ record Untold (n : ℕ) (busy : Option ℕ) (c : Command) (v : View) : Type 0 wh
 untold : (n : ℕ) (busy : Option ℕ) (c : Command) (v : View) → v.told ≡ false → Untold n busy c v
 untold n busy Command.Rst v t = record { none = grind arith; told = grind arith }
 untold n busy Command.Rrp v t = record { none = grind arith; told = grind arith }
-untold n busy Command.Nop v t = record { none = grind arith; told = t }
-untold n busy (Command.Rts x y z) v t = record { none = grind arith; told = t }
-untold n busy (Command.Str x y z) v t = record { none = grind arith; told = t }
-untold n busy (Command.Cls x y) v t = record { none = grind arith; told = t }
-untold n busy (Command.All x y z) v t = record { none = grind arith; told = t }
-untold n busy (Command.Gvb x y z) v t = record { none = grind arith; told = t }
-untold n busy (Command.Ret x y z) v t = record { none = grind arith; told = t }
-untold n busy (Command.Inr x) v t = record { none = grind arith; told = t }
-untold n busy (Command.Ins x) v t = record { none = grind arith; told = t }
-untold n busy (Command.Eco x) v t = record { none = grind arith; told = t }
-untold n busy (Command.Erp x) v t = record { none = grind arith; told = t }
-untold n busy (Command.Err x y) v t = record { none = grind arith; told = t }
+untold n busy c v t = record { none = grind arith; told = t }
 
 pub all_untold : (n : ℕ) (busy : Option ℕ) (cs : List Command) (v : View) → v.told ≡ false → items_findings (record { by = n; sent = false; busy = busy; zero = false }) (items_of cs None) v ≡ []
 all_untold n busy [] v t = refl
@@ -102,24 +92,14 @@ all_untold n busy (c ∷ cs) v t =
 pub untold_text : (n : ℕ) (busy : Option ℕ) (zero : Bool) (v : View) → v.told ≡ false → early_finding (record { by = n; sent = false; busy = busy; zero = zero }) Thing.Text v ≡ None
 untold_text n busy zero v t = grind arith
 
-and_not : (b f : Bool) → f ≡ true → (b && not f) ≡ false
-and_not true true e = refl
-and_not false true e = refl
-and_not b false e = absurd (cc)
-
 pub not_told : (A : Umpire) (at peer : ℕ) → A.full ≡ true → (view_of A at peer).told ≡ false
 not_told A at peer f = and_not (view_in A.views at peer).told A.full f
 
 pub zero_none : (A : Umpire) (at peer : ℕ) → A.full ≡ true → knows_zero A at peer ≡ false
 zero_none A at peer f = grind arith
 
-and_open : (t f : Bool) → t ≡ true → f ≡ false → (t && not f) ≡ true
-and_open true false e g = refl
-and_open true true e g = absurd (cc)
-and_open false f e g = absurd (cc)
-
 pub is_told : (A : Umpire) (at peer : ℕ) → (view_in A.views at peer).told ≡ true → A.full ≡ false → (view_of A at peer).told ≡ true
-is_told A at peer t f = and_open (view_in A.views at peer).told A.full t f
+is_told A at peer t f = not_full (view_in A.views at peer).told A.full t f
 
 -- ---- what a message that comes leaves
 

@@ -72,7 +72,7 @@ use Rattle.ncp_proof_umpire.specs.Recordings.{is_of_messages_and_phase}
 use Rattle.ncp_proof_umpire.specs.Worlds.{comes_to, goes_from, world_file}
 use Rattle.ncp_proof_umpire.proofs.Talking.{empty_pass}
 use Rattle.ncp_proof_umpire.proofs.Fresh.{not_quiet}
-use Rattle.ncp_proof_umpire.proofs.HostSlots.{is_of_call, call_noted, call_leaves, was}
+use Rattle.ncp_proof_umpire.proofs.HostSlots.{is_of_call, call_noted, empty_woken, call_leaves, was}
 use Rattle.ncp_proof_umpire.proofs.Laid.{weighs, fitting_all}
 use Rattle.ncp_proof_umpire.proofs.Others.{other_leaves}
 use Rattle.ncp_proof_umpire.proofs.PhaseLists.{itself, replicated}
@@ -161,12 +161,6 @@ kept_by me n h note umpire before now said c k =
     woken_line (Slot.Travelling m) t = refl
     woken_line (Slot.Held m) t = refl
 
-    woken_empty : (y : LinkSlot) → is_empty (woken y) ≡ is_empty y
-    woken_empty Slot.Empty = refl
-    woken_empty (Slot.Ready m) = refl
-    woken_empty (Slot.Travelling m) = refl
-    woken_empty (Slot.Held m) = refl
-
     by : (t : PeerState) → Ready t → (b : Bool) → Keeps t (if b then note_for note t else t)
     by t r false = record { line = λ h. refl; unheard = λ u. u; quiet = refl }
     by t r true = record {
@@ -177,7 +171,7 @@ kept_by me n h note umpire before now said c k =
       unheard = λ u. noted note t c r.fine.good u;
       quiet = quiet_same (note_for note t).slots t.slots (λ l z. elim (call_leaves note c t l) [
         | inl e ↦ ap is_empty e
-        | inr e ↦ ap is_empty e ∙ woken_empty (slot_at t.slots l)
+        | inr e ↦ ap is_empty e ∙ empty_woken (slot_at t.slots l)
       ]);
     }
 

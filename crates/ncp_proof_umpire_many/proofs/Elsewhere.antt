@@ -29,7 +29,9 @@ use Rattle.ncp_umpire.specs.Views.{new_view}
 use Rattle.ncp_umpire.specs.Judged.{has_seen, sees, view_of, slot_of_link, same_of, view_after_out, fresh_out, umpire_after_out, with_answer, umpire_after_answer, judges_coming, with_coming, after_in, turn_at, after_read, after_said, after_event, after_record}
 use Rattle.ncp_proof_umpire.proofs.PhaseSeen.{view_length, Seen}
 use Rattle.ncp_proof_umpire.proofs.Shown.{Shows, after_answering, after_coming}
-use Rattle.ncp_proof_umpire_many.proofs.Tells.{Tells, keys_apart, others_go}
+use Rattle.ncp_proof_umpire.proofs.Others.{has_place, put_apart}
+use Rattle.ncp_proof_umpire.proofs.Linked.{keys_apart}
+use Rattle.ncp_proof_umpire_many.proofs.Tells.{Tells}
 use Rattle.ncp_proof_umpire_many.proofs.OneWay.{Sound, OneWay, seen_stays, sound_sees, sound_said}
 use Rattle.ncp_proof_umpire_many.proofs.OwnSide.{At}
 use Rattle.ncp_proof_umpire_many.proofs.Toward.{Toward}
@@ -88,10 +90,6 @@ said_spares a b at peer by sent true (Ok m) x p s n = record {
 said_spares a b at peer by sent false (Ok m) x p s n = still a b x
 said_spares a b at peer by sent fresh (Err fault) x p s n = still a b x
 
-has_place : (b : Bool) → not b ≡ false → b ≡ true
-has_place true e = refl
-has_place false e = absurd (cc)
-
 out_spares : (a b at peer on : ℕ) (bits : List Bool) (x : Umpire) → peer < 256 → b < 256 → IsOfOthers a b at peer → Spares a b x (umpire_after_out x at peer on bits)
 out_spares a b at peer on bits x p s n = go x.full refl
   where
@@ -108,7 +106,7 @@ out_spares a b at peer on bits x p s n = go x.full refl
       sound = λ k. record { part = k.part; seen_long = k.seen_long; long = view_length x.views at peer view ∙ k.long };
       seen = λ host k f. f;
       view = place_other x.views at peer a b view p s n;
-      kept = λ f link. others_go at peer on x.kept bits (has_place (has_room x.kept (place_of at peer on x.kept)) f) (is_of a b link) (keys_apart at peer on a b link (λ is. n.0 is.0 is.1));
+      kept = λ f link. put_apart at peer on x.kept bits (has_place (has_room x.kept (place_of at peer on x.kept)) f) (is_of a b link) (keys_apart at peer on a b link (λ is. n.0 is.0 is.1));
     }
 
 in_spares : (a b at peer on : ℕ) (x : Umpire) → IsOfOthers a b at peer → Spares a b x (after_in x at peer on)

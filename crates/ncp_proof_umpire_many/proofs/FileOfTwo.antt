@@ -8,8 +8,8 @@ use Rattle.ncp_umpire.specs.declared.way.Way.{Way}
 use Rattle.ncp_transcript_many.specs.ManyHappening.{by_numbers}
 use Rattle.ncp_transcript_many.proofs.EachPair.{a-stays, b-stays}
 use Rattle.ncp_proof_umpire.specs.Worlds.{passes_between, world_file}
+use Rattle.ncp_proof_umpire.proofs.TwoHosts.{steps_noted}
 use Rattle.ncp_proof_umpire_many.proofs.Between.{Joined, joined_after, new_joined}
-use Rattle.ncp_proof_umpire_many.proofs.Walk.{steps_noted}
 use Rattle.ncp_proof_umpire_many.specs.ManyFiles.{many_file, FileOfTwo}
 use Rattle.ncp_proof_umpire_many.proofs.Records.{passes_fit}
 

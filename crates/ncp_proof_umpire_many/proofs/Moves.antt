@@ -1,5 +1,5 @@
 -- What is seen at each interface of the other host, through a call, and through a message that goes out.
-use Rattle.std.proofs.Common.{◌≡◌, ℕ, ◌<◌, ◌==◌, Bool, true, false, if◌then◌else◌, List, [], ◌∷◌, ◌++◌, length, drop, Option, None, Some, Result, refl, sym, ap, ◌∙◌, subst, arith}
+use Rattle.std.proofs.Common.{◌≡◌, ℕ, ◌<◌, ◌==◌, Bool, true, false, if◌then◌else◌, List, [], ◌∷◌, ◌++◌, length, drop, Some, Result, refl, sym, ap, ◌∙◌, subst, arith}
 use Rattle.std.proofs.lemmas.Bool.{eqb-true, eq-eqb, ne_eqb}
 use Rattle.ncp_numbers.specs.Bytes.{bytes_of, bits_of_bytes}
 use Rattle.ncp_numbers.proofs.Packing.{bytes_of-bits_of_bytes}
@@ -13,13 +13,10 @@ use Rattle.ncp_slot.specs.declared.slot.Slot.{Slot}
 use Rattle.ncp_slot.specs.Slot.{is_empty}
 use Rattle.ncp_slot.specs.Slots.{LinkSlot, slot_at, is_quiet}
 use Rattle.ncp_slot.proofs.Places.{slot_at-with_slot_same, slot_at-with_slot_other}
-use Rattle.ncp_model.specs.declared.pair.Pair.{Pair}
 use Rattle.ncp_model.specs.Act.{answer}
-use Rattle.ncp_model.specs.End.{End}
-use Rattle.ncp_model.specs.Ends.{Ends, hears_link, sender_on, pair_of, cut_at, cut_in}
+use Rattle.ncp_model.specs.Ends.{cut_in}
 use Rattle.ncp_model.specs.Sending.{next_commands}
 use Rattle.ncp_model.specs.Peers.{Peer, cuts, peer_sends}
-use Rattle.ncp_model.proofs.LinksLead.{led}
 use Rattle.ncp_model.proofs.ResetLists.{others}
 use Rattle.ncp_host.specs.PeerState.{PeerState}
 use Rattle.ncp_host.specs.Output.{after_by, after_output}
@@ -34,7 +31,7 @@ use Rattle.ncp_umpire.specs.declared.view.View.{View}
 use Rattle.ncp_umpire.specs.Views.{awaits_reply}
 use Rattle.ncp_proof_umpire.proofs.Phased.{Phased}
 use Rattle.ncp_proof_umpire.proofs.PhaseSteps.{Unheard, none_heard, Stands}
-use Rattle.ncp_proof_umpire.proofs.PhaseSeen.{quiet_filled, quiet_zero}
+use Rattle.ncp_proof_umpire.proofs.PhaseSeen.{quiet_filled, quiet_zero, heard_some}
 use Rattle.ncp_proof_umpire_many.proofs.PeerSeen.{Beside, Sent}
 use Rattle.ncp_proof_umpire_many.proofs.Counts.{line, Counts, recount}
 use Rattle.ncp_proof_umpire_many.proofs.Toward.{Opens, Toward, not_up, none_waits, first_reset, front_none}
@@ -82,16 +79,6 @@ that_called v now view began k c d t = record {
 
 abbrev pub goes_on : ℕ → List Bool → World → World
 goes_on on m v = record v { this = after_output on m v.this; going = set_at on (Accepted m) v.going }
-
-heard_some : (m : Ends) (on : ℕ) (t : ℕ × List Bool) → Unheard m → answer (cut_in on m) ≡ Some t → ⊥
-heard_some m on t u e = go (sender_on on m) refl e
-  where
-    go : (o : Option (Pair × End)) → sender_on on m ≡ o → answer (cut_at o) ≡ Some t → ⊥
-    go None f e = absurd (cc e)
-    go (Some x) f e =
-        let l = led (hears_link on) m x.0 (ap pair_of f) in
-        let nay : true ≡ false = sym l.1 ∙ u on x.0 in
-        absurd (cc)
 
 -- the line after it: a message on link 0, and one on another link
 

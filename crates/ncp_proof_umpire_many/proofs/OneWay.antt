@@ -21,7 +21,9 @@ use Rattle.ncp_umpire.specs.Judged.{by_imp, has_seen, view_of, knows_zero, slot_
 use Rattle.ncp_proof_umpire.proofs.KeptOne.{Apart}
 use Rattle.ncp_proof_umpire.proofs.PhaseSeen.{view_length}
 use Rattle.ncp_proof_umpire.proofs.Shown.{after_answering, after_coming}
-use Rattle.ncp_proof_umpire_many.proofs.Tells.{Tells, keys_apart, not_out, after_going, others_go, coming, answered}
+use Rattle.ncp_proof_umpire.proofs.Others.{has_place, put_apart}
+use Rattle.ncp_proof_umpire.proofs.Linked.{keys_apart}
+use Rattle.ncp_proof_umpire_many.proofs.Tells.{Tells, not_out, after_going, coming, answered}
 use Rattle.ncp_proof_umpire_many.proofs.Crowd.{read_stays, crowd_set}
 
 -- the file does not begin in the middle
@@ -84,10 +86,6 @@ or_false true false e = refl
 or_false false true e = absurd (cc)
 or_false false false e = refl
 
-open_room : (b : Bool) → not b ≡ false → b ≡ true
-open_room true e = refl
-open_room false e = absurd (cc)
-
 abbrev filled : Umpire → ℕ → ℕ → ℕ → List Bool → Umpire
 filled umpire at peer on bits =
     let place = place_of at peer on umpire.kept in
@@ -122,8 +120,8 @@ out_way from to on bits t after umpire s f g seen free b w = go umpire.full refl
           clear = crowd_set umpire.views from to from to (view_after_out view (slot_of_link umpire from to on) (same_of umpire from to on bits)) s.long f g (or_false view.crowded _ (not_out view.known umpire.kept (is_of from to on) here)) ∙ w.clear;
           seen = λ k x. seen;
           tells = λ x.
-              let room = open_room (has_room umpire.kept (place_of from to on umpire.kept)) x in
-              one_told from to on (Accepted bits) t after umpire.kept (with_out umpire.kept (place_of from to on umpire.kept) (gone_out from to on bits)) b (others_go from to on umpire.kept bits room)
+              let room = has_place (has_room umpire.kept (place_of from to on umpire.kept)) x in
+              one_told from to on (Accepted bits) t after umpire.kept (with_out umpire.kept (place_of from to on umpire.kept) (gone_out from to on bits)) b (put_apart from to on umpire.kept bits room)
               (after_going from to on umpire.kept bits here room) (w.tells e);
         }
 
@@ -141,8 +139,8 @@ out_far from to on bits back t umpire s f g differ free own w = go umpire.full r
           clear = crowd_set umpire.views from to to from (view_after_out view (slot_of_link umpire from to on) (same_of umpire from to on bits)) s.long f g (or_false view.crowded _ (not_out view.known umpire.kept (is_of from to on) here)) ∙ w.clear;
           seen = w.seen;
           tells = λ x.
-              let room = open_room (has_room umpire.kept (place_of from to on umpire.kept)) x in
-              far_told from to on to from back umpire.kept (with_out umpire.kept (place_of from to on umpire.kept) (gone_out from to on bits)) differ (others_go from to on umpire.kept bits room) (w.tells e);
+              let room = has_place (has_room umpire.kept (place_of from to on umpire.kept)) x in
+              far_told from to on to from back umpire.kept (with_out umpire.kept (place_of from to on umpire.kept) (gone_out from to on bits)) differ (put_apart from to on umpire.kept bits room) (w.tells e);
         }
 
 -- ---- what it says

@@ -1,6 +1,5 @@
 -- What is known of each of two hosts at its own interface, through each record of a file of both.
-use Rattle.std.proofs.Common.{◌≡◌, ℕ, ◌<◌, ◌==◌, Bool, true, false, ◌||◌, List, [], ◌∷◌, Option, Some, refl, ap, subst, arith}
-use Rattle.std.proofs.lemmas.Bool.{eqb-true}
+use Rattle.std.proofs.Common.{◌≡◌, ℕ, ◌<◌, ◌==◌, Bool, true, false, ◌||◌, List, [], ◌∷◌, Option, Some, refl, ap, subst}
 use Rattle.ncp_leader.specs.Message.{message_in}
 use Rattle.ncp_host.specs.Host.{Host, is_one_of, new_host}
 use Rattle.ncp_host.specs.Turns.{next_output}
@@ -29,6 +28,7 @@ use Rattle.ncp_proof_umpire.proofs.LinkWalk.{follows_begins}
 use Rattle.ncp_proof_umpire.proofs.ReadyPeers.{AllReady, ready_after, fits_in, ready_begins}
 use Rattle.ncp_proof_umpire.proofs.PhaseWalk.{call_all, in_all, out_all, out_passes, seen_begins}
 use Rattle.ncp_proof_umpire.proofs.Others.{Watched, watched, other_leaves}
+use Rattle.ncp_proof_umpire.proofs.TwoHosts.{small_peer}
 use Rattle.ncp_proof_umpire_many.proofs.Quiet.{phase_quiet, quiet_talk}
 
 pub record At (me n : ℕ) (h : Host) (umpire : Umpire) : Type 0 where
@@ -111,13 +111,6 @@ elsewhere me n at way bits h umpire d k = record {
 }
 
 -- ---- the beginning
-
-small_peer : (n : ℕ) → n < 256 → (m : ℕ) → is_one_of m (n ∷ []) ≡ true → m < 256
-small_peer n l m e = go (n == m) refl e
-  where
-    go : (b : Bool) → (n == m) ≡ b → (b || false) ≡ true → m < 256
-    go true f e = let same : n ≡ m = eqb-true n m f in omega (arith, same, l)
-    go false f e = absurd (cc)
 
 pub begins : (me n : ℕ) → n < 256 → At me n (new_host me (n ∷ [])) (new_umpire false)
 begins me n l = record { holds = new-holds me (n ∷ []) refl (small_peer n l); watched = record { follows = follows_begins me (n ∷ []); seen = seen_begins me (n ∷ []) }; ready = ready_begins me (n ∷ []) }

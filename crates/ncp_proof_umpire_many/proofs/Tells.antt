@@ -1,6 +1,5 @@
 -- What is kept of a link tells what the subnet has for it: a message that is out, or one that came.
-use Rattle.std.proofs.Common.{◌≡◌, ◌⊎◌, inl, inr, ℕ, ◌==◌, Bool, true, false, not, ◌&&◌, if◌then◌else◌, List, [], ◌∷◌, ◌++◌, length, Option, None, Some, position, remove, filter, slice_set, refl, sym, ap, ◌∙◌, subst}
-use Rattle.std.proofs.lemmas.Bool.{and_parts, eqb-true}
+use Rattle.std.proofs.Common.{◌≡◌, ◌⊎◌, inl, inr, ℕ, ◌==◌, Bool, true, false, not, if◌then◌else◌, List, [], ◌∷◌, ◌++◌, length, Option, None, Some, position, remove, filter, slice_set, refl, sym, ap, ◌∙◌, subst}
 use Rattle.ncp_subnet.specs.declared.transit.Transit.TheVariants.{Free, Accepted, Delivered, Lost, Dead}
 use Rattle.ncp_subnet.specs.Transit.{is_free, answer_kind}
 use Rattle.ncp_subnet.specs.Ways.{OnLink}
@@ -8,7 +7,7 @@ use Rattle.ncp_umpire.specs.declared.kept.Kept.{Kept}
 use Rattle.ncp_umpire.specs.declared.kept.Slot.{Slot}
 use Rattle.ncp_umpire.specs.Slots.{is_of, same_but_host, same_but_host_at, place_of, kept_at, kept_slot, gone_out, has_room, with_out, with_kept_slot, with_answered}
 use Rattle.ncp_umpire.specs.Judged.{is_slot_out, false_rule, stray_rule, unsent_why, with_answer, with_coming}
-use Rattle.ncp_proof_umpire.proofs.KeptOne.{middle_set, middle_get, middle_remove, Placed, placed, taken, Apart, replaced, forgotten, as_list, behind, put_out}
+use Rattle.ncp_proof_umpire.proofs.KeptOne.{middle_set, middle_get, middle_remove, Placed, placed, taken, replaced, forgotten, as_list, behind, put_out}
 use Rattle.ncp_proof_umpire.proofs.Shown.{of_itself}
 
 -- of the one message that is kept
@@ -28,24 +27,6 @@ Tells t (k ∷ other ∷ more) = ⊥
 only : (t : OnLink) (k : Kept) (rest : List Kept) → Tells t (k ∷ rest) → (rest ≡ []) × TellsOne t k.slot k.message
 only t k [] h = (refl, h)
 only t k (other ∷ more) h = absurd h
-
--- ---- links apart
-
-key : (from to on : ℕ) (k : Kept) → is_of from to on k ≡ true → (k.from ≡ from) × (k.to ≡ to) × (k.link ≡ on)
-key from to on k e =
-    let one = and_parts (k.from == from && k.to == to) (k.link == on) e in
-    let two = and_parts (k.from == from) (k.to == to) one.0 in
-    (eqb-true k.from from two.0, eqb-true k.to to two.1, eqb-true k.link on one.1)
-
-pub keys_apart : (f t l g u m : ℕ) → ((f ≡ g) × (t ≡ u) × (l ≡ m) → ⊥) → Apart (is_of f t l) (is_of g u m)
-keys_apart f t l g u m nay k e = go (is_of g u m k) refl
-  where
-    go : (b : Bool) → is_of g u m k ≡ b → b ≡ false
-    go true d =
-        let one = key f t l k e in
-        let two = key g u m k d in
-        absurd (nay (sym one.0 ∙ two.0, sym one.1 ∙ two.1, sym one.2 ∙ two.2))
-    go false d = refl
 
 -- ---- a message goes out
 
@@ -84,10 +65,6 @@ after_going from to on kept bits h room = go (placed p kept)
     go w =
         let b = put_out p kept x w (of_itself from to on bits) room in
         subst (Tells (Accepted bits)) (sym (b.own ∙ ap (λ (xs : List Kept). x ∷ xs) (none_behind w))) (refl, refl)
-
-pub others_go : (from to on : ℕ) (kept : List Kept) (bits : List Bool) → has_room kept (place_of from to on kept) ≡ true → (q : Kept → Bool) → Apart (is_of from to on) q
-    → filter q (with_out kept (place_of from to on kept) (gone_out from to on bits)) ≡ filter q kept
-others_go from to on kept bits room = (put_out (is_of from to on) kept (gone_out from to on bits) (placed (is_of from to on) kept) (of_itself from to on bits) room).others
 
 -- ---- what is in transit has its place
 

@@ -1,7 +1,7 @@
 -- A walk over a world of two hosts and the file of it: what holds before each event holds after it, and all findings of the
 -- records of the event pass a test.
 use Rattle.std.proofs.Common.{◌≡◌, ◌≢◌, ◌<◌, ℕ, Bool, false, List, [], ◌∷◌, ◌++◌, refl, sym, ap, ◌∙◌, subst}
-use Rattle.std.proofs.lemmas.List.{append_assoc, append-nil}
+use Rattle.std.proofs.lemmas.List.{append_assoc}
 use Rattle.ncp_transcript_two.specs.declared.event.Event.{Event}
 use Rattle.ncp_transcript_two.specs.declared.note.Note.{Note}
 use Rattle.ncp_transcript_two.specs.Between.{Hosts, new_hosts, hosts_after_note}
@@ -13,6 +13,7 @@ use Rattle.ncp_umpire.specs.declared.way.Way.{Way}
 use Rattle.ncp_umpire.specs.Judged.{new_umpire, record_findings, after_record}
 use Rattle.ncp_umpire.proofs.Passing.{Pass, both}
 use Rattle.ncp_proof_umpire.specs.Worlds.{passes_between, world_file}
+use Rattle.ncp_proof_umpire.proofs.TwoHosts.{steps_noted}
 use Rattle.ncp_proof_umpire_many.specs.Files.{findings_in}
 
 -- what is known behind all records
@@ -45,17 +46,6 @@ walk passes I steps (event ∷ happened) (note ∷ noted) w umpire p k =
     let rest : List (ℕ × Way × List Bool) = world_file happened noted (hosts_after_note note w) in
     subst (λ (xs : List Finding). Pass passes xs) (sym (found_both umpire here rest))
     (both passes (findings_in umpire here) (findings_in (after_file umpire here) rest) s.0 (walk passes I steps happened noted (hosts_after_note note w) (after_file umpire here) p.1 s.1))
-
--- the notes of the steps
-pub steps_noted : (happened : List Event) (before now : Noted_world) → AreSteps happened before now → (all : List Note) × (now.notes ≡ before.notes ++ all) × AreNotes happened all before.hosts
-steps_noted [] before now e = ([], ap (λ (w : Noted_world). w.notes) e ∙ sym (append-nil before.notes), tt)
-steps_noted (event ∷ happened) before now s =
-    let rest = steps_noted happened s.0 now s.2 in
-    let note = s.1.0 in (
-      note ∷ rest.0,
-      rest.1 ∙ ap (λ (xs : List Note). xs ++ rest.0) s.1.2 ∙ append_assoc before.notes (note ∷ []) rest.0,
-      (s.1.1, subst (AreNotes happened rest.0) s.1.3 rest.2),
-    )
 
 -- of a whole file of two hosts
 abbrev pub AllPass : (Finding → Bool) → Type 0

@@ -6,7 +6,7 @@ use Rattle.std.specs.List.{filter, list_any, position}
 use Rattle.std.proofs.Math.Bool.{beq}
 use Rattle.std.proofs.lemmas.Bool.{and_parts}
 use Rattle.ncp_terms.specs.declared.command.Command.{Command}
-use Rattle.ncp_terms.specs.declared.command.Command.TheVariants.{Nop, Rts, Str, Cls, Gvb, Ret, Inr, Ins, Eco, Erp, Err, Rst, Rrp}
+use Rattle.ncp_terms.specs.declared.command.Command.TheVariants.{Rst, Rrp}
 use Rattle.ncp_model.specs.Pairs.{pair_cmp, sends, receives}
 use Rattle.ncp_model.specs.End.{End}
 use Rattle.ncp_model.specs.Ends.{Ends, no_ends}
@@ -108,18 +108,7 @@ pub calm : (w : List Command) → others w ≡ [] → Calm w
 calm [] e = record { says = refl; unworded = refl; items = λ rests links. refl; admits = λ me n b. tt; none = refl }
 calm (Rst ∷ w) e = let k = calm w e in let z = k.none in record { says = k.says; unworded = k.unworded; items = k.items; admits = λ me n b. ((λ t. absurd (cc t)), k.admits me n b); none = omega (arith, z) }
 calm (Rrp ∷ w) e = let k = calm w e in let z = k.none in record { says = k.says; unworded = k.unworded; items = k.items; admits = λ me n b. ((λ t. absurd (cc t)), k.admits me n b); none = omega (arith, z) }
-calm (Nop ∷ w) e = absurd (cc e)
-calm (Rts x y z ∷ w) e = absurd (cc e)
-calm (Str x y z ∷ w) e = absurd (cc e)
-calm (Cls x y ∷ w) e = absurd (cc e)
-calm (Command.All x y z ∷ w) e = absurd (cc e)
-calm (Gvb x y z ∷ w) e = absurd (cc e)
-calm (Ret x y z ∷ w) e = absurd (cc e)
-calm (Inr x ∷ w) e = absurd (cc e)
-calm (Ins x ∷ w) e = absurd (cc e)
-calm (Eco x ∷ w) e = absurd (cc e)
-calm (Erp x ∷ w) e = absurd (cc e)
-calm (Err x y ∷ w) e = absurd (cc e)
+calm (c ∷ w) e = absurd (cc e)
 
 pub begins_tells : (me n : ℕ) (awaited : Bool) (w : List Command) (b : SeenBooks) → others w ≡ [] → Clear me n b → Tells me n no_ends awaited w b
 begins_tells me n awaited w b quiet clear = record {

@@ -4,7 +4,7 @@ use Rattle.std.proofs.Common.{◌≡◌, ℕ, zero, suc, Bool, true, false, ◌&
 use Rattle.std.specs.List.{filter, list_any}
 use Rattle.std.specs.FinMap.{get, get-empty}
 use Rattle.ncp_terms.specs.declared.command.Command.{Command}
-use Rattle.ncp_terms.specs.declared.command.Command.TheVariants.{Nop, Rts, Str, Cls, Gvb, Ret, Inr, Ins, Eco, Erp, Err, Rst, Rrp}
+use Rattle.ncp_terms.specs.declared.command.Command.TheVariants.{Rts, Str, Cls, Gvb, Ret, Inr, Ins, Eco, Err, Rst, Rrp}
 use Rattle.ncp_terms.specs.declared.fault.CommandFault.{CommandFault}
 use Rattle.ncp_slot.specs.Slot.{is_empty}
 use Rattle.ncp_slot.specs.Slots.{LinkSlots, slot_at}
@@ -21,7 +21,7 @@ use Rattle.ncp_model.specs.Phase.{Phase, Reaction, up, is_reset, is_other, is_rs
 use Rattle.ncp_model.specs.Sending.{is_full}
 use Rattle.ncp_model.specs.Texts.{Rfnm, hear_text, cut, made_by_text}
 use Rattle.ncp_model.specs.declared.outcomes.Took.{Took}
-use Rattle.ncp_model.specs.Peers.{Peer, PairCall, Ask_to_send, Ask_to_receive, Close, Give, Take, Allocate, Call_back, Interrupt, called, happened_at, calls_up, calls, echo_called, calls_echo, calls_reset, cleared, standing, makes, reaction, echo_replies, echoes_after, hears_other, hears, hears_fault, takes_text, hears_text, cuts, peer_sends, frees_up, frees, settles}
+use Rattle.ncp_model.specs.Peers.{Peer, PairCall, Ask_to_send, called, happened_at, calls_up, calls, echo_called, calls_echo, calls_reset, cleared, standing, makes, reaction, echo_replies, echoes_after, hears_other, hears, hears_fault, takes_text, hears_text, cuts, peer_sends, frees_up, frees, settles}
 use Rattle.ncp_model.proofs.LinksLead.{led, command-led, cut-led, answered-led}
 use Rattle.ncp_model.proofs.EndsAfter.{after-at}
 use Rattle.ncp_proof_watch.specs.Sound.{SoundAt}
@@ -32,6 +32,7 @@ use Rattle.ncp_host.specs.Soundness.{is_end_busy}
 use Rattle.ncp_proof_umpire_seen.proofs.Proper.{has_right_parts, AllProper, IsProperEnd, ProperEnds, proper_append, proper_made, proper_after, call_link}
 use Rattle.ncp_proof_umpire_talk.proofs.BusySlots.{BusySlots, FillsNone, busy_less, is_kept, busy_put, busy_hears, busy_text, busy_cut, busy_freed}
 use Rattle.ncp_proof_umpire_talk.proofs.Carries.{is_unreset}
+use Rattle.ncp_proof_umpire.proofs.EndsStay.{comes_some}
 
 abbrev pub SoundEnds : Ends → Type 0
 SoundEnds m = (pair : Pair) → SoundAt pair (get m pair)
@@ -94,7 +95,7 @@ up_waits p u = grind arith
 unreset_up : (p : Phase) → p.wait ≡ false → is_unreset p ≡ true → up p ≡ true
 unreset_up p w u = grind arith
 
-up_unreset : (p : Phase) → up p ≡ true → is_unreset p ≡ true
+pub up_unreset : (p : Phase) → up p ≡ true → is_unreset p ≡ true
 up_unreset p u = grind arith
 
 -- ---- settling
@@ -163,19 +164,8 @@ looked_leaving : {A : Type 0} → (m : Ends) (o : Option Pair) (act : Act A) →
 looked_leaving m None act sound f k = k
 looked_leaving m (Some pair) act sound f k = let w = f pair refl in changed_leaving m (map_after m pair act) pair w.0 sound (act-changes m pair w.0 act w.1) k
 
-it_comes : (c : Command) (m : Ends) (pair : Pair) → leads_to c m ≡ Some pair → (what : Happening) × (comes c m ≡ Some what)
-it_comes (Rts a b d) m pair e = (_, refl)
-it_comes (Str a b d) m pair e = (_, refl)
-it_comes (Cls a b) m pair e = (_, refl)
-it_comes (Command.All a b d) m pair e = (_, refl)
-it_comes (Gvb a b d) m pair e = (_, refl)
-it_comes (Ret a b d) m pair e = (_, refl)
-it_comes (Inr a) m pair e = (_, refl)
-it_comes (Ins a) m pair e = (_, refl)
-it_comes c m pair e = absurd (cc e)
-
 pub by_command : (c : Command) (m : Ends) (pair : Pair) → leads_to c m ≡ Some pair → (what : Happening) × ((happens pair what (get m pair)).after ≡ end_after (get m pair) (hear c m))
-by_command c m pair e = let w = it_comes c m pair e in (w.0, ap (λ (d : Happened). d.after) (command-led m c pair w.0 e w.1).1)
+by_command c m pair e = let w = comes_some c m pair e in (w.0, ap (λ (d : Happened). d.after) (command-led m c pair w.0 e w.1).1)
 
 by_text : (m : Ends) (on of_size : ℕ) (text : List Bool) (pair : Pair) → pair_of (receiver_on on m) ≡ Some pair → (what : Happening) × ((happens pair what (get m pair)).after ≡ end_after (get m pair) (text_in on of_size text m))
 by_text m on of_size text pair e = (Happening.Text_comes [] of_size text, ap (λ (o : Option End). end_after (get m pair) (hear_text of_size text o)) (led (uses_link on) m pair e).0)
@@ -190,13 +180,7 @@ by_answer m on pair e = (Happening.Is_answered Rfnm, ap (λ (d : Happened). d.af
 
 kept_call : (call : PairCall) (full : Bool) (m : Ends) → is_kept (called call full m) ≡ true
 kept_call (Ask_to_send of_size room) full m = refl
-kept_call (Ask_to_receive room) full m = refl
-kept_call Close full m = refl
-kept_call (Give text) full m = refl
-kept_call (Take bytes) full m = refl
-kept_call (Allocate x y) full m = refl
-kept_call (Call_back x y) full m = refl
-kept_call Interrupt full m = refl
+kept_call call full m = refl
 
 pub calls_borne : (pair : Pair) (call : PairCall) (p : Peer) (slots : LinkSlots) → SoundEnds p.ends → Borne p slots → Borne (calls pair call p) slots
 calls_borne pair call p slots sound k = go (up p.phase) refl
@@ -285,45 +269,17 @@ heard_made (Gvb on x y) m k = proper_made one_pair (Happening.Gvb_comes on x y) 
 heard_made (Ret on x y) m k = proper_made one_pair (Happening.Ret_comes on x y) (end_of (receiver_on on m)) (λ z. refl) tt
 heard_made (Inr on) m k = proper_made one_pair (Happening.Inr_comes on) (end_of (sender_on on m)) (λ z. refl) tt
 heard_made (Ins on) m k = proper_made one_pair (Happening.Ins_comes on) (end_of (receiver_on on m)) (λ z. refl) tt
-heard_made Nop m k = tt
-heard_made (Eco byte) m k = tt
-heard_made (Erp byte) m k = tt
-heard_made (Err code bytes) m k = tt
-heard_made Rst m k = tt
-heard_made Rrp m k = tt
+heard_made c m k = tt
 
 echoes_made : (c : Command) → AllProper (echo_replies c)
 echoes_made (Eco byte) = (refl, tt)
-echoes_made (Rts receive send on) = tt
-echoes_made (Str send receive size) = tt
-echoes_made (Cls my your) = tt
-echoes_made (Command.All on x y) = tt
-echoes_made (Gvb on x y) = tt
-echoes_made (Ret on x y) = tt
-echoes_made (Inr on) = tt
-echoes_made (Ins on) = tt
-echoes_made Nop = tt
-echoes_made (Erp byte) = tt
-echoes_made (Err code bytes) = tt
-echoes_made Rst = tt
-echoes_made Rrp = tt
+echoes_made c = tt
 
 -- the phase after another command, while the host is up
 reacts : (c : Command) (r : Reaction) (p : Phase) → is_other c ≡ true → up p ≡ true → phase_hears c r p ≡ (if r.full then goes_down p else makes_all r.replies p)
 reacts Rst r p o u = absurd (cc o)
 reacts Rrp r p o u = absurd (cc o)
-reacts (Rts receive send on) r p o u = ap (λ (b : Bool). if b then (if r.full then goes_down p else makes_all r.replies p) else p) u
-reacts (Str send receive size) r p o u = ap (λ (b : Bool). if b then (if r.full then goes_down p else makes_all r.replies p) else p) u
-reacts (Cls my your) r p o u = ap (λ (b : Bool). if b then (if r.full then goes_down p else makes_all r.replies p) else p) u
-reacts (Command.All on x y) r p o u = ap (λ (b : Bool). if b then (if r.full then goes_down p else makes_all r.replies p) else p) u
-reacts (Gvb on x y) r p o u = ap (λ (b : Bool). if b then (if r.full then goes_down p else makes_all r.replies p) else p) u
-reacts (Ret on x y) r p o u = ap (λ (b : Bool). if b then (if r.full then goes_down p else makes_all r.replies p) else p) u
-reacts (Inr on) r p o u = ap (λ (b : Bool). if b then (if r.full then goes_down p else makes_all r.replies p) else p) u
-reacts (Ins on) r p o u = ap (λ (b : Bool). if b then (if r.full then goes_down p else makes_all r.replies p) else p) u
-reacts Nop r p o u = ap (λ (b : Bool). if b then (if r.full then goes_down p else makes_all r.replies p) else p) u
-reacts (Eco byte) r p o u = ap (λ (b : Bool). if b then (if r.full then goes_down p else makes_all r.replies p) else p) u
-reacts (Erp byte) r p o u = ap (λ (b : Bool). if b then (if r.full then goes_down p else makes_all r.replies p) else p) u
-reacts (Err code bytes) r p o u = ap (λ (b : Bool). if b then (if r.full then goes_down p else makes_all r.replies p) else p) u
+reacts c r p o u = ap (λ (b : Bool). if b then (if r.full then goes_down p else makes_all r.replies p) else p) u
 
 reacted_proper : (full : Bool) (cs : List Command) (p : Phase) → AllProper cs → AllProper p.waiting → AllProper (if full then goes_down p else makes_all cs p).waiting
 reacted_proper true cs p k a = proper_filter is_reset p.waiting a
@@ -353,18 +309,7 @@ other_borne quiet c p slots o sound k = go (up p.phase) refl
 pub hears_borne : (quiet : Bool) (c : Command) (p : Peer) (slots : LinkSlots) → QuietTells quiet slots → SoundEnds p.ends → Borne p slots → Borne (hears quiet c p) slots
 hears_borne quiet Rst p slots tells sound k = reset_borne_by quiet (owes_answer p.phase) p slots tells (proper_filter is_reset p.phase.waiting k.proper) (owed p.phase)
 hears_borne quiet Rrp p slots tells sound k = record { proper = k.proper; sexes = k.sexes; busy = k.busy; leaving = k.leaving }
-hears_borne quiet (Rts receive send on) p slots tells sound k = other_borne quiet (Rts receive send on) p slots refl sound k
-hears_borne quiet (Str send receive size) p slots tells sound k = other_borne quiet (Str send receive size) p slots refl sound k
-hears_borne quiet (Cls my your) p slots tells sound k = other_borne quiet (Cls my your) p slots refl sound k
-hears_borne quiet (Command.All on x y) p slots tells sound k = other_borne quiet (Command.All on x y) p slots refl sound k
-hears_borne quiet (Gvb on x y) p slots tells sound k = other_borne quiet (Gvb on x y) p slots refl sound k
-hears_borne quiet (Ret on x y) p slots tells sound k = other_borne quiet (Ret on x y) p slots refl sound k
-hears_borne quiet (Inr on) p slots tells sound k = other_borne quiet (Inr on) p slots refl sound k
-hears_borne quiet (Ins on) p slots tells sound k = other_borne quiet (Ins on) p slots refl sound k
-hears_borne quiet Nop p slots tells sound k = other_borne quiet Nop p slots refl sound k
-hears_borne quiet (Eco byte) p slots tells sound k = other_borne quiet (Eco byte) p slots refl sound k
-hears_borne quiet (Erp byte) p slots tells sound k = other_borne quiet (Erp byte) p slots refl sound k
-hears_borne quiet (Err code bytes) p slots tells sound k = other_borne quiet (Err code bytes) p slots refl sound k
+hears_borne quiet c p slots tells sound k = other_borne quiet c p slots refl sound k
 
 -- ---- a text comes
 

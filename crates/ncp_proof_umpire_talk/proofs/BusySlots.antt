@@ -48,28 +48,14 @@ one_way pair s = grind arith
 
 module _ (pair : Pair) (e : End) (sound : SoundAt pair (Some e)) (busy : e.busy ≡ true) where
   pub keeps_busy : (what : Happening) → is_kept what ≡ true → is_end_busy (happens pair what (Some e)).after ≡ true
-  keeps_busy (Happening.Asks_to_send of_size room own full) k = let o = sound.out busy in grind arith
-  keeps_busy (Happening.Asks_to_receive room on own full) k = let o = sound.out busy in grind arith
   keeps_busy (Happening.Closes full) k = let o = sound.out busy in let s = sound.sender busy in grind arith
-  keeps_busy (Happening.Gives text) k = let o = sound.out busy in grind arith
   keeps_busy (Happening.Takes bytes) k = let s = sound.sender busy in let r = one_way pair s in grind arith
-  keeps_busy (Happening.Allocates m b full) k = let o = sound.out busy in grind arith
-  keeps_busy (Happening.Calls_back m b full) k = let o = sound.out busy in grind arith
-  keeps_busy (Happening.Interrupts full) k = let o = sound.out busy in grind arith
-  keeps_busy (Happening.Rts_comes on taken by_peer) k = let o = sound.out busy in grind arith
-  keeps_busy (Happening.Str_comes of_size by_peer) k = let o = sound.out busy in grind arith
   keeps_busy Happening.Cls_comes k = let o = sound.out busy in let s = sound.sender busy in grind arith
-  keeps_busy (Happening.All_comes on m b) k = let o = sound.out busy in grind arith
-  keeps_busy (Happening.Gvb_comes on m b) k = let o = sound.out busy in grind arith
-  keeps_busy (Happening.Ret_comes on m b) k = let o = sound.out busy in grind arith
-  keeps_busy (Happening.Inr_comes on) k = let o = sound.out busy in grind arith
-  keeps_busy (Happening.Ins_comes on) k = let o = sound.out busy in grind arith
-  keeps_busy (Happening.Text_comes head of_size text) k = let o = sound.out busy in grind arith
-  keeps_busy Happening.Text_goes_out k = let o = sound.out busy in grind arith
   keeps_busy (Happening.Is_answered Rfnm) k = absurd (cc k)
   keeps_busy (Happening.Is_answered Incomplete) k = busy
   keeps_busy (Happening.Is_answered Dead) k = busy
   keeps_busy Happening.Is_cleared k = absurd (cc k)
+  keeps_busy c k = let o = sound.out busy in grind arith
 
 -- with the link that it heard
 text_stays : (on : ℕ) (pair : Pair) (what : Happening) (before after : Option End) → is_kept what ≡ true → SoundAt pair before → (happens pair what before).after ≡ after → passes (hears_link on) pair before ≡ true → is_end_busy before ≡ true

@@ -1,21 +1,20 @@
 -- What a host carries for a peer stays through each call, and through all that comes and goes out.
 use Rattle.std.proofs.Common.{◌≡◌, ℕ, ◌==◌, Bool, true, false, ◌||◌, if◌then◌else◌, List, [], ◌∷◌, take, Option, None, Some, Result, Ok, Err, inl, inr, refl, sym, ap, ◌∙◌, subst}
-use Rattle.std.specs.List.{list_all}
 use Rattle.std.specs.FinMap.{get, get-empty}
-use Rattle.std.proofs.lemmas.Bool.{and_parts, eqb-true}
+use Rattle.std.proofs.lemmas.Bool.{eqb-true}
 use Rattle.std.proofs.lemmas.Bool.Decides.{eqb_tells}
 use Rattle.ncp_numbers.specs.Bytes.{bytes_of}
 use Rattle.ncp_leader.specs.declared.fault.MessageFault.{MessageFault}
 use Rattle.ncp_leader.specs.declared.regular.TheConstants.{FRONT_BITS}
 use Rattle.ncp_leader.specs.Message.{Message}
 use Rattle.ncp_terms.specs.declared.command.Command.{Command}
-use Rattle.ncp_terms.specs.declared.command.Command.TheVariants.{Nop, Rts, Str, Cls, Gvb, Ret, Inr, Ins, Eco, Erp, Rst, Rrp}
+use Rattle.ncp_terms.specs.declared.command.Command.TheVariants.{Rst, Rrp}
 use Rattle.ncp_terms.specs.declared.fault.CommandFault.{CommandFault}
 use Rattle.ncp_terms.specs.declared.answer.Answer.{Answer}
 use Rattle.ncp_terms.specs.declared.answer.Answer.TheVariants.{Rfnm, Incomplete, Dead}
 use Rattle.ncp_control.specs.Reading.{commands_in, fault_in}
 use Rattle.ncp_slot.specs.declared.slot.Slot.{Slot}
-use Rattle.ncp_slot.specs.Slot.{is_empty, is_travelling, answered, woken}
+use Rattle.ncp_slot.specs.Slot.{is_empty, is_travelling, answered}
 use Rattle.ncp_slot.specs.Slots.{LinkSlot, LinkSlots, slot_at, with_slot, all_woken, is_quiet, data_links}
 use Rattle.ncp_slot.proofs.Places.{slot_at-with_slot_same, slot_at-with_slot_other}
 use Rattle.ncp_slot.proofs.Waking.{slot_at-all_woken}
@@ -26,7 +25,7 @@ use Rattle.ncp_model.specs.Ends.{Ends, leads_to, hear, cut_in, map_after, map_af
 use Rattle.ncp_model.specs.Happenings.{Happening, happens}
 use Rattle.ncp_model.specs.Phase.{up, phase_hears}
 use Rattle.ncp_model.specs.Sending.{next_commands}
-use Rattle.ncp_model.specs.Peers.{Peer, Ask_to_send, Ask_to_receive, Close, Give, Take, Allocate, Call_back, Interrupt, reaction, hears, hears_other, frees, peer_sends, cuts}
+use Rattle.ncp_model.specs.Peers.{Peer, reaction, hears, hears_other, frees, peer_sends, cuts}
 use Rattle.ncp_proof_watch.specs.Sound.{SoundAt}
 use Rattle.ncp_proof_watch.proofs.SoundEnds.{sound-after}
 use Rattle.ncp_proof_machine.proofs.EndsGood.{changed-each, act-changes}
@@ -35,10 +34,12 @@ use Rattle.ncp_host.specs.Counting.{one_more}
 use Rattle.ncp_host.specs.Hearing.{state_hears, state_hears_all, hears_last, state_hears_text, control_size, state_after_control, state_after_text, is_wrong_link, message_after}
 use Rattle.ncp_host.specs.Output.{links, control_message, text_message, output_by, after_by, after_output}
 use Rattle.ncp_host.specs.Host.{is_one_of}
-use Rattle.ncp_host.specs.Calls.{sockets}
 use Rattle.ncp_host.specs.Soundness.{Agree}
-use Rattle.ncp_transcript.specs.declared.call.Call.{Call}
-use Rattle.ncp_proof_runs.specs.Peers.{called_for}
+use Rattle.ncp_transcript.specs.Asked.{Asked, Asks, Asks_echo, Asks_reset, Asks_wake}
+use Rattle.ncp_proof_runs.specs.Peers.{state_asked}
+use Rattle.ncp_proof_umpire.proofs.HostSlots.{empty_woken}
+use Rattle.ncp_proof_umpire.proofs.Fresh.{in_all}
+use Rattle.ncp_proof_umpire.proofs.PhaseSeen.{travelling}
 use Rattle.ncp_proof_umpire_talk.proofs.BusySlots.{FillsNone}
 use Rattle.ncp_proof_umpire_talk.proofs.Borne.{SoundEnds, Borne, QuietTells, by_command, none_sexes, none_leaving, calls_borne, echo_borne, reset_borne, hears_borne, fault_borne, text_borne, slots_borne, settles_borne, frees_borne, sends_borne, cuts_borne}
 use Rattle.ncp_proof_umpire_talk.proofs.Carries.{Carries}
@@ -46,14 +47,6 @@ use Rattle.ncp_proof_umpire_talk.proofs.Carries.{Carries}
 -- only links that are used have a message
 abbrev pub LinksUsed : LinkSlots → Type 0
 LinksUsed slots = (on : ℕ) → is_empty (slot_at slots on) ≡ false → is_one_of on links ≡ true
-
-among : (q : ℕ → Bool) (ons : List ℕ) (on : ℕ) → list_all q ons ≡ true → is_one_of on ons ≡ true → q on ≡ true
-among q [] on a h = absurd (cc h)
-among q (k ∷ ons) on a h = go (k == on) refl h (among q ons on (and_parts (q k) (list_all q ons) a).1)
-  where
-    go : (b : Bool) → (k == on) ≡ b → (b || is_one_of on ons) ≡ true → (is_one_of on ons ≡ true → q on ≡ true) → q on ≡ true
-    go true g h rest = ap q (sym (eqb-true k on g)) ∙ (and_parts (q k) (list_all q ons) a).0
-    go false g h rest = rest h
 
 on_data : (on : ℕ) → ((on ≡ 0) → ⊥) → is_one_of on links ≡ true → is_one_of on data_links ≡ true
 on_data on d h = go (control_link == on) refl h
@@ -68,7 +61,7 @@ quiet_tells slots used q on d = go (is_empty (slot_at slots on)) refl
   where
     go : (b : Bool) → is_empty (slot_at slots on) ≡ b → is_empty (slot_at slots on) ≡ true
     go true e = e
-    go false e = among (λ (k : ℕ). is_empty (slot_at slots k)) data_links on q (on_data on d (used on e))
+    go false e = in_all (λ (k : ℕ). is_empty (slot_at slots k)) data_links on q (on_data on d (used on e))
 
 -- ---- the ends stay sound
 
@@ -90,47 +83,16 @@ sound_other quiet c p k = go (up p.phase) (up (phase_hears c (reaction quiet c p
 pub hears_sound : (quiet : Bool) (c : Command) (p : Peer) → SoundEnds p.ends → SoundEnds (hears quiet c p).ends
 hears_sound quiet Rst p k = sound_none
 hears_sound quiet Rrp p k = k
-hears_sound quiet (Rts receive send on) p k = sound_other quiet (Rts receive send on) p k
-hears_sound quiet (Str send receive size) p k = sound_other quiet (Str send receive size) p k
-hears_sound quiet (Cls my your) p k = sound_other quiet (Cls my your) p k
-hears_sound quiet (Command.All on x y) p k = sound_other quiet (Command.All on x y) p k
-hears_sound quiet (Gvb on x y) p k = sound_other quiet (Gvb on x y) p k
-hears_sound quiet (Ret on x y) p k = sound_other quiet (Ret on x y) p k
-hears_sound quiet (Inr on) p k = sound_other quiet (Inr on) p k
-hears_sound quiet (Ins on) p k = sound_other quiet (Ins on) p k
-hears_sound quiet Nop p k = sound_other quiet Nop p k
-hears_sound quiet (Eco byte) p k = sound_other quiet (Eco byte) p k
-hears_sound quiet (Erp byte) p k = sound_other quiet (Erp byte) p k
-hears_sound quiet (Command.Err code bytes) p k = sound_other quiet (Command.Err code bytes) p k
+hears_sound quiet c p k = sound_other quiet c p k
 
 -- ---- calls
 
-still_empty : (slot : LinkSlot) → is_empty (woken slot) ≡ is_empty slot
-still_empty Slot.Empty = refl
-still_empty (Slot.Ready m) = refl
-still_empty (Slot.Travelling m) = refl
-still_empty (Slot.Held m) = refl
-
-called_borne : (call : Call) (s : PeerState) → SoundEnds s.peer.ends → LinksUsed s.slots → Borne s.peer s.slots → Borne (called_for call s).peer (called_for call s).slots
-called_borne (Call.Reset peer) s sound used k = reset_borne (is_quiet s.slots) s.peer s.slots (quiet_tells s.slots used) k
-called_borne (Call.AskSend peer local remote size room) s sound used k = calls_borne (sockets local remote) (Ask_to_send size room) s.peer s.slots sound k
-called_borne (Call.AskReceive peer local remote room) s sound used k = calls_borne (sockets local remote) (Ask_to_receive room) s.peer s.slots sound k
-called_borne (Call.Give peer pair text) s sound used k = calls_borne pair (Give text) s.peer s.slots sound k
-called_borne (Call.Take peer pair bytes) s sound used k = calls_borne pair (Take bytes) s.peer s.slots sound k
-called_borne (Call.Allocate peer pair messages bits) s sound used k = calls_borne pair (Allocate messages bits) s.peer s.slots sound k
-called_borne (Call.CallBack peer pair messages bits) s sound used k = calls_borne pair (Call_back messages bits) s.peer s.slots sound k
-called_borne (Call.Interrupt peer pair) s sound used k = calls_borne pair Interrupt s.peer s.slots sound k
-called_borne (Call.Echo peer byte) s sound used k = echo_borne byte s.peer s.slots k
-called_borne (Call.Close peer pair) s sound used k = calls_borne pair Close s.peer s.slots sound k
-called_borne (Call.Wake peer) s sound used k = slots_borne s.peer s.slots (all_woken s.slots) (λ on d e. sym (still_empty (slot_at s.slots on)) ∙ ap is_empty (sym (slot_at-all_woken s.slots on)) ∙ e) k
-called_borne (Call.State peer pair) s sound used k = k
-called_borne (Call.Phase peer) s sound used k = k
-called_borne (Call.Echoed peer) s sound used k = k
-called_borne (Call.Errors peer) s sound used k = k
-called_borne (Call.Counts peer) s sound used k = k
-called_borne (Call.Waiting peer place) s sound used k = k
-called_borne (Call.Kept peer link) s sound used k = k
-called_borne Call.Ignored s sound used k = k
+asked_borne : (o : Option (ℕ × Asked)) (s : PeerState) → SoundEnds s.peer.ends → LinksUsed s.slots → Borne s.peer s.slots → Borne (state_asked o s).peer (state_asked o s).slots
+asked_borne None s sound used k = k
+asked_borne (Some (peer, Asks pair call)) s sound used k = calls_borne pair call s.peer s.slots sound k
+asked_borne (Some (peer, Asks_echo byte)) s sound used k = echo_borne byte s.peer s.slots k
+asked_borne (Some (peer, Asks_reset)) s sound used k = reset_borne (is_quiet s.slots) s.peer s.slots (quiet_tells s.slots used) k
+asked_borne (Some (peer, Asks_wake)) s sound used k = slots_borne s.peer s.slots (all_woken s.slots) (λ on d e. sym (empty_woken (slot_at s.slots on)) ∙ ap is_empty (sym (slot_at-all_woken s.slots on)) ∙ e) k
 
 -- ---- a message comes
 
@@ -162,12 +124,6 @@ message_borne on bits (Ok m) s sound used k = go (is_wrong_link on) (on == contr
 
 -- ---- an answer comes
 
-unempty : (slot : LinkSlot) → is_travelling slot ≡ true → is_empty slot ≡ false
-unempty Slot.Empty e = absurd (cc e)
-unempty (Slot.Ready m) e = refl
-unempty (Slot.Travelling m) e = refl
-unempty (Slot.Held m) e = refl
-
 emptied : (slot : LinkSlot) → is_travelling slot ≡ true → is_empty (answered Rfnm slot) ≡ true
 emptied Slot.Empty e = refl
 emptied (Slot.Ready m) e = absurd (cc e)
@@ -192,10 +148,10 @@ answer_borne on how s sound used k = go (is_answered on s) refl
     now h = with_slot s.slots on (answered h (slot_at s.slots on))
 
     less : (h : Answer) → is_answered on s ≡ true → FillsNone s.slots (now h)
-    less h t by d e = filled_again s.slots on (answered h (slot_at s.slots on)) (unempty (slot_at s.slots on) t) by e
+    less h t by d e = filled_again s.slots on (answered h (slot_at s.slots on)) (travelling (slot_at s.slots on) t) by e
 
     used_now : (h : Answer) → is_answered on s ≡ true → LinksUsed (now h)
-    used_now h t by e = used by (filled_again s.slots on (answered h (slot_at s.slots on)) (unempty (slot_at s.slots on) t) by e)
+    used_now h t by e = used by (filled_again s.slots on (answered h (slot_at s.slots on)) (travelling (slot_at s.slots on) t) by e)
 
     gone : is_answered on s ≡ true → is_empty (slot_at (now Rfnm) on) ≡ true
     gone t = ap is_empty (slot_at-with_slot_same s.slots on (answered Rfnm (slot_at s.slots on))) ∙ emptied (slot_at s.slots on) t
@@ -248,8 +204,8 @@ carried p slots agree k = record { proper = k.proper; sexes = k.sexes; busy = k.
 borne : (p : Peer) (slots : LinkSlots) → Carries p slots → Borne p slots
 borne p slots k = record { proper = k.proper; sexes = k.sexes; busy = k.busy; leaving = k.leaving }
 
-pub called_carries : (call : Call) (s : PeerState) → SoundEnds s.peer.ends → LinksUsed s.slots → Agree (called_for call s).peer.ends (called_for call s).slots → Carries s.peer s.slots → Carries (called_for call s).peer (called_for call s).slots
-called_carries call s sound used agree k = carried (called_for call s).peer (called_for call s).slots agree (called_borne call s sound used (borne s.peer s.slots k))
+pub asked_carries : (o : Option (ℕ × Asked)) (s : PeerState) → SoundEnds s.peer.ends → LinksUsed s.slots → Agree (state_asked o s).peer.ends (state_asked o s).slots → Carries s.peer s.slots → Carries (state_asked o s).peer (state_asked o s).slots
+asked_carries o s sound used agree k = carried (state_asked o s).peer (state_asked o s).slots agree (asked_borne o s sound used (borne s.peer s.slots k))
 
 pub message_carries : (on : ℕ) (bits : List Bool) (r : Result Message MessageFault) (s : PeerState) → SoundEnds s.peer.ends → LinksUsed s.slots → Agree (message_after on bits r s).peer.ends (message_after on bits r s).slots
     → Carries s.peer s.slots → Carries (message_after on bits r s).peer (message_after on bits r s).slots

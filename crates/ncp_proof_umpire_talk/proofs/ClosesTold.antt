@@ -48,7 +48,7 @@ use Rattle.ncp_proof_umpire_counts.proofs.PlainSteps.{plain_rests, plain_left}
 use Rattle.ncp_proof_umpire_counts.proofs.CountedSteps.{HeardEnd, pair_marked}
 use Rattle.ncp_proof_umpire_counts.proofs.SaidCounted.{cls_ends}
 use Rattle.ncp_proof_umpire_counts.proofs.RequestsCounted.{cls_words, counted_closing, counted_unclear}
-use Rattle.ncp_proof_umpire_talk.proofs.RequestsTold.{proper_sex}
+use Rattle.ncp_proof_umpire_counts.proofs.CallsCounted.{proper_sex}
 use Rattle.ncp_proof_umpire_owes.proofs.OwedMoves.{has_reply, owed_cls}
 use Rattle.ncp_proof_umpire_owes.proofs.OwedUnclear.{owed_cls_unclear}
 use Rattle.ncp_proof_umpire_owes.proofs.AfterCls.{RightCls, right_cls_is, cls_meets_so, their_cls_owed}

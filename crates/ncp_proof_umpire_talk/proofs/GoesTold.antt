@@ -86,19 +86,7 @@ module _ (me n : ℕ) (m : Ends) where
 
   echo_goes : (c : Command) (w : List Command) (awaited : Bool) (kept : List Kept) (b : SeenBooks) → (books_after_command saying kept c b).full ≡ false → Echoing me n awaited (c ∷ w) b → Echoing me n awaited w (books_after_command saying kept c b)
   echo_goes (Eco byte) w awaited kept b room e = eco_goes me n byte awaited w b room e
-  echo_goes (Rts receive send link) w awaited kept b room e = others_echo me n awaited kept (Rts receive send link) w b refl e
-  echo_goes (Str send receive size) w awaited kept b room e = others_echo me n awaited kept (Str send receive size) w b refl e
-  echo_goes (Cls my your) w awaited kept b room e = others_echo me n awaited kept (Cls my your) w b refl e
-  echo_goes (Erp byte) w awaited kept b room e = others_echo me n awaited kept (Erp byte) w b refl e
-  echo_goes (Err code shown) w awaited kept b room e = others_echo me n awaited kept (Err code shown) w b refl e
-  echo_goes Nop w awaited kept b room e = others_echo me n awaited kept Nop w b refl e
-  echo_goes (Command.All link messages bits) w awaited kept b room e = others_echo me n awaited kept (Command.All link messages bits) w b refl e
-  echo_goes (Gvb link fm fb) w awaited kept b room e = others_echo me n awaited kept (Gvb link fm fb) w b refl e
-  echo_goes (Ret link messages bits) w awaited kept b room e = others_echo me n awaited kept (Ret link messages bits) w b refl e
-  echo_goes (Inr link) w awaited kept b room e = others_echo me n awaited kept (Inr link) w b refl e
-  echo_goes (Ins link) w awaited kept b room e = others_echo me n awaited kept (Ins link) w b refl e
-  echo_goes Rst w awaited kept b room e = others_echo me n awaited kept Rst w b refl e
-  echo_goes Rrp w awaited kept b room e = others_echo me n awaited kept Rrp w b refl e
+  echo_goes c w awaited kept b room e = others_echo me n awaited kept c w b refl e
 
 -- ---- a command that names no link goes out
 
@@ -155,19 +143,7 @@ module _ (me n : ℕ) (m : Ends) (awaited : Bool) (slots : LinkSlots) (w : List 
 
   pub unlinked_numbers : (c : Command) → link_of c ≡ None → number_rules us_saying c b ≡ []
   unlinked_numbers (Ret link messages bits) l = absurd (cc l)
-  unlinked_numbers (Rts receive send link) l = refl
-  unlinked_numbers (Str send receive size) l = refl
-  unlinked_numbers (Cls my your) l = refl
-  unlinked_numbers (Eco byte) l = refl
-  unlinked_numbers (Erp byte) l = refl
-  unlinked_numbers (Err code shown) l = refl
-  unlinked_numbers Nop l = refl
-  unlinked_numbers Rst l = refl
-  unlinked_numbers Rrp l = refl
-  unlinked_numbers (Command.All link messages bits) l = refl
-  unlinked_numbers (Gvb link fm fb) l = refl
-  unlinked_numbers (Inr link) l = refl
-  unlinked_numbers (Ins link) l = refl
+  unlinked_numbers c l = refl
 
   pub unlinked_tells : (c : Command) → link_of c ≡ None → has_right_parts c ≡ true → (books_after_command us_saying kept c b).full ≡ false → Tells me n m awaited (c ∷ w) b → Tells me n m awaited w (books_after_command us_saying kept c b)
   unlinked_tells c l p room t =
@@ -193,17 +169,7 @@ module _ (me n : ℕ) (m : Ends) (awaited : Bool) (slots : LinkSlots) (w : List 
   silent_link (Rts receive send on) link l = absurd (cc l)
   silent_link (Str send receive size) link l = absurd (cc l)
   silent_link (Cls my your) link l = absurd (cc l)
-  silent_link (Eco byte) link l = refl
-  silent_link (Erp byte) link l = refl
-  silent_link (Err code shown) link l = refl
-  silent_link Nop link l = refl
-  silent_link Rst link l = refl
-  silent_link Rrp link l = refl
-  silent_link (Command.All on messages bits) link l = refl
-  silent_link (Gvb on fm fb) link l = refl
-  silent_link (Ret on messages bits) link l = refl
-  silent_link (Inr on) link l = refl
-  silent_link (Ins on) link l = refl
+  silent_link c link l = refl
 
   named_tells : (c : Command) (link : ℕ) → link_of c ≡ Some link → (books_after_command us_saying kept c b).full ≡ false → Tells me n m awaited (c ∷ w) b → Tells me n m awaited w (books_after_command us_saying kept c b)
   named_tells c link l room t =

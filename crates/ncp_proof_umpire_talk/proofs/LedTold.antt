@@ -5,7 +5,7 @@ use Rattle.std.specs.FinMap.{get}
 use Rattle.std.specs.List.{list_any, position}
 use Rattle.std.proofs.lemmas.List.{append-nil}
 use Rattle.ncp_terms.specs.declared.command.Command.{Command}
-use Rattle.ncp_terms.specs.declared.command.Command.TheVariants.{Nop, Rts, Str, Cls, All, Gvb, Ret, Inr, Ins, Eco, Erp, Err, Rst, Rrp}
+use Rattle.ncp_terms.specs.declared.command.Command.TheVariants.{Nop, All, Gvb, Ret}
 use Rattle.ncp_model.specs.declared.pair.Pair.{Pair}
 use Rattle.ncp_model.specs.Ends.{Ends}
 use Rattle.ncp_umpire.specs.declared.due.Wanted.{Wanted}
@@ -200,16 +200,7 @@ module _ (me n : ℕ) (m : Ends) (awaited : Bool) (w : List Command) where
             (beside_link_if (is_some (over_rule hearing c messages bits life)) channel now put_there)
         go false e f = beside_life c place f t
     beside_open Nop place found f t = t
-    beside_open (Rts receive send link) place found f t = t
-    beside_open (Str send receive size) place found f t = t
-    beside_open (Cls my your) place found f t = t
-    beside_open (Inr link) place found f t = t
-    beside_open (Ins link) place found f t = t
-    beside_open (Eco byte) place found f t = t
-    beside_open (Erp byte) place found f t = t
-    beside_open (Err code shown) place found f t = t
-    beside_open Rst place found f t = t
-    beside_open Rrp place found f t = t
+    beside_open c place found f t = t
 
     pub led_beside : (c : Command) (led : Lead) → lead_on (record { at = me; peer = n; sent = false }) channel b ≡ led → (led_after (record { at = me; peer = n; sent = false }) kept c channel b led).full ≡ false
         → Beside me n m awaited w b → Beside me n m awaited w (led_after (record { at = me; peer = n; sent = false }) kept c channel b led)

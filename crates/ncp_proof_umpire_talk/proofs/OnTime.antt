@@ -7,7 +7,7 @@ use Rattle.ncp_umpire.specs.declared.finding.Thing.{Thing}
 use Rattle.ncp_umpire.specs.declared.view.View.{View}
 use Rattle.ncp_umpire.specs.Views.{awaits_reply}
 use Rattle.ncp_umpire.specs.Phases.{is_text, is_early, after_thing}
-use Rattle.ncp_proof_umpire.proofs.Phased.{Phased}
+use Rattle.ncp_proof_umpire.proofs.Phased.{Phased, is_up, none_behind, up_began, up_waits, up_owes}
 
 pub record OnTime (me : ℕ) (busy : Option ℕ) (zero : Bool) (what : Thing) (u : List Command) (p : Phase) (v : View) : Type 0 where
   pub up_is : up p ≡ true
@@ -16,40 +16,21 @@ pub record OnTime (me : ℕ) (busy : Option ℕ) (zero : Bool) (what : Thing) (u
   pub same : after_thing (record { by = me; sent = true; busy = busy; zero = zero }) what v ≡ v
   pub none : 0 < rrps u + bit p.owe → ⊥
 
-up_first : (c : Command) (u : List Command) (p : Phase) (q : Bool) (v : View) → is_other c ≡ true → Phased (record p { waiting = c ∷ u }) q v → up p ≡ true
-up_first c u p q v o k = go (up p) refl
-  where
-    go : (b : Bool) → up p ≡ b → b ≡ true
-    go true e = refl
-    go false e = let none = k.calm e in grind arith
-
-no_more : (c : Command) (u : List Command) (p : Phase) (q : Bool) (v : View) → is_other c ≡ true → Phased (record p { waiting = c ∷ u }) q v → (rsts u ≡ 0) × (rrps u ≡ 0)
-no_more c u p q v o k = let e = k.order in grind arith
-
-has_begun : (c : Command) (u : List Command) (p : Phase) (q : Bool) (v : View) → up p ≡ true → (rsts u ≡ 0) × (rrps u ≡ 0) → is_rst c ≡ false → is_rrp c ≡ false → Phased (record p { waiting = c ∷ u }) q v → v.host.began ≡ true
-has_begun c u p q v up_is none r s k = let e = k.began in grind arith
-
-waits_not : (c : Command) (u : List Command) (p : Phase) (q : Bool) (v : View) → up p ≡ true → Phased (record p { waiting = c ∷ u }) q v → awaits_reply v.host.wait ≡ false
-waits_not c u p q v up_is k = let e = k.waits in grind arith
-
-owes_not : (c : Command) (u : List Command) (p : Phase) (q : Bool) (v : View) → up p ≡ true → (rsts u ≡ 0) × (rrps u ≡ 0) → is_rst c ≡ false → is_rrp c ≡ false → Phased (record p { waiting = c ∷ u }) q v → v.owes ≡ false
-owes_not c u p q v up_is none r s k = let e = k.owes in grind arith
-
 pub on_time : (me : ℕ) (busy : Option ℕ) (zero : Bool) (what : Thing) (c : Command) (u : List Command) (p : Phase) (q : Bool) (v : View) → is_other c ≡ true → is_rst c ≡ false → is_rrp c ≡ false → is_text what ≡ false → Phased (record p { waiting = c ∷ u }) q v
     → OnTime me busy zero what u p v
 on_time me busy zero what c u p q v o r s t k = record { up_is = up_is; even = even; early = early; same = same; none = none_owed }
   where
     up_is : up p ≡ true
-    up_is = up_first c u p q v o k
+    up_is = is_up c u p q v o k
 
     none : (rsts u ≡ 0) × (rrps u ≡ 0)
-    none = no_more c u p q v o k
+    none = none_behind c u p q v o k
 
     even : awaits_reply v.host.wait ≡ false
-    even = waits_not c u p q v up_is k
+    even = up_waits c u p q v up_is k
 
     early : is_early (record { by = me; sent = true; busy = busy; zero = zero }) what v ≡ false
-    early = go v.rests (is_text what) v.host.began (awaits_reply v.host.wait) v.owes t (has_begun c u p q v up_is none r s k) even (owes_not c u p q v up_is none r s k)
+    early = go v.rests (is_text what) v.host.began (awaits_reply v.host.wait) v.owes t (up_began c u p q v up_is none r s k) even (up_owes c u p q v up_is none r s k)
       where
         go : (rests text began waits owes : Bool) → text ≡ false → began ≡ true → waits ≡ false → owes ≡ false → (if true && rests && text then waits else not began || waits || (true && owes)) ≡ false
         go true false true false false a b c d = refl

@@ -3,7 +3,7 @@ use Rattle.std.proofs.Common.{◌≡◌, ℕ, Bool, true, false, not, ◌&&◌, 
 use Rattle.std.specs.Prelude.{nat_le}
 use Rattle.std.specs.FinMap.{get}
 use Rattle.ncp_terms.specs.declared.command.Command.{Command}
-use Rattle.ncp_terms.specs.declared.command.Command.TheVariants.{Nop, Rts, Str, Cls, Gvb, Ret, Inr, Ins, Eco, Erp, Rst, Rrp}
+use Rattle.ncp_terms.specs.declared.command.Command.TheVariants.{Nop, Rts, Str, Cls}
 use Rattle.ncp_model.specs.declared.pair.Pair.{Pair}
 use Rattle.ncp_model.specs.declared.call_fault.CallFault.{CallFault}
 use Rattle.ncp_model.specs.declared.limits.TheConstants.{MAX_OWN}
@@ -104,16 +104,7 @@ unasked (Cls my your ∷ cs) u k more h e =
     let head : ◌≡◌ {A = Sockets × Say} ((my, your), Leave) (u, Ask k) = cc e in
     let nay : Leave ≡ Ask k = ap (λ (s : Sockets × Say). s.1) head in cc nay
 unasked (Nop ∷ cs) u k more h e = unasked cs u k more h e
-unasked (Command.All x y z ∷ cs) u k more h e = unasked cs u k more h e
-unasked (Gvb x y z ∷ cs) u k more h e = unasked cs u k more h e
-unasked (Ret x y z ∷ cs) u k more h e = unasked cs u k more h e
-unasked (Inr x ∷ cs) u k more h e = unasked cs u k more h e
-unasked (Ins x ∷ cs) u k more h e = unasked cs u k more h e
-unasked (Eco x ∷ cs) u k more h e = unasked cs u k more h e
-unasked (Erp x ∷ cs) u k more h e = unasked cs u k more h e
-unasked (Command.Err x y ∷ cs) u k more h e = unasked cs u k more h e
-unasked (Rst ∷ cs) u k more h e = unasked cs u k more h e
-unasked (Rrp ∷ cs) u k more h e = unasked cs u k more h e
+unasked (c ∷ cs) u k more h e = unasked cs u k more h e
 
 -- a call by which a host asks
 abbrev pub is_asking : Happening → Bool

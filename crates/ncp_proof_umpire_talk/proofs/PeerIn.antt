@@ -11,7 +11,7 @@ use Rattle.ncp_control.specs.Texts.{items_of, fault_of}
 use Rattle.ncp_control.specs.Reading.{commands_in, fault_in, rest_in}
 use Rattle.ncp_slot.specs.Slots.{is_quiet}
 use Rattle.ncp_model.specs.Act.{answer, made_by_hearing}
-use Rattle.ncp_model.specs.Ends.{Ends, leads_to, hear, map_after_at, no_ends}
+use Rattle.ncp_model.specs.Ends.{leads_to, hear, map_after_at}
 use Rattle.ncp_model.specs.Echo.{Echoes}
 use Rattle.ncp_model.specs.Phase.{up, is_other, phase_hears}
 use Rattle.ncp_model.specs.Peers.{Peer, echo_replies, echoes_after, reaction, hears, hears_other}
@@ -33,6 +33,7 @@ use Rattle.ncp_umpire.specs.Judged.{after_read, books_after_read}
 use Rattle.ncp_proof_umpire.proofs.EndsStay.{command_good}
 use Rattle.ncp_proof_umpire.proofs.Phased.{Sees}
 use Rattle.ncp_proof_umpire.proofs.PhaseSteps.{Stands, command_stands}
+use Rattle.ncp_proof_umpire.proofs.Fine.{kept_good, good_if}
 use Rattle.ncp_proof_umpire_seen.proofs.TidyBooks.{Tidy}
 use Rattle.ncp_proof_umpire_seen.proofs.Proper.{ProperEnds}
 use Rattle.ncp_proof_umpire_talk.proofs.Carries.{ShowsBusy}
@@ -68,34 +69,14 @@ plain_fault bytes fault e = go (rest_in bytes) e
 
 -- ---- the echo, and the ends
 
-awaits_after : (c : Command) (s : Echoes) → (echoes_after c s).awaited ≡ awaited_after c s.awaited
+pub awaits_after : (c : Command) (s : Echoes) → (echoes_after c s).awaited ≡ awaited_after c s.awaited
 awaits_after Command.Nop s = refl
-awaits_after (Command.Rts x y z) s = refl
-awaits_after (Command.Str x y z) s = refl
-awaits_after (Command.Cls x y) s = refl
-awaits_after (Command.All x y z) s = refl
-awaits_after (Command.Gvb x y z) s = refl
-awaits_after (Command.Ret x y z) s = refl
-awaits_after (Command.Inr x) s = refl
-awaits_after (Command.Ins x) s = refl
-awaits_after (Command.Eco x) s = refl
-awaits_after (Command.Erp x) s = refl
-awaits_after (Command.Err x y) s = refl
-awaits_after Command.Rst s = refl
-awaits_after Command.Rrp s = refl
+awaits_after c s = refl
 
-kept_good : (b : Bool) (m : Ends) → Good m → Good (if b then m else no_ends)
-kept_good true m g = g
-kept_good false m g = none-good
-
-good_where : (b : Bool) (p q : Peer) → Good p.ends → Good q.ends → Good (if b then p else q).ends
-good_where true p q k l = k
-good_where false p q k l = l
-
-hears_good : (q : Bool) (c : Command) (p : Peer) → Good p.ends → Good (hears q c p).ends
+pub hears_good : (q : Bool) (c : Command) (p : Peer) → Good p.ends → Good (hears q c p).ends
 hears_good q Command.Rst p k = none-good
 hears_good q Command.Rrp p k = k
-hears_good q c p k = good_where (up p.phase) (hears_other q c p) p (kept_good (up (phase_hears c (reaction q c p) p.phase)) (map_after_at p.ends (leads_to c p.ends) (hear c p.ends)) (command_good c p.ends k)) k
+hears_good q c p k = good_if (up p.phase) (hears_other q c p) p (kept_good (up (phase_hears c (reaction q c p) p.phase)) (map_after_at p.ends (leads_to c p.ends) (hear c p.ends)) (command_good c p.ends k)) k
 
 -- ---- all that a control text holds
 

@@ -43,29 +43,23 @@ use Rattle.ncp_umpire.proofs.Parted.{said_findings}
 use Rattle.ncp_proof_umpire.proofs.Goes.{used}
 use Rattle.ncp_proof_umpire.proofs.Laid.{fitting_all}
 use Rattle.ncp_proof_umpire.proofs.Phased.{Phased, Sees}
-use Rattle.ncp_proof_umpire.proofs.PhaseGoes.{AllWent, all_went, roomy_left}
+use Rattle.ncp_proof_umpire.proofs.PhaseGoes.{AllWent, all_went, roomy_left, rests_more}
 use Rattle.ncp_proof_umpire.proofs.PhaseSteps.{Stands}
-use Rattle.ncp_proof_umpire.proofs.PhaseSeen.{TextOnTime, text_on_time, view_same}
+use Rattle.ncp_proof_umpire.proofs.PhaseSeen.{TextOnTime, text_on_time, view_same, told_room}
 use Rattle.ncp_proof_umpire.proofs.Talking.{message_talk, text_talk}
 use Rattle.ncp_proof_umpire_seen.proofs.TidyBooks.{Tidy}
 use Rattle.ncp_proof_umpire_seen.proofs.Proper.{AllProper}
-use Rattle.ncp_proof_umpire_talk.proofs.Carries.{Carries, ShowsBusy, is_unreset}
+use Rattle.ncp_proof_umpire_talk.proofs.Carries.{Carries, ShowsBusy}
 use Rattle.ncp_proof_umpire_talk.proofs.BusySlots.{BusySlots}
 use Rattle.ncp_proof_umpire_talk.proofs.GoesTold.{says_right, says_numbers, says_tells, none_left_reply, none_left_cls, all_said_tells}
 use Rattle.ncp_proof_umpire_talk.proofs.Spoken.{Spoken}
 use Rattle.ncp_proof_umpire_talk.proofs.SpokenOut.{Known, waited_by, GoesOut, AllTold, all_told, NoneLeft, none_left}
-use Rattle.ncp_proof_umpire_talk.proofs.SpokenIn.{clash, rests_before}
+use Rattle.ncp_proof_umpire_talk.proofs.SpokenIn.{clash}
 use Rattle.ncp_proof_umpire_owes.proofs.BooksRead.{said_reads}
 use Rattle.ncp_proof_umpire_talk.proofs.TextTells.{cut_right, cut_tells}
+use Rattle.ncp_proof_umpire_talk.proofs.Borne.{up_unreset}
 
 -- ---- what goes out
-
-up_unreset : (p : Phase) → up p ≡ true → is_unreset p ≡ true
-up_unreset p u = go (p.down || p.want || p.owe) p.wait u
-  where
-    go : (x w : Bool) → not (x || w) ≡ true → not x ≡ true
-    go true w e = absurd (cc e)
-    go false w e = refl
 
 goes_out : (me n : ℕ) (busy : Option ℕ) (zero : Bool) (kept : List Kept) (p : Peer) (slots : LinkSlots) → Good p.ends → Carries p slots → ShowsBusy me n kept slots → up p.phase ≡ true → GoesOut me n busy zero kept p.ends p.echoes.awaited
 goes_out me n busy zero kept p slots good carries shows u = record {
@@ -89,10 +83,6 @@ pub record PeerTold (A : Umpire) (me n : ℕ) (fresh : Bool) (r : Result Message
 pub again_told : (A : Umpire) (me n : ℕ) (r : Result Message MessageFault) (p : Peer) → Known me n p (view_in A.views me n) A.books → PeerTold A me n false r p
 again_told A me n (Ok m) p k = record { none = refl; known = k }
 again_told A me n (Err fault) p k = record { none = refl; known = k }
-
-told_room : (me : ℕ) (busy : Option ℕ) (zero room : Bool) (v : View) → v.told ≡ true → after_room (record { by = me; sent = true; busy = busy; zero = zero }) room v ≡ v
-told_room me busy zero true v t = grind arith
-told_room me busy zero false v t = refl
 
 -- commands
 pub commands_told : (A : Umpire) (me n : ℕ) (p : Peer) (slots : LinkSlots) (q : Bool) → length A.views ≡ VIEWS → me < 256 → n < 256 → All IsCommand p.phase.waiting → (next_commands p.phase.waiting ≡ [] → ⊥) → Sees q (busy_link me n A.kept) → Stands p q (view_of A me n)
@@ -236,7 +226,7 @@ text_told A me n on t p q l a b u z cut k good known = record {
     unsaid false r = ap (λ (x : Bool). if x then map (broken_by turn) (text_rules talk on m A.books) else []) (reach false r) ∙ ap (map (broken_by turn)) (right r A.books.full refl)
 
     before_it : (after_thing turn Thing.Text v).rests ≡ false → v.rests ≡ false
-    before_it r = rests_before v.rests ((v.told && is_early turn Thing.Text v) && not (awaits_reply v.host.wait)) r
+    before_it r = rests_more v.rests ((v.told && is_early turn Thing.Text v) && not (awaits_reply v.host.wait)) r
 
     now : Bool → SeenBooks
     now x = if x then books_after_text talk on m A.books else A.books

@@ -1,6 +1,6 @@
 -- An RTS or a STR of the other comes to the host: all that is known of what was said stays known, whether the books find it
 -- right, refused or unclear.
-use Rattle.std.proofs.Common.{◌≡◌, ℕ, Bool, true, false, not, if◌then◌else◌, List, [], ◌∷◌, ◌++◌, Option, None, Some, is_some, ◌⊎◌, inl, inr, refl, sym, ap, ◌∙◌, subst, arith}
+use Rattle.std.proofs.Common.{◌≡◌, ℕ, Bool, true, false, not, if◌then◌else◌, List, [], ◌∷◌, ◌++◌, Option, None, Some, is_some, ◌⊎◌, inl, inr, refl, sym, ap, ◌∙◌, subst}
 use Rattle.std.proofs.lemmas.List.{append-nil}
 use Rattle.std.specs.FinMap.{get}
 use Rattle.std.specs.List.{list_any, position}
@@ -52,6 +52,7 @@ use Rattle.ncp_proof_umpire_counts.proofs.PlainSteps.{plain_link_rests, plain_re
 use Rattle.ncp_proof_umpire_counts.proofs.Counted.{Counted}
 use Rattle.ncp_proof_umpire_counts.proofs.CountedSteps.{pair_marked}
 use Rattle.ncp_proof_umpire_counts.proofs.RequestsCounted.{rts_ends, str_ends, rts_words, str_words, counted_request, counted_unclear}
+use Rattle.ncp_proof_umpire_counts.proofs.CallsCounted.{proper_sex}
 use Rattle.ncp_proof_umpire_owes.proofs.OwedItems.{OwedBy}
 use Rattle.ncp_proof_umpire_owes.proofs.OwedMoves.{owed_rts, owed_str}
 use Rattle.ncp_proof_umpire_owes.proofs.OwedUnclear.{owed_rts_unclear, owed_str_unclear}
@@ -136,9 +137,6 @@ module _ (me n : ℕ) (m : Ends) (awaited : Bool) (w : List Command) (b : SeenBo
       come v false d h = ap has_come (one.others v d) ∙ h
 
 -- ---- each of them
-
-pub proper_sex : (pair : Pair) → is_proper pair ≡ true → sends pair ≡ is_senders pair.local
-proper_sex pair k = grind arith
 
 -- a request that is right is of a connection of which no number of the other was seen
 unlinked : (number : ℕ) (x : Option Shape) → their_legal (Ask number) x ≡ true → link_given true x ≡ None

@@ -18,7 +18,7 @@ use Rattle.ncp_model.specs.Texts.{Rfnm}
 use Rattle.ncp_model.specs.Happenings.{Happening, Happened, happens}
 use Rattle.ncp_model.specs.Phase.{Phase, up, is_rst, is_rrp, is_other, is_resetting, has_place, queued, goes_down, wants_reset, phase_answers, phase_asks, phase_settles, phase_makes, makes_all}
 use Rattle.ncp_model.specs.Sending.{is_full}
-use Rattle.ncp_model.specs.Peers.{Peer, PairCall, Ask_to_send, Ask_to_receive, Close, Give, Take, Allocate, Call_back, Interrupt, called, calls, calls_up, calls_echo, echo_called, calls_reset, cleared, frees, frees_up, settles, standing}
+use Rattle.ncp_model.specs.Peers.{Peer, PairCall, Ask_to_send, called, calls, calls_up, calls_echo, echo_called, calls_reset, cleared, frees, frees_up, settles, standing}
 use Rattle.ncp_model.proofs.ResetLists.{bit, others, rrps-append, rrps-purged, others-purged}
 use Rattle.ncp_model.proofs.EndsAfter.{after-at, after-elsewhere}
 use Rattle.ncp_model.proofs.LinksLead.{answered-led}
@@ -26,10 +26,9 @@ use Rattle.ncp_proof_headline.proofs.HostsJoined.{AllOther}
 use Rattle.ncp_proof_machine.proofs.EndsGood.{Good, put-changes}
 use Rattle.ncp_host.specs.PeerState.{PeerState, control_link, frees_on, after_answer, is_answered, answer_taken, answer_comes}
 use Rattle.ncp_host.specs.Counting.{one_more}
-use Rattle.ncp_host.specs.Calls.{sockets}
-use Rattle.ncp_transcript.specs.declared.call.Call.{Call}
+use Rattle.ncp_transcript.specs.Asked.{Asked, Asks, Asks_echo, Asks_reset, Asks_wake}
 use Rattle.ncp_transcript.specs.declared.note.HostNote.{HostNote}
-use Rattle.ncp_proof_runs.specs.Peers.{called_for, note_for}
+use Rattle.ncp_proof_runs.specs.Peers.{state_asked, note_for}
 use Rattle.ncp_umpire.specs.declared.view.View.{View}
 use Rattle.ncp_umpire.specs.Views.{awaits_reply}
 use Rattle.ncp_umpire.specs.declared.life.Topic.{Topic}
@@ -37,7 +36,8 @@ use Rattle.ncp_umpire.specs.declared.view.Side.{Side}
 use Rattle.ncp_umpire.specs.Lives.{SeenBooks, is_marked}
 use Rattle.ncp_umpire.proofs.Shapes.{Say}
 use Rattle.ncp_umpire.proofs.LinkOrder.{Sockets, about}
-use Rattle.ncp_proof_umpire.proofs.HostSlots.{is_of_call}
+use Rattle.ncp_proof_umpire.proofs.HostSlots.{is_of_call, asked_of_note, note_asked}
+use Rattle.ncp_proof_umpire.proofs.PhaseSeen.{same_up}
 use Rattle.ncp_proof_umpire_seen.proofs.OwnMoves.{all_says, is_of_host}
 use Rattle.ncp_proof_umpire_seen.proofs.Comes.{says_append, unsaid_meets}
 use Rattle.ncp_proof_umpire_seen.proofs.Echoing.{echo_waits}
@@ -59,13 +59,7 @@ use Rattle.ncp_proof_umpire_talk.proofs.SpokenIn.{settles_calm}
 
 called_host : (call : PairCall) (full : Bool) (m : Ends) → (is_of_host (called call full m) ≡ true) × ((is_text_coming (called call full m) ≡ false) × (is_call (called call full m) ≡ true))
 called_host (Ask_to_send of_size room) full m = (refl, (refl, refl))
-called_host (Ask_to_receive room) full m = (refl, (refl, refl))
-called_host Close full m = (refl, (refl, refl))
-called_host (Give text) full m = (refl, (refl, refl))
-called_host (Take bytes) full m = (refl, (refl, refl))
-called_host (Allocate x y) full m = (refl, (refl, refl))
-called_host (Call_back x y) full m = (refl, (refl, refl))
-called_host Interrupt full m = (refl, (refl, refl))
+called_host call full m = (refl, (refl, refl))
 
 -- with commands made, while the host is up
 made_spoken : (me n : ℕ) (cs : List Command) (m : Ends) (s : Echoes) (p : Peer) (v : View) (b : SeenBooks) → Spoken me n p v b
@@ -181,9 +175,6 @@ reset_spoken me n q p v b k = go (is_resetting p.phase) refl
       tells = λ r d. absurd (wanted_down q p.phase d);
     }
 
-same_up : (q : Bool) (p : Phase) → up p ≡ true → phase_settles q p ≡ p
-same_up q p e = grind arith
-
 comes_up : (q : Bool) (p : Phase) → up p ≡ false → up (phase_settles q p) ≡ true → p.owe ≡ true
 comes_up q p e u = grind arith
 
@@ -203,43 +194,15 @@ settles_spoken me n q p v b none calm k = record {
 
 -- ---- each call
 
-called_spoken : (me n : ℕ) (call : Call) (s : PeerState) (v : View) (b : SeenBooks) → Good s.peer.ends → ProperEnds s.peer.ends → Spoken me n s.peer v b → Spoken me n (called_for call s).peer v b
-called_spoken me n (Call.Reset peer) s v b g x k = reset_spoken me n (is_quiet s.slots) s.peer v b k
-called_spoken me n (Call.AskSend peer local remote size room) s v b g x k = calls_spoken me n (sockets local remote) (Ask_to_send size room) s.peer v b g x k
-called_spoken me n (Call.AskReceive peer local remote room) s v b g x k = calls_spoken me n (sockets local remote) (Ask_to_receive room) s.peer v b g x k
-called_spoken me n (Call.Give peer pair text) s v b g x k = calls_spoken me n pair (Give text) s.peer v b g x k
-called_spoken me n (Call.Take peer pair bytes) s v b g x k = calls_spoken me n pair (Take bytes) s.peer v b g x k
-called_spoken me n (Call.Allocate peer pair messages bits) s v b g x k = calls_spoken me n pair (Allocate messages bits) s.peer v b g x k
-called_spoken me n (Call.CallBack peer pair fm fb) s v b g x k = calls_spoken me n pair (Call_back fm fb) s.peer v b g x k
-called_spoken me n (Call.Interrupt peer pair) s v b g x k = calls_spoken me n pair Interrupt s.peer v b g x k
-called_spoken me n (Call.Echo peer byte) s v b g x k = echo_spoken me n byte s.peer v b k
-called_spoken me n (Call.Close peer pair) s v b g x k = calls_spoken me n pair Close s.peer v b g x k
-called_spoken me n (Call.Wake peer) s v b g x k = k
-called_spoken me n (Call.State peer pair) s v b g x k = k
-called_spoken me n (Call.Phase peer) s v b g x k = k
-called_spoken me n (Call.Echoed peer) s v b g x k = k
-called_spoken me n (Call.Errors peer) s v b g x k = k
-called_spoken me n (Call.Counts peer) s v b g x k = k
-called_spoken me n (Call.Waiting peer place) s v b g x k = k
-called_spoken me n (Call.Kept peer link) s v b g x k = k
-called_spoken me n Call.Ignored s v b g x k = k
+asked_spoken : (me n : ℕ) (o : Option (ℕ × Asked)) (s : PeerState) (v : View) (b : SeenBooks) → Good s.peer.ends → ProperEnds s.peer.ends → Spoken me n s.peer v b → Spoken me n (state_asked o s).peer v b
+asked_spoken me n None s v b g x k = k
+asked_spoken me n (Some (peer, Asks pair call)) s v b g x k = calls_spoken me n pair call s.peer v b g x k
+asked_spoken me n (Some (peer, Asks_echo byte)) s v b g x k = echo_spoken me n byte s.peer v b k
+asked_spoken me n (Some (peer, Asks_reset)) s v b g x k = reset_spoken me n (is_quiet s.slots) s.peer v b k
+asked_spoken me n (Some (peer, Asks_wake)) s v b g x k = k
 
 pub call_spoken : (me n : ℕ) (note : HostNote) (s : PeerState) (v : View) (b : SeenBooks) → is_of_call note ≡ true → Good s.peer.ends → ProperEnds s.peer.ends → Spoken me n s.peer v b → Spoken me n (note_for note s).peer v b
-call_spoken me n (HostNote.Refused call fault) s v b c g x k = k
-call_spoken me n (HostNote.Done call) s v b c g x k = called_spoken me n call s v b g x k
-call_spoken me n (HostNote.Took peer pair bytes text) s v b c g x k = calls_spoken me n pair (Take bytes) s.peer v b g x k
-call_spoken me n (HostNote.State peer pair r) s v b c g x k = k
-call_spoken me n (HostNote.Phase peer flags) s v b c g x k = k
-call_spoken me n (HostNote.Echoed peer byte) s v b c g x k = k
-call_spoken me n (HostNote.Errors peer errors) s v b c g x k = k
-call_spoken me n (HostNote.Counts peer counts) s v b c g x k = k
-call_spoken me n (HostNote.Waiting peer place command) s v b c g x k = k
-call_spoken me n (HostNote.Kept peer link message) s v b c g x k = k
-call_spoken me n (HostNote.Ignored ignored) s v b c g x k = k
-call_spoken me n (HostNote.Out message) s v b c g x k = absurd (cc c)
-call_spoken me n HostNote.Nothing s v b c g x k = absurd (cc c)
-call_spoken me n (HostNote.In message received) s v b c g x k = absurd (cc c)
-call_spoken me n (HostNote.Answered peer link how received) s v b c g x k = absurd (cc c)
+call_spoken me n note s v b c g x k = subst (λ (now : PeerState). Spoken me n now.peer v b) (note_asked note c s) (asked_spoken me n (asked_of_note note) s v b g x k)
 
 -- ---- where a link leads
 

@@ -28,16 +28,13 @@ use Rattle.ncp_umpire.specs.Texts.{books_after_text}
 use Rattle.ncp_umpire.specs.Talked.{reaches, after_talk, after_talked_text}
 use Rattle.ncp_proof_umpire.proofs.Phased.{Phased}
 use Rattle.ncp_proof_umpire.proofs.PhaseSteps.{Stands}
+use Rattle.ncp_proof_umpire.proofs.PhaseGoes.{rests_more}
 use Rattle.ncp_proof_umpire_talk.proofs.Spoken.{Tells, Clear, Spoken}
 use Rattle.ncp_proof_umpire_talk.proofs.Begun.{begins_tells, clear_cleared}
 use Rattle.ncp_proof_umpire_talk.proofs.MadeUp.{made_owed, owing, owing_same, down_owing, made_tells}
 
 pub clash : {A : Type 0} (b : Bool) → b ≡ true → b ≡ false → A
 clash b x y = let nay : true ≡ false = sym x ∙ y in absurd (cc nay)
-
-pub rests_before : (r x : Bool) → (r || x) ≡ false → r ≡ false
-rests_before true x e = absurd (cc e)
-rests_before false x e = refl
 
 -- ---- while a host settles, no other command waits
 
@@ -143,7 +140,7 @@ module _ (me n : ℕ) (busy : Option ℕ) (zero : Bool) (kept : List Kept) where
       v' = after_thing coming what v
 
       before : v'.rests ≡ false → v.rests ≡ false
-      before r = rests_before v.rests ((v.told && is_early coming what v) && not (awaits_reply v.host.wait)) r
+      before r = rests_more v.rests ((v.told && is_early coming what v) && not (awaits_reply v.host.wait)) r
 
       same : reaches coming what v ≡ false → Clear me n b → Clear me n (if reaches coming what v then after else b)
       same e c = subst (λ (x : Bool). Clear me n (if x then after else b)) (sym e) c

@@ -28,7 +28,7 @@ use Rattle.ncp_umpire.specs.Speaking.{command_rule, books_after_command, spoken_
 use Rattle.ncp_umpire.specs.Talked.{reaches, act_reaches, clears, talk_finding, number_findings, after_talk, after_talked, missing, tells_left_out, left_out_findings, after_left_out}
 use Rattle.ncp_umpire.proofs.Parted.{said_findings}
 use Rattle.ncp_proof_umpire.proofs.Phased.{Phased, Settled, Sees}
-use Rattle.ncp_proof_umpire.proofs.PhaseGoes.{all_went}
+use Rattle.ncp_proof_umpire.proofs.PhaseGoes.{all_went, rests_more}
 use Rattle.ncp_proof_umpire_talk.proofs.OnTime.{OnTime, on_time}
 use Rattle.ncp_proof_umpire_seen.proofs.Filtered.{none_of_none}
 use Rattle.ncp_proof_umpire_seen.proofs.TidyBooks.{Tidy, tidy_command, tidy_cleared}
@@ -36,7 +36,7 @@ use Rattle.ncp_proof_umpire_owes.proofs.AllGo.{room_before}
 use Rattle.ncp_proof_umpire_seen.proofs.Proper.{AllProper}
 use Rattle.ncp_proof_umpire_talk.proofs.Spoken.{Tells, Clear, Spoken}
 use Rattle.ncp_proof_umpire_talk.proofs.Begun.{clear_cleared, clear_reply, clear_cls, silent_tells}
-use Rattle.ncp_proof_umpire_talk.proofs.SpokenIn.{clash, rests_before}
+use Rattle.ncp_proof_umpire_talk.proofs.SpokenIn.{clash}
 
 -- these wait
 abbrev pub waited_by : List Command → Peer → Peer
@@ -169,7 +169,7 @@ module _ (me n : ℕ) (busy : Option ℕ) (zero : Bool) (kept : List Kept) where
       go false e = absurd (cc e)
 
   rrp_before : (v : View) → (after_reply_of_host going v).rests ≡ false → v.rests ≡ false
-  rrp_before v r = rests_before v.rests (is_some (unquiet_finding true going v)) (rests_before (v.rests || is_some (unquiet_finding true going v)) (not (awaits_reply v.peer.wait)) r)
+  rrp_before v r = rests_more v.rests (is_some (unquiet_finding true going v)) (rests_more (v.rests || is_some (unquiet_finding true going v)) (not (awaits_reply v.peer.wait)) r)
 
   rrp_told : (u : List Command) (p : Peer) (q : Bool) (v : View) (b : SeenBooks) → Phased (record p.phase { waiting = Command.Rrp ∷ u }) q v → Known me n (waited_by (Command.Rrp ∷ u) p) v b → Told Command.Rrp u p v b
   rrp_told u p q v b k s = record { none = refl; known = λ f. (spoken (s f).0, (s f).1) }
@@ -262,18 +262,7 @@ module _ (me n : ℕ) (busy : Option ℕ) (zero : Bool) (kept : List Kept) where
   down_clear Command.Rst u p q v b d k s r f =
       subst (Clear me n) (sym (rst_books v b k.told)) (rst_clear u p q v b k (ap (λ (x : View). x.rests) (sym (rst_view v k.told)) ∙ r))
   down_clear Command.Rrp u p q v b d k s r f = (s f).0.owed (rrp_before v (ap (λ (x : View). x.rests) (sym (rrp_view v k.told)) ∙ r)) (omega arith)
-  down_clear Command.Nop u p q v b d k s r f = let e = k.calm d in absurd (cc e)
-  down_clear (Command.Rts x y z) u p q v b d k s r f = let e = k.calm d in absurd (cc e)
-  down_clear (Command.Str x y z) u p q v b d k s r f = let e = k.calm d in absurd (cc e)
-  down_clear (Command.Cls x y) u p q v b d k s r f = let e = k.calm d in absurd (cc e)
-  down_clear (Command.All x y z) u p q v b d k s r f = let e = k.calm d in absurd (cc e)
-  down_clear (Command.Gvb x y z) u p q v b d k s r f = let e = k.calm d in absurd (cc e)
-  down_clear (Command.Ret x y z) u p q v b d k s r f = let e = k.calm d in absurd (cc e)
-  down_clear (Command.Inr x) u p q v b d k s r f = let e = k.calm d in absurd (cc e)
-  down_clear (Command.Ins x) u p q v b d k s r f = let e = k.calm d in absurd (cc e)
-  down_clear (Command.Eco x) u p q v b d k s r f = let e = k.calm d in absurd (cc e)
-  down_clear (Command.Erp x) u p q v b d k s r f = let e = k.calm d in absurd (cc e)
-  down_clear (Command.Err x y) u p q v b d k s r f = let e = k.calm d in absurd (cc e)
+  down_clear c u p q v b d k s r f = let e = k.calm d in absurd (cc e)
 
   -- ---- all commands of a message, before those that go on waiting
 

@@ -38,6 +38,7 @@ use Rattle.ncp_proof_umpire.proofs.ReadyPeers.{AllReady, ready_after, fits_in, f
 use Rattle.ncp_proof_umpire.proofs.PhaseWalk.{call_all, in_all, out_all, out_passes, seen_begins}
 use Rattle.ncp_proof_umpire.proofs.Talking.{empty_pass, message_talk}
 use Rattle.ncp_proof_umpire.proofs.Others.{Watched, Leaves, watched, other_leaves}
+use Rattle.ncp_proof_umpire.proofs.FileWalk.{no_more}
 use Rattle.ncp_proof_umpire_talk.proofs.Spoken.{Spoken}
 use Rattle.ncp_proof_umpire_owes.proofs.BooksRead.{Reads}
 use Rattle.ncp_proof_umpire_owes.proofs.BooksRecord.{record_reads, record_alike}
@@ -184,21 +185,6 @@ skip judged ns me h (one ∷ more) umpire x rest w e k = go (one.0 == me) refl (
     go false d later =
         subst (λ (b : Bool). Pass (spares judged me) (found b)) (sym d)
         (later (after_record umpire one.1 one.0 one.2) (own_elsewhere ns me h umpire one.0 one.1 one.2 d w) (sym (ap next d) ∙ e))
-
--- behind the last one
-no_more : (judged : Rule → Bool) (me : ℕ) (file : List (ℕ × Way × List Bool)) (umpire : Umpire) → at_interface me file ≡ [] → Pass (spares judged me) (found_at umpire me file)
-no_more judged me [] umpire e = refl
-no_more judged me (one ∷ more) umpire e = go (one.0 == me) refl (no_more judged me more (after_record umpire one.1 one.0 one.2))
-  where
-    next : Bool → List (Way × List Bool)
-    next b = if b then (one.1, one.2) ∷ at_interface me more else at_interface me more
-
-    found : Bool → List Finding
-    found b = (if b then record_findings umpire one.1 one.0 one.2 else []) ++ found_at (after_record umpire one.1 one.0 one.2) me more
-
-    go : (b : Bool) → (one.0 == me) ≡ b → (at_interface me more ≡ [] → Pass (spares judged me) (found_at (after_record umpire one.1 one.0 one.2) me more)) → Pass (spares judged me) (found_at umpire me (one ∷ more))
-    go true d later = let nay : (one.1, one.2) ∷ at_interface me more ≡ [] = sym (ap next d) ∙ e in absurd (cc nay)
-    go false d later = subst (λ (b : Bool). Pass (spares judged me) (found b)) (sym d) (later (sym (ap next d) ∙ e))
 
 -- ---- the walk
 

@@ -65,14 +65,14 @@ use Rattle.ncp_proof_umpire.proofs.PhaseLists.{itself}
 use Rattle.ncp_proof_umpire.proofs.Phased.{Sees}
 use Rattle.ncp_proof_umpire.proofs.PhaseSteps.{Stands}
 use Rattle.ncp_proof_umpire.proofs.PhaseSeen.{stands_quiet, quiet_zero, view_same, view_other}
-use Rattle.ncp_proof_umpire.proofs.PhaseWalk.{AllSeen, said_other, control_read, text_read, out_views, was_open, out_long, Goes, goes_on}
+use Rattle.ncp_proof_umpire.proofs.PhaseWalk.{AllSeen, said_other, control_read, text_read, out_views, was_open, out_long, Goes, goes_on, and_not}
 use Rattle.ncp_proof_umpire.proofs.Talking.{read_talk, message_talk}
+use Rattle.ncp_proof_umpire.proofs.PhaseGoes.{rests_more}
 use Rattle.ncp_proof_umpire_seen.proofs.TidyBooks.{Tidy, tidy_begins}
 use Rattle.ncp_proof_umpire_talk.proofs.Carries.{Carries, ShowsBusy}
 use Rattle.ncp_proof_umpire_talk.proofs.ShowsKept.{shows_busy}
 use Rattle.ncp_proof_umpire_talk.proofs.CarriesOn.{out_carries, carries_begins}
 use Rattle.ncp_proof_umpire_talk.proofs.Spoken.{Spoken}
-use Rattle.ncp_proof_umpire_talk.proofs.SpokenIn.{rests_before}
 use Rattle.ncp_proof_umpire_talk.proofs.SpokenOut.{Known}
 use Rattle.ncp_proof_umpire_talk.proofs.SpokenHost.{spoken_as}
 use Rattle.ncp_proof_umpire_owes.proofs.BooksRead.{Reads, said_reads, said_alikes}
@@ -160,7 +160,7 @@ peer_told ns me n h umpire message s is k small away p there follows ready seen 
     known1 : Known me n s.peer (view_in A.views me n) A.books
     known1 f =
         let z = known0 f in
-        (subst (λ (x : View). Spoken me n s.peer x A.books) (sym noted_view) (spoken_as me n s.peer v noted A.books (λ r. rests_before v.rests (changes_slot (slot_of_link (sees umpire me) me n on) (same_of (sees umpire me) me n on message)) r) refl z.0), z.1)
+        (subst (λ (x : View). Spoken me n s.peer x A.books) (sym noted_view) (spoken_as me n s.peer v noted A.books (λ r. rests_more v.rests (changes_slot (slot_of_link (sees umpire me) me n on) (same_of (sees umpire me) me n on message)) r) refl z.0), z.1)
 
     known2 : Known me n s.peer (view_of A me n) A.books
     known2 f = let z = known1 f in (spoken_as me n s.peer (view_in A.views me n) (view_of A me n) A.books (λ r. r) refl z.0, z.1)
@@ -265,11 +265,6 @@ none_left_out me busy talk kept room v b t =
     go true false e = refl
     go false false e = refl
 
-and_full : (b f : Bool) → f ≡ true → (b && not f) ≡ false
-and_full true true e = refl
-and_full false true e = refl
-and_full b false e = absurd (cc e)
-
 full_silent : (A : Umpire) (me n : ℕ) (fresh : Bool) (r : Result Message MessageFault) → A.full ≡ true → message_talk A me n me true fresh r ≡ []
 full_silent A me n fresh (Err fault) full = refl
 full_silent A me n fresh (Ok m) full = go fresh (judged_reading m)
@@ -287,7 +282,7 @@ full_silent A me n fresh (Ok m) full = go fresh (judged_reading m)
     v = view_of A me n
 
     told : v.told ≡ false
-    told = and_full (view_in A.views me n).told A.full full
+    told = and_not (view_in A.views me n).told A.full full
 
     k : AllSilent me busy talk A.kept items v A.books
     k = all_silent me busy talk A.kept items v A.books told

@@ -13,20 +13,19 @@ use Rattle.ncp_terms.specs.declared.answer.Answer.{Answer}
 use Rattle.ncp_terms.specs.declared.answer.Answer.TheVariants.{Rfnm, Incomplete, Dead}
 use Rattle.ncp_slot.specs.Slots.{slot_at, is_quiet}
 use Rattle.ncp_model.specs.Act.{answer}
-use Rattle.ncp_model.specs.Peers.{Peer, Ask_to_send, Ask_to_receive, Close, Give, Take, Allocate, Call_back, Interrupt}
+use Rattle.ncp_model.specs.Peers.{Peer}
 use Rattle.ncp_host.specs.PeerState.{PeerState, answer_comes}
 use Rattle.ncp_host.specs.Hearing.{rfnm, destination_dead, incomplete, message_after, answer_of}
 use Rattle.ncp_host.specs.Host.{Host, state_of, is_one_of}
 use Rattle.ncp_host.specs.Arrivals.{received_in}
 use Rattle.ncp_host.specs.Soundness.{IsSound}
-use Rattle.ncp_host.specs.Calls.{sockets}
 use Rattle.ncp_host.proofs.Sound.{sound-calls, sound-echo, sound-reset, sound-wakes, sound-bits}
-use Rattle.ncp_transcript.specs.declared.call.Call.{Call}
+use Rattle.ncp_transcript.specs.Asked.{Asked, Asks, Asks_echo, Asks_reset, Asks_wake}
 use Rattle.ncp_transcript.specs.declared.note.HostNote.{HostNote}
 use Rattle.ncp_transcript.specs.After.{after_note}
 use Rattle.ncp_transcript.specs.Noting.{answer_with, if_peer, note_as, note_of_bits}
 use Rattle.ncp_transcript.specs.Runs.{IsHostSaid}
-use Rattle.ncp_proof_runs.specs.Peers.{is_this_number, peer_of_leader, names, called_for, bits_for, note_for}
+use Rattle.ncp_proof_runs.specs.Peers.{is_this_number, peer_of_leader, names, state_asked, bits_for, note_for}
 use Rattle.ncp_proof_runs.proofs.States.{peer_there}
 use Rattle.ncp_proof_runs.proofs.HostRuns.{Holds}
 use Rattle.ncp_umpire.specs.declared.umpire.Umpire.{Umpire}
@@ -41,7 +40,7 @@ use Rattle.ncp_umpire.specs.Judged.{next_number, sees, view_of, knows_zero, with
 use Rattle.ncp_umpire.proofs.Following.{said_keeps, short_is, other_is, own_is, in_is, answer_is}
 use Rattle.ncp_proof_umpire.proofs.Leaders.{apart}
 use Rattle.ncp_proof_umpire.proofs.Linked.{Follows, coming_keeps, no_regular}
-use Rattle.ncp_proof_umpire.proofs.HostSlots.{is_of_call, was}
+use Rattle.ncp_proof_umpire.proofs.HostSlots.{is_of_call, asked_of_note, note_asked, was}
 use Rattle.ncp_proof_umpire.proofs.ReadyPeers.{AllReady}
 use Rattle.ncp_proof_umpire.proofs.Fine.{Fine}
 use Rattle.ncp_proof_umpire.proofs.Shown.{Shows}
@@ -54,7 +53,7 @@ use Rattle.ncp_proof_umpire_seen.proofs.TidyBooks.{Tidy}
 use Rattle.ncp_proof_umpire_talk.proofs.Carries.{Carries}
 use Rattle.ncp_proof_umpire_talk.proofs.ShowsKept.{shows_busy}
 use Rattle.ncp_proof_umpire_talk.proofs.Borne.{Borne}
-use Rattle.ncp_proof_umpire_talk.proofs.CarriesOn.{quiet_tells, called_carries, message_carries, answer_carries}
+use Rattle.ncp_proof_umpire_talk.proofs.CarriesOn.{quiet_tells, asked_carries, message_carries, answer_carries}
 use Rattle.ncp_proof_umpire_talk.proofs.Spoken.{Spoken}
 use Rattle.ncp_proof_umpire_talk.proofs.Begun.{alike_tells, alike_clear}
 use Rattle.ncp_proof_umpire_seen.proofs.Elsewhere.{Alike}
@@ -91,26 +90,12 @@ borne_of s k = record { proper = k.proper; sexes = k.sexes; busy = k.busy; leavi
 pub sound_of : (s : PeerState) (q : Bool) (v : View) → Carries s.peer s.slots → Stands s.peer q v → IsSound s
 sound_of s q v c k = record { ends = c.agree; down = k.down }
 
-called_sound : (call : Call) (s : PeerState) → IsSound s → IsSound (called_for call s)
-called_sound (Call.Reset peer) s k = sound-reset (is_quiet s.slots) s.peer s.slots k
-called_sound (Call.AskSend peer local remote size room) s k = sound-calls (sockets local remote) (Ask_to_send size room) s.peer s.slots k
-called_sound (Call.AskReceive peer local remote room) s k = sound-calls (sockets local remote) (Ask_to_receive room) s.peer s.slots k
-called_sound (Call.Give peer pair text) s k = sound-calls pair (Give text) s.peer s.slots k
-called_sound (Call.Take peer pair bytes) s k = sound-calls pair (Take bytes) s.peer s.slots k
-called_sound (Call.Allocate peer pair messages bits) s k = sound-calls pair (Allocate messages bits) s.peer s.slots k
-called_sound (Call.CallBack peer pair fm fb) s k = sound-calls pair (Call_back fm fb) s.peer s.slots k
-called_sound (Call.Interrupt peer pair) s k = sound-calls pair Interrupt s.peer s.slots k
-called_sound (Call.Echo peer byte) s k = sound-echo byte s.peer s.slots k
-called_sound (Call.Close peer pair) s k = sound-calls pair Close s.peer s.slots k
-called_sound (Call.Wake peer) s k = sound-wakes s k
-called_sound (Call.State peer pair) s k = k
-called_sound (Call.Phase peer) s k = k
-called_sound (Call.Echoed peer) s k = k
-called_sound (Call.Errors peer) s k = k
-called_sound (Call.Counts peer) s k = k
-called_sound (Call.Waiting peer place) s k = k
-called_sound (Call.Kept peer link) s k = k
-called_sound Call.Ignored s k = k
+asked_sound : (o : Option (ℕ × Asked)) (s : PeerState) → IsSound s → IsSound (state_asked o s)
+asked_sound None s k = k
+asked_sound (Some (peer, Asks pair call)) s k = sound-calls pair call s.peer s.slots k
+asked_sound (Some (peer, Asks_echo byte)) s k = sound-echo byte s.peer s.slots k
+asked_sound (Some (peer, Asks_reset)) s k = sound-reset (is_quiet s.slots) s.peer s.slots k
+asked_sound (Some (peer, Asks_wake)) s k = sound-wakes s k
 
 message_sound : (link : ℕ) (bits : List Bool) (s : PeerState) → IsSound s → IsSound (message_after link bits (message_in bits) s)
 message_sound link bits s k = sound-bits (record { flags = 0; kind = 0; host = 0; link = link; low = 0 }) bits s k
@@ -123,30 +108,9 @@ answer_sound link Dead s k = sound-bits (record { flags = 0; kind = destination_
 -- ---- calls
 
 call_carries : (note : HostNote) (s : PeerState) (v : View) → is_of_call note ≡ true → Fine s.peer → Seen s v → Carries s.peer s.slots → Carries (note_for note s).peer (note_for note s).slots
-call_carries note s v c fine o k = by note c
-  where
-    sound : IsSound s
-    sound = sound_of s (is_quiet s.slots) v k o.stands
-
-    called : (call : Call) → Carries (called_for call s).peer (called_for call s).slots
-    called call = called_carries call s fine.good.sound o.used (called_sound call s sound).ends k
-
-    by : (note : HostNote) → is_of_call note ≡ true → Carries (note_for note s).peer (note_for note s).slots
-    by (HostNote.Refused call fault) c = k
-    by (HostNote.Done call) c = called call
-    by (HostNote.Took peer pair bytes text) c = called (Call.Take peer pair bytes)
-    by (HostNote.State peer pair r) c = k
-    by (HostNote.Phase peer flags) c = k
-    by (HostNote.Echoed peer byte) c = k
-    by (HostNote.Errors peer errors) c = k
-    by (HostNote.Counts peer counts) c = k
-    by (HostNote.Waiting peer place command) c = k
-    by (HostNote.Kept peer link message) c = k
-    by (HostNote.Ignored ignored) c = k
-    by (HostNote.Out message) c = absurd (cc c)
-    by HostNote.Nothing c = absurd (cc c)
-    by (HostNote.In message received) c = absurd (cc c)
-    by (HostNote.Answered peer link how received) c = absurd (cc c)
+call_carries note s v c fine o k =
+    subst (λ (now : PeerState). Carries now.peer now.slots) (note_asked note c s)
+    (asked_carries (asked_of_note note) s fine.good.sound o.used (asked_sound (asked_of_note note) s (sound_of s (is_quiet s.slots) v k o.stands)).ends k)
 
 pub call_talks : (ns : List ℕ) (me : ℕ) (note : HostNote) (h : Host) (umpire : Umpire) → Holds ns h → IsHostSaid note h → is_of_call note ≡ true → AllReady h → AllSeen me h umpire → AllSpoken me h umpire → AllSpoken me (after_note note h) umpire
 call_talks ns me note h umpire k p c ready seen all = record {

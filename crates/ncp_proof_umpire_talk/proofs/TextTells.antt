@@ -10,7 +10,7 @@ use Rattle.ncp_model.specs.Pairs.{sends}
 use Rattle.ncp_model.specs.End.{End}
 use Rattle.ncp_model.specs.Ends.{Ends, sender_on, pair_of, map_after, map_after_at, cut_at, cut_in}
 use Rattle.ncp_model.specs.Act.{Stays, answer, end_after}
-use Rattle.ncp_model.specs.Texts.{bytes_to_send, may_send, cut_bits, cut}
+use Rattle.ncp_model.specs.Texts.{bytes_to_send, can_send, cut_bits, cut}
 use Rattle.ncp_model.specs.Happenings.{Happening, happens}
 use Rattle.ncp_model.proofs.EndsAfter.{after-at, after-elsewhere}
 use Rattle.ncp_proof_machine.proofs.EndsGood.{Good}
@@ -40,7 +40,7 @@ record CutOf (on : ℕ) (m : Ends) (t : ℕ × List Bool) : Type 0 where
   pub pair : Pair
   pub e : End
   pub led : sender_on on m ≡ Some (pair, e)
-  pub may : may_send pair e ≡ true
+  pub may : can_send pair e ≡ true
   pub size : t.0 ≡ e.size
   pub text : t.1 ≡ take (bytes_to_send e * e.size) e.stored
 
@@ -49,9 +49,9 @@ cut_of on m t a = go (sender_on on m) refl a
   where
     go : (o : Option (Pair × End)) → sender_on on m ≡ o → answer (cut_at o) ≡ Some t → CutOf on m t
     go None l a = absurd (cc a)
-    go (Some (pair, e)) l a = by (may_send pair e) refl a
+    go (Some (pair, e)) l a = by (can_send pair e) refl a
       where
-        by : (x : Bool) → may_send pair e ≡ x → answer (if x then cut_bits (bytes_to_send e * e.size) e else Stays None) ≡ Some t → CutOf on m t
+        by : (x : Bool) → can_send pair e ≡ x → answer (if x then cut_bits (bytes_to_send e * e.size) e else Stays None) ≡ Some t → CutOf on m t
         by false k a = absurd (cc a)
         by true k a =
             let is : (e.size, take (bytes_to_send e * e.size) e.stored) ≡ t = cc a in
