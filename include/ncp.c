@@ -2,6 +2,20 @@
  * include/library joins both in one archive, out of which no name of the library is seen. */
 #include "ncp.h"
 
+/* The structs that the library alone takes: which connection is meant, and which link from one host to another. They have the fields
+ * of the `repr(C)` structs of the library that are named as they are, in their order and of their types: include/compare looks. */
+struct which {
+    uint8_t peer;
+    uint32_t local;
+    uint32_t remote;
+};
+
+struct lane {
+    uint8_t from;
+    uint8_t to;
+    uint8_t link;
+};
+
 /* The functions of the library, in the sources of crates/ncp_embed. No pointer of theirs may be null. A `handle` whose
  * `at` is null has no host, and is answered NCP_NO_HOST by these too, behind what they say of bits and buffers; so a `net`
  * NCP_NO_SUBNET. */
@@ -13,24 +27,24 @@ void ncp_embed_free(struct ncp_host *handle);
 uint32_t ncp_embed_receive(struct ncp_host *handle, const uint8_t *bytes, size_t bytes_len, size_t bits, struct ncp_arrived *arrived);
 uint32_t ncp_embed_next_output(struct ncp_host *handle, uint8_t *out, size_t out_len, size_t *bits);
 uint32_t ncp_embed_reset(struct ncp_host *handle, uint8_t peer);
-uint32_t ncp_embed_ask_send(struct ncp_host *handle, uint8_t peer, uint32_t local, uint32_t remote, uint8_t size, uint32_t room);
-uint32_t ncp_embed_ask_receive(struct ncp_host *handle, uint8_t peer, uint32_t local, uint32_t remote, uint32_t room);
-uint32_t ncp_embed_give(struct ncp_host *handle, uint8_t peer, uint32_t local, uint32_t remote, const uint8_t *bytes, size_t bytes_len, size_t bits);
-uint32_t ncp_embed_take(struct ncp_host *handle, uint8_t peer, uint32_t local, uint32_t remote, uint32_t bytes, uint8_t *out, size_t out_len, size_t *bits);
-uint32_t ncp_embed_allocate(struct ncp_host *handle, uint8_t peer, uint32_t local, uint32_t remote, uint16_t messages, uint32_t bits);
-uint32_t ncp_embed_call_back(struct ncp_host *handle, uint8_t peer, uint32_t local, uint32_t remote, uint8_t fm, uint8_t fb);
-uint32_t ncp_embed_interrupt(struct ncp_host *handle, uint8_t peer, uint32_t local, uint32_t remote);
-uint32_t ncp_embed_close(struct ncp_host *handle, uint8_t peer, uint32_t local, uint32_t remote);
+uint32_t ncp_embed_ask_send(struct ncp_host *handle, const struct which *which, uint8_t size, uint32_t room);
+uint32_t ncp_embed_ask_receive(struct ncp_host *handle, const struct which *which, uint32_t room);
+uint32_t ncp_embed_give(struct ncp_host *handle, const struct which *which, const uint8_t *bytes, size_t bytes_len, size_t bits);
+uint32_t ncp_embed_take(struct ncp_host *handle, const struct which *which, uint32_t bytes, uint8_t *out, size_t out_len, size_t *bits);
+uint32_t ncp_embed_allocate(struct ncp_host *handle, const struct which *which, uint16_t messages, uint32_t bits);
+uint32_t ncp_embed_call_back(struct ncp_host *handle, const struct which *which, uint8_t fm, uint8_t fb);
+uint32_t ncp_embed_interrupt(struct ncp_host *handle, const struct which *which);
+uint32_t ncp_embed_close(struct ncp_host *handle, const struct which *which);
 uint32_t ncp_embed_echo(struct ncp_host *handle, uint8_t peer, uint8_t byte);
 uint32_t ncp_embed_wake(struct ncp_host *handle, uint8_t peer);
 uint32_t ncp_embed_restart(struct ncp_host *handle, uint8_t peer);
-uint32_t ncp_embed_state(struct ncp_host *handle, uint8_t peer, uint32_t local, uint32_t remote, struct ncp_connection *out);
-uint32_t ncp_embed_changes(struct ncp_host *handle, uint8_t peer, uint32_t local, uint32_t remote, struct ncp_connection *seen, struct ncp_changes *out);
-uint32_t ncp_embed_connection_at(struct ncp_host *handle, uint8_t peer, uint32_t place, uint32_t *local, uint32_t *remote, struct ncp_connection *out);
-uint32_t ncp_embed_room(struct ncp_host *handle, uint8_t peer, uint32_t local, uint32_t remote, uint32_t *bits);
-uint32_t ncp_embed_pair_on(struct ncp_host *handle, uint8_t peer, bool sends, uint8_t link, uint32_t *local, uint32_t *remote);
+uint32_t ncp_embed_state(struct ncp_host *handle, const struct which *which, struct ncp_connection *out);
+uint32_t ncp_embed_changes(struct ncp_host *handle, const struct which *which, struct ncp_connection *seen, struct ncp_changes *out);
+uint32_t ncp_embed_connection_at(struct ncp_host *handle, uint32_t place, struct which *which, struct ncp_connection *out);
+uint32_t ncp_embed_room(struct ncp_host *handle, const struct which *which, uint32_t *bits);
+uint32_t ncp_embed_pair_on(struct ncp_host *handle, bool sends, uint8_t link, struct which *which);
 bool ncp_embed_is_held(struct ncp_host *handle, uint8_t peer, uint8_t link);
-bool ncp_embed_is_open(struct ncp_host *handle, uint8_t peer, uint32_t local, uint32_t remote);
+bool ncp_embed_is_open(struct ncp_host *handle, const struct which *which);
 bool ncp_embed_is_up(struct ncp_host *handle, uint8_t peer);
 uint32_t ncp_embed_phase(struct ncp_host *handle, uint8_t peer, struct ncp_flags *out);
 uint32_t ncp_embed_echoed(struct ncp_host *handle, uint8_t peer, uint8_t *byte);
@@ -43,11 +57,20 @@ uint32_t ncp_embed_command(const uint8_t *bytes, size_t bytes_len, size_t bits, 
 uint32_t ncp_embed_subnet_new(struct ncp_subnet *net, const uint8_t *hosts, size_t hosts_len);
 void ncp_embed_subnet_free(struct ncp_subnet *net);
 uint32_t ncp_embed_subnet_accept(struct ncp_subnet *net, uint8_t from, const uint8_t *bytes, size_t bytes_len, size_t bits);
-uint32_t ncp_embed_subnet_deliver(struct ncp_subnet *net, uint8_t from, uint8_t to, uint8_t link, uint8_t *out, size_t out_len, size_t *bits);
-uint32_t ncp_embed_subnet_lose(struct ncp_subnet *net, uint8_t from, uint8_t to, uint8_t link);
-uint32_t ncp_embed_subnet_dead(struct ncp_subnet *net, uint8_t from, uint8_t to, uint8_t link);
-uint32_t ncp_embed_subnet_answer(struct ncp_subnet *net, uint8_t from, uint8_t to, uint8_t link, uint8_t *out, size_t out_len, size_t *bits);
+uint32_t ncp_embed_subnet_deliver(struct ncp_subnet *net, const struct lane *lane, uint8_t *out, size_t out_len, size_t *bits);
+uint32_t ncp_embed_subnet_lose(struct ncp_subnet *net, const struct lane *lane);
+uint32_t ncp_embed_subnet_dead(struct ncp_subnet *net, const struct lane *lane);
+uint32_t ncp_embed_subnet_answer(struct ncp_subnet *net, const struct lane *lane, uint8_t *out, size_t out_len, size_t *bits);
 uint32_t ncp_embed_name(uint32_t code, uint8_t *out, size_t out_len, size_t *bytes);
+
+/* What was answered, with the sockets of the connection that was found, if one was. */
+static uint32_t told(uint32_t code, const struct which *found, uint32_t *local, uint32_t *remote)
+{
+    if (code != NCP_DONE) return code;
+    *local = found->local;
+    *remote = found->remote;
+    return NCP_DONE;
+}
 
 bool ncp_is_made(const struct ncp_host *host)
 {
@@ -111,51 +134,51 @@ uint32_t ncp_reset(struct ncp_host *host, uint8_t peer)
 uint32_t ncp_ask_send(struct ncp_host *host, uint8_t peer, uint32_t local, uint32_t remote, uint8_t size, uint32_t room)
 {
     if (!ncp_is_made(host)) return NCP_NO_HOST;
-    return ncp_embed_ask_send(host, peer, local, remote, size, room);
+    return ncp_embed_ask_send(host, &(struct which){peer, local, remote}, size, room);
 }
 
 uint32_t ncp_ask_receive(struct ncp_host *host, uint8_t peer, uint32_t local, uint32_t remote, uint32_t room)
 {
     if (!ncp_is_made(host)) return NCP_NO_HOST;
-    return ncp_embed_ask_receive(host, peer, local, remote, room);
+    return ncp_embed_ask_receive(host, &(struct which){peer, local, remote}, room);
 }
 
 uint32_t ncp_give(struct ncp_host *host, uint8_t peer, uint32_t local, uint32_t remote, const uint8_t *bytes, size_t len, size_t bits)
 {
     if (!ncp_is_made(host)) return NCP_NO_HOST;
     if (bytes == NULL) return NCP_NO_POINTER;
-    return ncp_embed_give(host, peer, local, remote, bytes, len, bits);
+    return ncp_embed_give(host, &(struct which){peer, local, remote}, bytes, len, bits);
 }
 
 uint32_t ncp_take(struct ncp_host *host, uint8_t peer, uint32_t local, uint32_t remote, uint32_t bytes, uint8_t *out, size_t len, size_t *bits)
 {
     if (!ncp_is_made(host)) return NCP_NO_HOST;
     if (out == NULL || bits == NULL) return NCP_NO_POINTER;
-    return ncp_embed_take(host, peer, local, remote, bytes, out, len, bits);
+    return ncp_embed_take(host, &(struct which){peer, local, remote}, bytes, out, len, bits);
 }
 
 uint32_t ncp_allocate(struct ncp_host *host, uint8_t peer, uint32_t local, uint32_t remote, uint16_t messages, uint32_t bits)
 {
     if (!ncp_is_made(host)) return NCP_NO_HOST;
-    return ncp_embed_allocate(host, peer, local, remote, messages, bits);
+    return ncp_embed_allocate(host, &(struct which){peer, local, remote}, messages, bits);
 }
 
 uint32_t ncp_call_back(struct ncp_host *host, uint8_t peer, uint32_t local, uint32_t remote, uint8_t fm, uint8_t fb)
 {
     if (!ncp_is_made(host)) return NCP_NO_HOST;
-    return ncp_embed_call_back(host, peer, local, remote, fm, fb);
+    return ncp_embed_call_back(host, &(struct which){peer, local, remote}, fm, fb);
 }
 
 uint32_t ncp_interrupt(struct ncp_host *host, uint8_t peer, uint32_t local, uint32_t remote)
 {
     if (!ncp_is_made(host)) return NCP_NO_HOST;
-    return ncp_embed_interrupt(host, peer, local, remote);
+    return ncp_embed_interrupt(host, &(struct which){peer, local, remote});
 }
 
 uint32_t ncp_close(struct ncp_host *host, uint8_t peer, uint32_t local, uint32_t remote)
 {
     if (!ncp_is_made(host)) return NCP_NO_HOST;
-    return ncp_embed_close(host, peer, local, remote);
+    return ncp_embed_close(host, &(struct which){peer, local, remote});
 }
 
 uint32_t ncp_echo(struct ncp_host *host, uint8_t peer, uint8_t byte)
@@ -180,35 +203,37 @@ uint32_t ncp_state(struct ncp_host *host, uint8_t peer, uint32_t local, uint32_t
 {
     if (!ncp_is_made(host)) return NCP_NO_HOST;
     if (out == NULL) return NCP_NO_POINTER;
-    return ncp_embed_state(host, peer, local, remote, out);
+    return ncp_embed_state(host, &(struct which){peer, local, remote}, out);
 }
 
 uint32_t ncp_changes(struct ncp_host *host, uint8_t peer, uint32_t local, uint32_t remote, struct ncp_connection *seen, struct ncp_changes *out)
 {
     if (!ncp_is_made(host)) return NCP_NO_HOST;
     if (seen == NULL || out == NULL) return NCP_NO_POINTER;
-    return ncp_embed_changes(host, peer, local, remote, seen, out);
+    return ncp_embed_changes(host, &(struct which){peer, local, remote}, seen, out);
 }
 
 uint32_t ncp_connection_at(struct ncp_host *host, uint8_t peer, uint32_t place, uint32_t *local, uint32_t *remote, struct ncp_connection *out)
 {
+    struct which found = {peer, 0, 0};
     if (!ncp_is_made(host)) return NCP_NO_HOST;
     if (local == NULL || remote == NULL || out == NULL) return NCP_NO_POINTER;
-    return ncp_embed_connection_at(host, peer, place, local, remote, out);
+    return told(ncp_embed_connection_at(host, place, &found, out), &found, local, remote);
 }
 
 uint32_t ncp_room(struct ncp_host *host, uint8_t peer, uint32_t local, uint32_t remote, uint32_t *bits)
 {
     if (!ncp_is_made(host)) return NCP_NO_HOST;
     if (bits == NULL) return NCP_NO_POINTER;
-    return ncp_embed_room(host, peer, local, remote, bits);
+    return ncp_embed_room(host, &(struct which){peer, local, remote}, bits);
 }
 
 uint32_t ncp_pair_on(struct ncp_host *host, uint8_t peer, bool sends, uint8_t link, uint32_t *local, uint32_t *remote)
 {
+    struct which found = {peer, 0, 0};
     if (!ncp_is_made(host)) return NCP_NO_HOST;
     if (local == NULL || remote == NULL) return NCP_NO_POINTER;
-    return ncp_embed_pair_on(host, peer, sends, link, local, remote);
+    return told(ncp_embed_pair_on(host, sends, link, &found), &found, local, remote);
 }
 
 bool ncp_is_held(struct ncp_host *host, uint8_t peer, uint8_t link)
@@ -218,7 +243,7 @@ bool ncp_is_held(struct ncp_host *host, uint8_t peer, uint8_t link)
 
 bool ncp_is_open(struct ncp_host *host, uint8_t peer, uint32_t local, uint32_t remote)
 {
-    return ncp_is_made(host) && ncp_embed_is_open(host, peer, local, remote);
+    return ncp_is_made(host) && ncp_embed_is_open(host, &(struct which){peer, local, remote});
 }
 
 uint32_t ncp_phase(struct ncp_host *host, uint8_t peer, struct ncp_flags *out)
@@ -309,26 +334,26 @@ uint32_t ncp_subnet_deliver(struct ncp_subnet *subnet, uint8_t from, uint8_t to,
 {
     if (!has_subnet(subnet)) return NCP_NO_SUBNET;
     if (out == NULL || bits == NULL) return NCP_NO_POINTER;
-    return ncp_embed_subnet_deliver(subnet, from, to, link, out, len, bits);
+    return ncp_embed_subnet_deliver(subnet, &(struct lane){from, to, link}, out, len, bits);
 }
 
 uint32_t ncp_subnet_lose(struct ncp_subnet *subnet, uint8_t from, uint8_t to, uint8_t link)
 {
     if (!has_subnet(subnet)) return NCP_NO_SUBNET;
-    return ncp_embed_subnet_lose(subnet, from, to, link);
+    return ncp_embed_subnet_lose(subnet, &(struct lane){from, to, link});
 }
 
 uint32_t ncp_subnet_dead(struct ncp_subnet *subnet, uint8_t from, uint8_t to, uint8_t link)
 {
     if (!has_subnet(subnet)) return NCP_NO_SUBNET;
-    return ncp_embed_subnet_dead(subnet, from, to, link);
+    return ncp_embed_subnet_dead(subnet, &(struct lane){from, to, link});
 }
 
 uint32_t ncp_subnet_answer(struct ncp_subnet *subnet, uint8_t from, uint8_t to, uint8_t link, uint8_t *out, size_t len, size_t *bits)
 {
     if (!has_subnet(subnet)) return NCP_NO_SUBNET;
     if (out == NULL || bits == NULL) return NCP_NO_POINTER;
-    return ncp_embed_subnet_answer(subnet, from, to, link, out, len, bits);
+    return ncp_embed_subnet_answer(subnet, &(struct lane){from, to, link}, out, len, bits);
 }
 
 uint32_t ncp_name(uint32_t code, char *out, size_t len, size_t *bytes)

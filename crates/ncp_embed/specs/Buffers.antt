@@ -3,7 +3,6 @@
 use Rattle.std.specs.Prelude.{◌≡◌, ℕ, Bool, List, length, Option, None, Some, Result, Ok, Err}
 use Rattle.ncp_terms.specs.declared.command.Command.{Command}
 use Rattle.ncp_terms.specs.declared.command.TheConstants.{LONGEST_COMMAND}
-use Rattle.ncp_model.specs.declared.pair.Pair.{Pair}
 use Rattle.ncp_model.specs.declared.call_fault.CallFault.{CallFault}
 use Rattle.ncp_model.specs.Peers.{Take}
 use Rattle.ncp_host.specs.Host.{Host, state_of}
@@ -14,6 +13,8 @@ use Rattle.ncp_subnet.specs.Subnet.{Subnet}
 use Rattle.ncp_embed.specs.declared.handle.held.Held.{Held}
 use Rattle.ncp_embed.specs.declared.net.carried.Carried.{Carried}
 use Rattle.ncp_embed.specs.declared.codes.TheConstants.{LONGEST_MESSAGE, SHORT_BUFFER}
+use Rattle.ncp_embed.specs.declared.connection.Which.{Which}
+use Rattle.ncp_embed.specs.Which.{of_which}
 use Rattle.ncp_embed.specs.Connected.{host_called}
 use Rattle.ncp_embed.specs.Exports.{held, code_in, host_changed_in, any_of, with_room, over, bytes_saved, message_over, size_of_message, command_over, size_of_command}
 use Rattle.ncp_embed.specs.SubnetExports.{changed_in}
@@ -67,18 +68,18 @@ abbrev pub FirstIsReady : Option Held → Type 0
 FirstIsReady at = (h : Host) → at ≡ Some (held h) → IsNext (next_output h) h.peers
 
 -- a call that takes text: its code, the host after it, and the text, if it is not refused
-abbrev pub code_of_take : ℕ → Pair → ℕ → List ℕ → Option Held → ℕ
-code_of_take peer pair bytes out at = message_code out (code_in (take_reply peer pair bytes) at)
+abbrev pub code_of_take : Which → ℕ → List ℕ → Option Held → ℕ
+code_of_take which bytes out at = message_code out (code_in (of_which take_reply which bytes) at)
 
-abbrev pub host_after_take : ℕ → Pair → ℕ → List ℕ → Option Held → Option Held
-host_after_take peer pair bytes out at = with_room LONGEST_MESSAGE out at (host_called peer pair (Take bytes) at)
+abbrev pub host_after_take : Which → ℕ → List ℕ → Option Held → Option Held
+host_after_take which bytes out at = with_room LONGEST_MESSAGE out at (host_called which (Take bytes) at)
 
 abbrev pub answer_if_ok : {A : Type 0} → Result A CallFault → Option A
 answer_if_ok (Ok answer) = Some answer
 answer_if_ok (Err fault) = None
 
-abbrev pub taken_text : ℕ → Pair → ℕ → Option Held → Option (List Bool)
-taken_text peer pair bytes at = found_in_host (λ h. answer_if_ok (take_reply peer pair bytes h)) at
+abbrev pub taken_text : Which → ℕ → Option Held → Option (List Bool)
+taken_text which bytes at = found_in_host (λ h. answer_if_ok (of_which take_reply which bytes h)) at
 
 -- a host as bytes, of whatever length
 abbrev pub saved_over : Option Held → List ℕ → List ℕ

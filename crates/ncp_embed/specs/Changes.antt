@@ -1,15 +1,16 @@
 -- What changed of a connection since it was looked at, by two readings: what was seen then, and what is there now. Where there was
 -- none, all of what was seen is 0 and false. (NIC 8246, establishment, allocation, interrupts, closing.)
-use Rattle.std.specs.Prelude.{ℕ, Bool, false, not, ◌&&◌, ◌||◌, nat_lt, if◌then◌else◌, Option, None, Some, Result, Ok, Err}
+use Rattle.std.specs.Prelude.{Bool, false, not, ◌&&◌, ◌||◌, nat_lt, if◌then◌else◌, Option, None, Some, Result, Ok, Err}
 use Rattle.ncp_conn.specs.declared.record.Record.{Record}
-use Rattle.ncp_model.specs.declared.pair.Pair.{Pair}
 use Rattle.ncp_model.specs.declared.call_fault.CallFault.{CallFault}
 use Rattle.ncp_model.specs.declared.call_fault.CallFault.TheVariants.{NoEntry}
 use Rattle.ncp_host.specs.Host.{Host}
 use Rattle.ncp_host.specs.Calls.{record_told}
 use Rattle.ncp_embed.specs.declared.changes.Changes.{Changes}
 use Rattle.ncp_embed.specs.declared.connection.Connection.{Connection}
+use Rattle.ncp_embed.specs.declared.connection.Which.{Which}
 use Rattle.ncp_embed.specs.Told.{connection_of}
+use Rattle.ncp_embed.specs.Which.{of_which}
 
 abbrev pub no_connection : Connection
 no_connection = record {
@@ -111,5 +112,5 @@ connection_read (Ok r) = Ok (Some (connection_of r))
 connection_read (Err NoEntry) = Ok None
 connection_read (Err fault) = Err fault
 
-abbrev pub reading_told : ℕ → Pair → Host → Result (Option Connection) CallFault
-reading_told number pair h = connection_read (record_told number pair h)
+abbrev pub reading_told : Which → Host → Result (Option Connection) CallFault
+reading_told which h = connection_read (of_which record_told which h)

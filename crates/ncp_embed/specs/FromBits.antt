@@ -8,11 +8,11 @@ use Rattle.ncp_terms.specs.declared.command.Command.{Command}
 use Rattle.ncp_terms.specs.declared.fault.CommandFault.{CommandFault}
 use Rattle.ncp_control.specs.Texts.{items_of}
 use Rattle.ncp_control.specs.Reading.{commands_in, fault_in}
-use Rattle.ncp_model.specs.declared.pair.Pair.{Pair}
 use Rattle.ncp_model.specs.Peers.{Give}
 use Rattle.ncp_host.specs.Arrivals.{after_received}
 use Rattle.ncp_embed.specs.declared.handle.held.Held.{Held}
 use Rattle.ncp_embed.specs.declared.told.Arrived.{Arrived}
+use Rattle.ncp_embed.specs.declared.connection.Which.{Which}
 use Rattle.ncp_embed.specs.Commands.{command_of_message}
 use Rattle.ncp_embed.specs.Connected.{code_of_call, host_called}
 use Rattle.ncp_embed.specs.Exports.{host_changed_in, code_of_bits, after_bits_read, code_if_any, arrived_in}
@@ -28,11 +28,11 @@ arrived_from_bits read at out = after_bits_read read (λ came. arrived_in came a
 
 -- they are given to the connection between two sockets
 
-abbrev pub code_of_give : ℕ → Pair → List ℕ → ℕ → Option Held → ℕ
-code_of_give peer pair bytes bits at = code_of_bits (read_bytes bytes bits) (λ text. code_of_call peer pair (Give text) at)
+abbrev pub code_of_give : Which → List ℕ → ℕ → Option Held → ℕ
+code_of_give which bytes bits at = code_of_bits (read_bytes bytes bits) (λ text. code_of_call which (Give text) at)
 
-abbrev pub host_after_give : ℕ → Pair → List ℕ → ℕ → Option Held → Option Held
-host_after_give peer pair bytes bits at = after_bits_read (read_bytes bytes bits) (λ text. host_called peer pair (Give text) at) at
+abbrev pub host_after_give : Which → List ℕ → ℕ → Option Held → Option Held
+host_after_give which bytes bits at = after_bits_read (read_bytes bytes bits) (λ text. host_called which (Give text) at) at
 
 -- they are a message of which the command at a place is read
 

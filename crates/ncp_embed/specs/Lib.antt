@@ -6,6 +6,7 @@ pub mod Told
 pub mod Exports
 pub mod SubnetExports
 pub mod Names
+pub mod Which
 pub mod Changes
 pub mod Connected
 pub mod Buffers

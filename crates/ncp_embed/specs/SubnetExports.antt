@@ -7,9 +7,11 @@ use Rattle.ncp_bits.specs.Reasons.{IsFirst, NoneHolds}
 use Rattle.ncp_subnet.specs.declared.fault.SubnetFault.{SubnetFault}
 use Rattle.ncp_subnet.specs.declared.transit.Transit.TheVariants as transit
 use Rattle.ncp_subnet.specs.Messages.{host_in, link_in, arriving, answer_about}
+use Rattle.ncp_subnet.specs.Ways.{OnLink}
 use Rattle.ncp_subnet.specs.Transit.{is_accepted}
 use Rattle.ncp_subnet.specs.Subnet.{Subnet, transit_at, with_transit, Refuses, refusals}
 use Rattle.ncp_embed.specs.declared.net.carried.Carried.{Carried}
+use Rattle.ncp_embed.specs.declared.subnet.Lane.{Lane}
 use Rattle.ncp_embed.specs.declared.codes.TheConstants.{DONE, NO_SUBNET, NOTHING}
 use Rattle.ncp_embed.specs.Codes.{bits_code, subnet_code}
 use Rattle.ncp_embed.specs.Exports.{code_if_any}
@@ -29,28 +31,35 @@ Accepts (Err fault) from before now code = (code ≡ bits_code fault) × (now �
 Accepts (Ok came) from None now code = (code ≡ NO_SUBNET) × (now ≡ None)
 Accepts (Ok came) from (Some at) now code = AcceptsIn came from at.subnet now code
 
+-- what there is on a link from one host to another, and the subnet with something else there
+abbrev pub on_lane : Lane → Subnet → OnLink
+on_lane lane s = transit_at s lane.from lane.to lane.link
+
+abbrev pub with_lane : Lane → OnLink → Subnet → Subnet
+with_lane lane now s = with_transit s lane.from lane.to lane.link now
+
 -- What comes of a message, and what is answered about it.
 
-abbrev pub coming_in : ℕ → ℕ → ℕ → Subnet → Option (List Bool)
-coming_in from to link s = arriving from (transit_at s from to link)
+abbrev pub coming_in : Lane → Subnet → Option (List Bool)
+coming_in lane s = arriving lane.from (on_lane lane s)
 
-abbrev pub after_coming : ℕ → ℕ → ℕ → Subnet → Subnet
-after_coming from to link s = option_map_or (λ _. with_transit s from to link transit.Delivered) (coming_in from to link s) s
+abbrev pub after_coming : Lane → Subnet → Subnet
+after_coming lane s = option_map_or (λ _. with_lane lane transit.Delivered s) (coming_in lane s) s
 
-abbrev pub answer_in_transit : ℕ → ℕ → ℕ → Subnet → Option (List Bool)
-answer_in_transit from to link s = answer_about to link (transit_at s from to link)
+abbrev pub answer_in_transit : Lane → Subnet → Option (List Bool)
+answer_in_transit lane s = answer_about lane.to lane.link (on_lane lane s)
 
-abbrev pub subnet_after_answer : ℕ → ℕ → ℕ → Subnet → Subnet
-subnet_after_answer from to link s = option_map_or (λ _. with_transit s from to link transit.Free) (answer_in_transit from to link s) s
+abbrev pub subnet_after_answer : Lane → Subnet → Subnet
+subnet_after_answer lane s = option_map_or (λ _. with_lane lane transit.Free s) (answer_in_transit lane s) s
 
-abbrev pub is_under_way : ℕ → ℕ → ℕ → Subnet → Bool
-is_under_way from to link s = is_accepted (transit_at s from to link)
+abbrev pub is_under_way : Lane → Subnet → Bool
+is_under_way lane s = is_accepted (on_lane lane s)
 
-abbrev pub after_loss : ℕ → ℕ → ℕ → Subnet → Subnet
-after_loss from to link s = if is_under_way from to link s then with_transit s from to link transit.Lost else s
+abbrev pub after_loss : Lane → Subnet → Subnet
+after_loss lane s = if is_under_way lane s then with_lane lane transit.Lost s else s
 
-abbrev pub after_death : ℕ → ℕ → ℕ → Subnet → Subnet
-after_death from to link s = if is_under_way from to link s then with_transit s from to link transit.Dead else s
+abbrev pub after_death : Lane → Subnet → Subnet
+after_death lane s = if is_under_way lane s then with_lane lane transit.Dead s else s
 
 -- The same of a net: its code, and the subnet after it.
 

@@ -2,10 +2,10 @@
 //! or the number of the refusal.
 ghost use Rattle.std.specs.Prelude.{◌≡◌, ◌≢◌};
 ghost use Rattle.ncp_model.specs.Peers.{Ask_to_send, Ask_to_receive};
-ghost use Rattle.ncp_host.specs.Calls.{sockets};
 ghost use Rattle.ncp_embed.specs.Connected.{Tries};
 
 use crate::codes::{DONE, NO_HOST, code_of};
+use crate::connection::Which;
 use crate::handle::{Handle, put, take};
 use std::alloc::Global;
 
@@ -14,19 +14,19 @@ use std::alloc::Global;
 pub extern "C" fn ncp_embed_ask_send(
     alloc: Global,
     handle: &mut Handle,
-    peer: u8,
-    local: u32,
-    remote: u32,
+    which: &Which,
     size: u8,
     room: u32,
 ) -> u32
-    ensures done { Tries peer (sockets local remote) (Ask_to_send size room) result handle.old.host handle.new.host }
+    ensures done { Tries which.now (Ask_to_send size room) result handle.old.host handle.new.host }
     ensures err { result ≢ DONE → handle.new.host ≡ handle.old.host }
 {
     let Some(mut held) = take(alloc, handle) else {
         return NO_HOST;
     };
-    let answer = held.host.ask_send(peer, local, remote, size, room);
+    let answer = held
+        .host
+        .ask_send(which.peer, which.local, which.remote, size, room);
     put(handle, held);
     code_of(answer)
 }
@@ -36,18 +36,18 @@ pub extern "C" fn ncp_embed_ask_send(
 pub extern "C" fn ncp_embed_ask_receive(
     alloc: Global,
     handle: &mut Handle,
-    peer: u8,
-    local: u32,
-    remote: u32,
+    which: &Which,
     room: u32,
 ) -> u32
-    ensures done { Tries peer (sockets local remote) (Ask_to_receive room) result handle.old.host handle.new.host }
+    ensures done { Tries which.now (Ask_to_receive room) result handle.old.host handle.new.host }
     ensures err { result ≢ DONE → handle.new.host ≡ handle.old.host }
 {
     let Some(mut held) = take(alloc, handle) else {
         return NO_HOST;
     };
-    let answer = held.host.ask_receive(peer, local, remote, room);
+    let answer = held
+        .host
+        .ask_receive(which.peer, which.local, which.remote, room);
     put(handle, held);
     code_of(answer)
 }

@@ -3,7 +3,6 @@ ghost use Rattle.std.specs.Prelude.{◌≡◌, ◌≢◌, ◌<◌, ◌≤◌, le
 ghost use Rattle.ncp_bits.specs.Bits.{read_bytes};
 ghost use Rattle.ncp_host.specs.Readiness.{IsNext};
 ghost use Rattle.ncp_host.specs.Turns.{next_output, after_next_output};
-ghost use Rattle.ncp_host.specs.Calls.{sockets};
 ghost use Rattle.ncp_embed.specs.Buffers.{message_code, host_with_room, FirstIsReady, found_in_host, message_put, bits_put, code_of_take, host_after_take, taken_text};
 ghost use Rattle.ncp_embed.specs.Exports.{TouchesOnePeer, any_code_in, any_of, code_if_any, message_over, size_of_message, code_of_bits, receive_code};
 ghost use Rattle.ncp_embed.specs.FromBits.{host_after_bits, arrived_from_bits, code_of_give, host_after_give};
@@ -11,13 +10,13 @@ ghost use Rattle.ncp_embed.specs.FromBits.{host_after_bits, arrived_from_bits, c
 use crate::codes::{
     DONE, LONGEST_MESSAGE, NO_HOST, NOTHING, SHORT_BUFFER, bits_code, code_of, fault_code,
 };
+use crate::connection::Which;
 use crate::handle::{Handle, Held, put, take};
 use crate::placing::pair_named;
 use crate::told::{Arrived, arrived_of};
 use crate::writing::write_message;
 use ncp_bits::Bits;
 use ncp_leader::read_leader;
-use ncp_model::Pair;
 use std::alloc::Global;
 
 /// `Host::receive`, of the first `bits` bits of a buffer.
@@ -112,14 +111,12 @@ pub extern "C" fn ncp_embed_next_output(
 pub extern "C" fn ncp_embed_give(
     alloc: Global,
     handle: &mut Handle,
-    peer: u8,
-    local: u32,
-    remote: u32,
+    which: &Which,
     bytes: &[u8],
     bits: usize,
 ) -> u32
-    ensures code { result ≡ code_of_give peer (sockets local remote) bytes.now bits handle.old.host }
-    ensures host { handle.new.host ≡ host_after_give peer (sockets local remote) bytes.now bits handle.old.host }
+    ensures code { result ≡ code_of_give which.now bytes.now bits handle.old.host }
+    ensures host { handle.new.host ≡ host_after_give which.now bytes.now bits handle.old.host }
     ensures err { result ≢ DONE → handle.new.host ≡ handle.old.host }
 {
     let text = match Bits::from_bytes(bytes, bits) {
@@ -129,7 +126,7 @@ pub extern "C" fn ncp_embed_give(
     let Some(mut held) = take(alloc, handle) else {
         return NO_HOST;
     };
-    let answer = held.host.give(peer, Pair { local, remote }, &text);
+    let answer = held.host.give(which.peer, which.pair(), &text);
     put(handle, held);
     code_of(answer)
 }
@@ -142,18 +139,16 @@ pub extern "C" fn ncp_embed_give(
 pub extern "C" fn ncp_embed_take(
     alloc: Global,
     handle: &mut Handle,
-    peer: u8,
-    local: u32,
-    remote: u32,
+    which: &Which,
     bytes: u32,
     out: &mut [u8],
     bits: &mut usize,
 ) -> u32
-    ensures code { result ≡ code_of_take peer (sockets local remote) bytes out.old handle.old.host }
-    ensures host { handle.new.host ≡ host_after_take peer (sockets local remote) bytes out.old handle.old.host }
+    ensures code { result ≡ code_of_take which.now bytes out.old handle.old.host }
+    ensures host { handle.new.host ≡ host_after_take which.now bytes out.old handle.old.host }
     ensures err { result ≢ DONE → handle.new.host ≡ handle.old.host }
-    ensures text { out.new ≡ message_put (taken_text peer (sockets local remote) bytes handle.old.host) out.old }
-    ensures bits { bits.new ≡ bits_put (taken_text peer (sockets local remote) bytes handle.old.host) out.old bits.old }
+    ensures text { out.new ≡ message_put (taken_text which.now bytes handle.old.host) out.old }
+    ensures bits { bits.new ≡ bits_put (taken_text which.now bytes handle.old.host) out.old bits.old }
 {
     if out.len() < LONGEST_MESSAGE {
         return SHORT_BUFFER;
@@ -161,7 +156,7 @@ pub extern "C" fn ncp_embed_take(
     let Some(mut held) = take(alloc, handle) else {
         return NO_HOST;
     };
-    let answer = held.host.take(peer, Pair { local, remote }, bytes);
+    let answer = held.host.take(which.peer, which.pair(), bytes);
     put(handle, held);
     match answer {
         Ok(text) => {

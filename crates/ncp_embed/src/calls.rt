@@ -4,13 +4,12 @@ ghost use Rattle.std.specs.Prelude.{◌≡◌, ◌≢◌};
 ghost use Rattle.ncp_model.specs.Peers.{Close, Allocate, Call_back, Interrupt};
 ghost use Rattle.ncp_host.specs.Restarting.{restart_reply, after_restart};
 ghost use Rattle.ncp_host.specs.Calls.{reset_reply, after_reset, echo_reply, after_echo, wake_reply, after_wake};
-ghost use Rattle.ncp_host.specs.Calls.{sockets};
 ghost use Rattle.ncp_embed.specs.Connected.{code_of_call, host_called};
 ghost use Rattle.ncp_embed.specs.Exports.{code_in, host_changed_in};
 
 use crate::codes::{DONE, NO_HOST, code_of};
+use crate::connection::Which;
 use crate::handle::{Handle, put, take};
-use ncp_model::Pair;
 use std::alloc::Global;
 
 /// `Host::reset`.
@@ -33,22 +32,18 @@ pub extern "C" fn ncp_embed_reset(alloc: Global, handle: &mut Handle, peer: u8) 
 pub extern "C" fn ncp_embed_allocate(
     alloc: Global,
     handle: &mut Handle,
-    peer: u8,
-    local: u32,
-    remote: u32,
+    which: &Which,
     messages: u16,
     bits: u32,
 ) -> u32
-    ensures code { result ≡ code_of_call peer (sockets local remote) (Allocate messages bits) handle.old.host }
-    ensures host { handle.new.host ≡ host_called peer (sockets local remote) (Allocate messages bits) handle.old.host }
+    ensures code { result ≡ code_of_call which.now (Allocate messages bits) handle.old.host }
+    ensures host { handle.new.host ≡ host_called which.now (Allocate messages bits) handle.old.host }
     ensures err { result ≢ DONE → handle.new.host ≡ handle.old.host }
 {
     let Some(mut held) = take(alloc, handle) else {
         return NO_HOST;
     };
-    let answer = held
-        .host
-        .allocate(peer, Pair { local, remote }, messages, bits);
+    let answer = held.host.allocate(which.peer, which.pair(), messages, bits);
     put(handle, held);
     code_of(answer)
 }
@@ -58,62 +53,48 @@ pub extern "C" fn ncp_embed_allocate(
 pub extern "C" fn ncp_embed_call_back(
     alloc: Global,
     handle: &mut Handle,
-    peer: u8,
-    local: u32,
-    remote: u32,
+    which: &Which,
     fm: u8,
     fb: u8,
 ) -> u32
-    ensures code { result ≡ code_of_call peer (sockets local remote) (Call_back fm fb) handle.old.host }
-    ensures host { handle.new.host ≡ host_called peer (sockets local remote) (Call_back fm fb) handle.old.host }
+    ensures code { result ≡ code_of_call which.now (Call_back fm fb) handle.old.host }
+    ensures host { handle.new.host ≡ host_called which.now (Call_back fm fb) handle.old.host }
     ensures err { result ≢ DONE → handle.new.host ≡ handle.old.host }
 {
     let Some(mut held) = take(alloc, handle) else {
         return NO_HOST;
     };
-    let answer = held.host.call_back(peer, Pair { local, remote }, fm, fb);
+    let answer = held.host.call_back(which.peer, which.pair(), fm, fb);
     put(handle, held);
     code_of(answer)
 }
 
 /// `Host::interrupt`.
 #[unsafe(no_mangle)]
-pub extern "C" fn ncp_embed_interrupt(
-    alloc: Global,
-    handle: &mut Handle,
-    peer: u8,
-    local: u32,
-    remote: u32,
-) -> u32
-    ensures code { result ≡ code_of_call peer (sockets local remote) Interrupt handle.old.host }
-    ensures host { handle.new.host ≡ host_called peer (sockets local remote) Interrupt handle.old.host }
+pub extern "C" fn ncp_embed_interrupt(alloc: Global, handle: &mut Handle, which: &Which) -> u32
+    ensures code { result ≡ code_of_call which.now Interrupt handle.old.host }
+    ensures host { handle.new.host ≡ host_called which.now Interrupt handle.old.host }
     ensures err { result ≢ DONE → handle.new.host ≡ handle.old.host }
 {
     let Some(mut held) = take(alloc, handle) else {
         return NO_HOST;
     };
-    let answer = held.host.interrupt(peer, Pair { local, remote });
+    let answer = held.host.interrupt(which.peer, which.pair());
     put(handle, held);
     code_of(answer)
 }
 
 /// `Host::close`.
 #[unsafe(no_mangle)]
-pub extern "C" fn ncp_embed_close(
-    alloc: Global,
-    handle: &mut Handle,
-    peer: u8,
-    local: u32,
-    remote: u32,
-) -> u32
-    ensures code { result ≡ code_of_call peer (sockets local remote) Close handle.old.host }
-    ensures host { handle.new.host ≡ host_called peer (sockets local remote) Close handle.old.host }
+pub extern "C" fn ncp_embed_close(alloc: Global, handle: &mut Handle, which: &Which) -> u32
+    ensures code { result ≡ code_of_call which.now Close handle.old.host }
+    ensures host { handle.new.host ≡ host_called which.now Close handle.old.host }
     ensures err { result ≢ DONE → handle.new.host ≡ handle.old.host }
 {
     let Some(mut held) = take(alloc, handle) else {
         return NO_HOST;
     };
-    let answer = held.host.close(peer, Pair { local, remote });
+    let answer = held.host.close(which.peer, which.pair());
     put(handle, held);
     code_of(answer)
 }

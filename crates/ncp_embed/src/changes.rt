@@ -1,15 +1,14 @@
 //! What changed of a connection since it was looked at.
 ghost use Rattle.std.specs.Prelude.{◌≡◌};
-ghost use Rattle.ncp_host.specs.Calls.{sockets};
 ghost use Rattle.ncp_embed.specs.Connected.{changes_read};
 ghost use Rattle.ncp_embed.specs.Exports.{code_in, formed_in};
 ghost use Rattle.ncp_embed.specs.Changes.{no_connection, no_changes, is_closed_here, peer_asks, is_more_held, is_more_allowed, became, changes_of, ending_of, is_another, changes_anew, changes_since, changes_between, seen_of, connection_read, reading_told};
 
 use crate::codes::{DONE, NO_HOST, fault_code};
-use crate::connection::{Connection, connection_of};
+use crate::connection::{Connection, Which, connection_of};
 use crate::handle::{Handle, put, take};
 use ncp_host::Record;
-use ncp_model::{CallFault, Pair};
+use ncp_model::CallFault;
 use std::alloc::Global;
 
 /// What changed of a connection since it was looked at.
@@ -214,21 +213,19 @@ fn reading_of(answer: Result<Record, CallFault>) -> Result<Option<Connection>, C
 pub extern "C" fn ncp_embed_changes(
     alloc: Global,
     handle: &mut Handle,
-    peer: u8,
-    local: u32,
-    remote: u32,
+    which: &Which,
     seen: &mut Connection,
     out: &mut Changes,
 ) -> u32
     ensures host { handle.new.host ≡ handle.old.host }
-    ensures code { result ≡ code_in (reading_told peer (sockets local remote)) handle.old.host }
-    ensures changes { out.new ≡ changes_read peer (sockets local remote) seen.old handle.old.host out.old }
-    ensures seen { seen.new ≡ formed_in seen_of (reading_told peer (sockets local remote)) handle.old.host seen.old }
+    ensures code { result ≡ code_in (reading_told which.now) handle.old.host }
+    ensures changes { out.new ≡ changes_read which.now seen.old handle.old.host out.old }
+    ensures seen { seen.new ≡ formed_in seen_of (reading_told which.now) handle.old.host seen.old }
 {
     let Some(held) = take(alloc, handle) else {
         return NO_HOST;
     };
-    let answer = held.host.state(peer, Pair { local, remote });
+    let answer = held.host.state(which.peer, which.pair());
     put(handle, held);
     match reading_of(answer) {
         Ok(now) => {

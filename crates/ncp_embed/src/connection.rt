@@ -1,8 +1,27 @@
-//! What C is told of a connection.
+//! Which connection C means, and what it is told of one.
 ghost use Rattle.std.specs.Prelude.{◌≡◌};
 ghost use Rattle.ncp_embed.specs.Told.{connection_of, is_send_end};
+ghost use Rattle.ncp_embed.specs.Which.{pair_meant};
 
 use ncp_host::{End, Record};
+use ncp_model::Pair;
+
+/// Which connection is meant: with which peer, and between which sockets, here and there.
+#[repr(C)]
+#[derive(Clone, Copy, Drop)]
+pub struct Which {
+    pub peer: u8,
+    pub local: u32,
+    pub remote: u32,
+}
+
+impl Which {
+    pub(crate) fn pair(&self) -> Pair
+        ensures { result ≡ pair_meant self.now }
+    {
+        Pair::new(self.local, self.remote)
+    }
+}
 
 /// What is known of a connection.
 #[repr(C)]

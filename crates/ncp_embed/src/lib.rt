@@ -39,8 +39,9 @@ pub use codes::{
     BITS, DONE, LOAD, LONGEST_MESSAGE, NEW, NO_HOST, NO_POINTER, NO_SUBNET, NOTHING, SHORT_BUFFER,
     SUBNET,
 };
-pub use connection::Connection;
+pub use connection::{Connection, Which};
 pub use handle::Handle;
 pub use names::Answer;
 pub use net::Net;
+pub use subnet::Lane;
 pub use told::{Arrived, Counted, Discarded, Noted, Phase};

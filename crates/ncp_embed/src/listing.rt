@@ -1,45 +1,42 @@
 //! Which connections a host has, what they have room for, where a link leads, and what is held. The host stays as it was.
 //! Each answers `NO_HOST` where there is no host.
 ghost use Rattle.std.specs.Prelude.{◌≡◌};
-ghost use Rattle.ncp_host.specs.Listing.{connection_told, room_told, held_told};
+ghost use Rattle.ncp_host.specs.Listing.{room_told, held_told};
 ghost use Rattle.ncp_embed.specs.Told.{end_that_sends};
-ghost use Rattle.ncp_host.specs.Calls.{sockets};
-ghost use Rattle.ncp_embed.specs.Connected.{told_copied, known_local, known_remote, known_connection, pair_on};
+ghost use Rattle.ncp_embed.specs.Which.{of_which};
+ghost use Rattle.ncp_embed.specs.Connected.{told_copied, known_connection, listed_at, which_at, pair_on, which_on};
 ghost use Rattle.ncp_embed.specs.Exports.{code_in, found_code_in, found_formed_in, holds_in};
 
 use crate::codes::{DONE, NO_HOST, NOTHING, fault_code};
-use crate::connection::{Connection, connection_of};
+use crate::connection::{Connection, Which, connection_of};
 use crate::handle::{Handle, put, take};
 use ncp_host::End;
-use ncp_model::Pair;
 use std::alloc::Global;
 
-/// `Host::connection_at`: its sockets, and what `Host::state` tells of it. `NOTHING` behind the last.
+/// `Host::connection_at`, of the peer of `which`, in which the sockets are put: these, and what `Host::state` tells of it. `NOTHING`
+/// behind the last.
 #[unsafe(no_mangle)]
 pub extern "C" fn ncp_embed_connection_at(
     alloc: Global,
     handle: &mut Handle,
-    peer: u8,
     place: u32,
-    local: &mut u32,
-    remote: &mut u32,
+    which: &mut Which,
     out: &mut Connection,
 ) -> u32
     ensures host { handle.new.host ≡ handle.old.host }
-    ensures code { result ≡ found_code_in (connection_told peer place) handle.old.host }
-    ensures local { local.new ≡ found_formed_in known_local (connection_told peer place) handle.old.host local.old }
-    ensures remote { remote.new ≡ found_formed_in known_remote (connection_told peer place) handle.old.host remote.old }
-    ensures told { out.new ≡ found_formed_in known_connection (connection_told peer place) handle.old.host out.old }
+    ensures code { result ≡ found_code_in (listed_at place which.old) handle.old.host }
+    ensures which { which.new ≡ which_at place which.old handle.old.host }
+    ensures told { out.new ≡ found_formed_in known_connection (listed_at place which.old) handle.old.host out.old }
 {
     let Some(held) = take(alloc, handle) else {
         return NO_HOST;
     };
-    let answer = held.host.connection_at(peer, place);
+    let answer = held.host.connection_at(which.peer, place);
     put(handle, held);
     match answer {
         Ok(Some((pair, record))) => {
-            *local = pair.local;
-            *remote = pair.remote;
+            which.local = pair.local;
+            which.remote = pair.remote;
             *out = connection_of(record);
             DONE
         }
@@ -53,19 +50,17 @@ pub extern "C" fn ncp_embed_connection_at(
 pub extern "C" fn ncp_embed_room(
     alloc: Global,
     handle: &mut Handle,
-    peer: u8,
-    local: u32,
-    remote: u32,
+    which: &Which,
     bits: &mut u32,
 ) -> u32
     ensures host { handle.new.host ≡ handle.old.host }
-    ensures code { result ≡ code_in (room_told peer (sockets local remote)) handle.old.host }
-    ensures told { bits.new ≡ told_copied (room_told peer (sockets local remote)) handle.old.host bits.old }
+    ensures code { result ≡ code_in (of_which room_told which.now) handle.old.host }
+    ensures told { bits.new ≡ told_copied (of_which room_told which.now) handle.old.host bits.old }
 {
     let Some(held) = take(alloc, handle) else {
         return NO_HOST;
     };
-    let answer = held.host.room(peer, Pair { local, remote });
+    let answer = held.host.room(which.peer, which.pair());
     put(handle, held);
     match answer {
         Ok(room) => {
@@ -82,31 +77,29 @@ fn end_of(sends: bool) -> End
     if sends { End::Send } else { End::Receive }
 }
 
-/// `Host::pair_on`, of the end that sends here or of the one that receives. `NOTHING` where the link leads to none.
+/// `Host::pair_on`, of the peer of `which`, in which the sockets are put: of the end that sends here or of the one that receives.
+/// `NOTHING` where the link leads to none.
 #[unsafe(no_mangle)]
 pub extern "C" fn ncp_embed_pair_on(
     alloc: Global,
     handle: &mut Handle,
-    peer: u8,
     sends: bool,
     link: u8,
-    local: &mut u32,
-    remote: &mut u32,
+    which: &mut Which,
 ) -> u32
     ensures host { handle.new.host ≡ handle.old.host }
-    ensures code { result ≡ found_code_in (pair_on peer sends link) handle.old.host }
-    ensures local { local.new ≡ found_formed_in (λ p. p.local) (pair_on peer sends link) handle.old.host local.old }
-    ensures remote { remote.new ≡ found_formed_in (λ p. p.remote) (pair_on peer sends link) handle.old.host remote.old }
+    ensures code { result ≡ found_code_in (pair_on sends link which.old) handle.old.host }
+    ensures which { which.new ≡ which_on sends link which.old handle.old.host }
 {
     let Some(held) = take(alloc, handle) else {
         return NO_HOST;
     };
-    let answer = held.host.pair_on(peer, end_of(sends), link);
+    let answer = held.host.pair_on(which.peer, end_of(sends), link);
     put(handle, held);
     match answer {
         Ok(Some(pair)) => {
-            *local = pair.local;
-            *remote = pair.remote;
+            which.local = pair.local;
+            which.remote = pair.remote;
             DONE
         }
         Ok(None) => NOTHING,

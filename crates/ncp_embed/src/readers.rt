@@ -2,18 +2,17 @@
 //! buffer that is too short is judged before that.
 ghost use Rattle.std.specs.Prelude.{◌≡◌, Ok};
 ghost use Rattle.ncp_host.specs.Calls.{record_told, flags_told, echoed_told, counts_told};
+ghost use Rattle.ncp_embed.specs.Which.{of_which};
 ghost use Rattle.ncp_embed.specs.Told.{connection_of, phase_of, is_record_open, are_flags_up, counted_told, discarded_of, noted_of};
-ghost use Rattle.ncp_host.specs.Calls.{sockets};
 ghost use Rattle.ncp_embed.specs.Buffers.{message_code, command_code, found_in_host, message_put, bits_put, command_put, bytes_put, waiting_told, kept_told};
 ghost use Rattle.ncp_embed.specs.Exports.{code_in, formed_in, any_code_in, ignored_told, found_code_in, found_formed_in, error_told, holds_in};
 
 use crate::codes::{DONE, LONGEST_MESSAGE, NO_HOST, NOTHING, SHORT_BUFFER, fault_code};
-use crate::connection::{Connection, connection_of};
+use crate::connection::{Connection, Which, connection_of};
 use crate::handle::{Handle, put, take};
 use crate::placing::error_in;
 use crate::told::{Counted, Discarded, Noted, Phase, counted_of, discarded_of, noted_of, phase_of};
 use crate::writing::{write_command, write_message};
-use ncp_model::Pair;
 use ncp_terms::LONGEST_COMMAND;
 use std::alloc::Global;
 
@@ -22,19 +21,17 @@ use std::alloc::Global;
 pub extern "C" fn ncp_embed_state(
     alloc: Global,
     handle: &mut Handle,
-    peer: u8,
-    local: u32,
-    remote: u32,
+    which: &Which,
     out: &mut Connection,
 ) -> u32
     ensures host { handle.new.host ≡ handle.old.host }
-    ensures code { result ≡ code_in (record_told peer (sockets local remote)) handle.old.host }
-    ensures told { out.new ≡ formed_in connection_of (record_told peer (sockets local remote)) handle.old.host out.old }
+    ensures code { result ≡ code_in (of_which record_told which.now) handle.old.host }
+    ensures told { out.new ≡ formed_in connection_of (of_which record_told which.now) handle.old.host out.old }
 {
     let Some(held) = take(alloc, handle) else {
         return NO_HOST;
     };
-    let answer = held.host.state(peer, Pair { local, remote });
+    let answer = held.host.state(which.peer, which.pair());
     put(handle, held);
     match answer {
         Ok(record) => {
@@ -74,20 +71,14 @@ pub extern "C" fn ncp_embed_phase(
 /// Whether a connection is open: both requests were made, and this side is not closing. Not where there
 /// is no host, or no such connection.
 #[unsafe(no_mangle)]
-pub extern "C" fn ncp_embed_is_open(
-    alloc: Global,
-    handle: &mut Handle,
-    peer: u8,
-    local: u32,
-    remote: u32,
-) -> bool
+pub extern "C" fn ncp_embed_is_open(alloc: Global, handle: &mut Handle, which: &Which) -> bool
     ensures host { handle.new.host ≡ handle.old.host }
-    ensures open { result ≡ holds_in is_record_open (record_told peer (sockets local remote)) handle.old.host }
+    ensures open { result ≡ holds_in is_record_open (of_which record_told which.now) handle.old.host }
 {
     let Some(held) = take(alloc, handle) else {
         return false;
     };
-    let answer = held.host.state(peer, Pair { local, remote });
+    let answer = held.host.state(which.peer, which.pair());
     put(handle, held);
     match answer {
         Ok(it) => it.asked && it.heard && !(it.leaving || it.left),

@@ -19,6 +19,15 @@ use ncp_host::HostFault;
 use ncp_subnet::Subnet;
 use std::alloc::Global;
 
+/// On which link a message is, from which host to which.
+#[repr(C)]
+#[derive(Clone, Copy, Drop)]
+pub struct Lane {
+    pub from: u8,
+    pub to: u8,
+    pub link: u8,
+}
+
 /// `Subnet::among`, in the place of the subnet that the net had.
 #[unsafe(no_mangle)]
 pub extern "C" fn ncp_embed_subnet_new(alloc: Global, net: &mut Net, hosts: &[u8]) -> u32
@@ -83,16 +92,14 @@ pub extern "C" fn ncp_embed_subnet_accept(
 pub extern "C" fn ncp_embed_subnet_deliver(
     alloc: Global,
     net: &mut Net,
-    from: u8,
-    to: u8,
-    link: u8,
+    lane: &Lane,
     out: &mut [u8],
     bits: &mut usize,
 ) -> u32
-    ensures code { result ≡ message_code out.old (code_in_net (coming_in from to link) net.old.subnet) }
-    ensures subnet { net.new.subnet ≡ subnet_with_room out.old (after_coming from to link) net.old.subnet }
-    ensures message { out.new ≡ message_put (found_in_net (coming_in from to link) net.old.subnet) out.old }
-    ensures bits { bits.new ≡ bits_put (found_in_net (coming_in from to link) net.old.subnet) out.old bits.old }
+    ensures code { result ≡ message_code out.old (code_in_net (coming_in lane.now) net.old.subnet) }
+    ensures subnet { net.new.subnet ≡ subnet_with_room out.old (after_coming lane.now) net.old.subnet }
+    ensures message { out.new ≡ message_put (found_in_net (coming_in lane.now) net.old.subnet) out.old }
+    ensures bits { bits.new ≡ bits_put (found_in_net (coming_in lane.now) net.old.subnet) out.old bits.old }
     ensures err { result ≢ DONE → net.new.subnet ≡ net.old.subnet }
 {
     if out.len() < LONGEST_MESSAGE {
@@ -101,7 +108,7 @@ pub extern "C" fn ncp_embed_subnet_deliver(
     let Some(mut carried) = take(alloc, net) else {
         return NO_SUBNET;
     };
-    let came = carried.subnet.deliver(from, to, link);
+    let came = carried.subnet.deliver(lane.from, lane.to, lane.link);
     put(net, carried);
     match came {
         Some(message) => {
@@ -114,42 +121,30 @@ pub extern "C" fn ncp_embed_subnet_deliver(
 
 /// `Subnet::lose`. `NOTHING` where no message is under way.
 #[unsafe(no_mangle)]
-pub extern "C" fn ncp_embed_subnet_lose(
-    alloc: Global,
-    net: &mut Net,
-    from: u8,
-    to: u8,
-    link: u8,
-) -> u32
-    ensures code { result ≡ holds_code_in (is_under_way from to link) net.old.subnet }
-    ensures subnet { net.new.subnet ≡ changed_in (after_loss from to link) net.old.subnet }
+pub extern "C" fn ncp_embed_subnet_lose(alloc: Global, net: &mut Net, lane: &Lane) -> u32
+    ensures code { result ≡ holds_code_in (is_under_way lane.now) net.old.subnet }
+    ensures subnet { net.new.subnet ≡ changed_in (after_loss lane.now) net.old.subnet }
     ensures err { result ≢ DONE → net.new.subnet ≡ net.old.subnet }
 {
     let Some(mut carried) = take(alloc, net) else {
         return NO_SUBNET;
     };
-    let is_lost = carried.subnet.lose(from, to, link);
+    let is_lost = carried.subnet.lose(lane.from, lane.to, lane.link);
     put(net, carried);
     if is_lost { DONE } else { NOTHING }
 }
 
 /// `Subnet::dead`. `NOTHING` where no message is under way.
 #[unsafe(no_mangle)]
-pub extern "C" fn ncp_embed_subnet_dead(
-    alloc: Global,
-    net: &mut Net,
-    from: u8,
-    to: u8,
-    link: u8,
-) -> u32
-    ensures code { result ≡ holds_code_in (is_under_way from to link) net.old.subnet }
-    ensures subnet { net.new.subnet ≡ changed_in (after_death from to link) net.old.subnet }
+pub extern "C" fn ncp_embed_subnet_dead(alloc: Global, net: &mut Net, lane: &Lane) -> u32
+    ensures code { result ≡ holds_code_in (is_under_way lane.now) net.old.subnet }
+    ensures subnet { net.new.subnet ≡ changed_in (after_death lane.now) net.old.subnet }
     ensures err { result ≢ DONE → net.new.subnet ≡ net.old.subnet }
 {
     let Some(mut carried) = take(alloc, net) else {
         return NO_SUBNET;
     };
-    let is_dead = carried.subnet.dead(from, to, link);
+    let is_dead = carried.subnet.dead(lane.from, lane.to, lane.link);
     put(net, carried);
     if is_dead { DONE } else { NOTHING }
 }
@@ -161,16 +156,14 @@ pub extern "C" fn ncp_embed_subnet_dead(
 pub extern "C" fn ncp_embed_subnet_answer(
     alloc: Global,
     net: &mut Net,
-    from: u8,
-    to: u8,
-    link: u8,
+    lane: &Lane,
     out: &mut [u8],
     bits: &mut usize,
 ) -> u32
-    ensures code { result ≡ message_code out.old (code_in_net (answer_in_transit from to link) net.old.subnet) }
-    ensures subnet { net.new.subnet ≡ subnet_with_room out.old (subnet_after_answer from to link) net.old.subnet }
-    ensures message { out.new ≡ message_put (found_in_net (answer_in_transit from to link) net.old.subnet) out.old }
-    ensures bits { bits.new ≡ bits_put (found_in_net (answer_in_transit from to link) net.old.subnet) out.old bits.old }
+    ensures code { result ≡ message_code out.old (code_in_net (answer_in_transit lane.now) net.old.subnet) }
+    ensures subnet { net.new.subnet ≡ subnet_with_room out.old (subnet_after_answer lane.now) net.old.subnet }
+    ensures message { out.new ≡ message_put (found_in_net (answer_in_transit lane.now) net.old.subnet) out.old }
+    ensures bits { bits.new ≡ bits_put (found_in_net (answer_in_transit lane.now) net.old.subnet) out.old bits.old }
     ensures err { result ≢ DONE → net.new.subnet ≡ net.old.subnet }
 {
     if out.len() < LONGEST_MESSAGE {
@@ -179,7 +172,7 @@ pub extern "C" fn ncp_embed_subnet_answer(
     let Some(mut carried) = take(alloc, net) else {
         return NO_SUBNET;
     };
-    let answer = carried.subnet.answer(from, to, link);
+    let answer = carried.subnet.answer(lane.from, lane.to, lane.link);
     put(net, carried);
     match answer {
         Some(message) => {

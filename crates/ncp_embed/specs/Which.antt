@@ -1,0 +1,16 @@
+-- Which connection C means: with which peer, and between which sockets, here and there.
+use Rattle.std.specs.Prelude.{ℕ}
+use Rattle.ncp_model.specs.declared.pair.Pair.{Pair}
+use Rattle.ncp_host.specs.Calls.{sockets}
+use Rattle.ncp_embed.specs.declared.connection.Which.{Which}
+
+abbrev pub pair_meant : Which → Pair
+pair_meant which = sockets which.local which.remote
+
+-- what is called, or told, of it
+abbrev pub of_which : {A : Type 0} → (ℕ → Pair → A) → Which → A
+of_which told which = told which.peer (pair_meant which)
+
+-- the one with the same peer between two sockets
+abbrev pub which_between : Which → Pair → Which
+which_between which pair = record which { local = pair.local; remote = pair.remote }
