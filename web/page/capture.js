@@ -20,8 +20,8 @@ class Capture {
     $("capture-body").scrollTop = 0;
   }
 
-  #read(name, ...modes) {
-    return this.module.call(name, this.bytes, 16 * this.bytes.length + ROOM.event, ...modes);
+  #read(name, modes = {}) {
+    return this.module.call(name, this.bytes, modes, 16 * this.bytes.length + ROOM.event);
   }
 
   #look() {
@@ -30,7 +30,7 @@ class Capture {
 
   /** The findings, and what the rules ask for that are broken. It answers which records are found fault with. */
   #judge() {
-    const { status, bytes, error } = this.#read("audit", Number($("is-part").checked), Number($("is-standard").checked));
+    const { status, bytes, error } = this.#read("audit", { part: $("is-part").checked, standard: $("is-standard").checked });
     const findings = asText(bytes).split("\n").slice(0, -1).map(line => ({ line, record: line.split(" ")[0] }));
     const count = findings.length ? counted(findings.length, "finding") : "No rule is seen to be broken";
     $("findings").innerHTML = Capture.outcome(status, count, error) + this.#list(findings, "What these rules ask for", it => Capture.namesIn(it.line));
@@ -39,7 +39,7 @@ class Capture {
 
   /** The connections in the order of opening, each with its text, and how many texts belong to none. It answers the records that opened them. */
   #follow() {
-    const { status, bytes, error } = this.#read("follow", Number($("is-part").checked));
+    const { status, bytes, error } = this.#read("follow", { part: $("is-part").checked });
     const told = asText(bytes).split(/\n(?! )/).filter(Boolean).map(lines => {
       const [line, text] = lines.split("\n");
       return { line, text, ...Object.fromEntries(line.split(" ").map(it => it.split("="))) };

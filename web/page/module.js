@@ -7,8 +7,16 @@ const ANSWER = { DONE: 0, BAD: 1, FAULT: 2, NO_MEMORY: 3, NO_SESSION: 4, NO_LINE
 /** What became of the last message on a link, by the number that the module answers. */
 const FATES = ["free", "underway", "delivered", "lost", "dead"];
 
-/** As many bytes as the lines of one event have at most, and as the longest message has. */
-const ROOM = { event: 1 << 16, message: 1024, words: 4096 };
+/** As many bytes as the lines of one event have at most, and as the longest message and the largest struct have. */
+const ROOM = { event: 1 << 16, message: 1024, words: 4096, struct: 16 };
+
+/** What the module is lent beside bytes: the fields of its structs, in their order, each with how many bytes it has. */
+const STRUCTS = {
+  Modes: { part: 1, standard: 1 },
+  Queued: { host: 1, peer: 1, place: 4 },
+  LinkBetween: { host: 1, peer: 1, link: 1 },
+  Sender: { host: 1, local: 4, remote: 4 },
+};
 
 const decoder = new TextDecoder(), encoder = new TextEncoder();
 const asText = bytes => decoder.decode(bytes);
@@ -29,8 +37,9 @@ class Module {
 
   constructor(exports) {
     this.exports = exports;
-    this.counts = this.room(16);
+    this.lengths = this.room(16);
     this.words = this.room(ROOM.words);
+    this.lent = this.room(ROOM.struct);
   }
 
   /** Room in the module's memory, by its address. */
@@ -63,12 +72,30 @@ class Module {
     return Number(new DataView(this.exports.memory.buffer).getBigUint64(at, true));
   }
 
+  /** Lays out a struct by its fields, each at a multiple of its bytes, and answers its address. The next one takes its place. */
+  lend(name, fields) {
+    const view = new DataView(this.exports.memory.buffer, this.lent, ROOM.struct);
+    let at = 0;
+    for (const [field, bytes] of Object.entries(STRUCTS[name])) {
+      at = Math.ceil(at / bytes) * bytes;
+      if (bytes === 1) view.setUint8(at, fields[field]);
+      else view.setUint32(at, fields[field], true);
+      at += bytes;
+    }
+    return BigInt(this.lent);
+  }
+
+  /** The modes of a function, by their names: one is passed as it is, and more are lent. */
+  modes(modes) {
+    return Object.keys(modes).length > 1 ? [this.lend("Modes", modes)] : Object.values(modes).map(Number);
+  }
+
   /** Calls a function from bytes to bytes, some of which have modes, with more room where the bytes do not fit. */
-  call(name, input, room = 4 * input.length + ROOM.event, ...modes) {
+  call(name, input, modes = {}, room = 4 * input.length + ROOM.event) {
     for (;;) {
-      const from = this.put(input), out = this.room(room), [written, told] = [this.counts, this.counts + 8];
+      const from = this.put(input), out = this.room(room), [written, told] = [this.lengths, this.lengths + 8];
       const status = this.exports[`ncp_web_${name}`](
-        ...modes, BigInt(from), BigInt(input.length), BigInt(out), BigInt(room), BigInt(written), BigInt(this.words), BigInt(ROOM.words), BigInt(told));
+        ...this.modes(modes), BigInt(from), BigInt(input.length), BigInt(out), BigInt(room), BigInt(this.words), BigInt(ROOM.words), BigInt(this.lengths));
       const bytes = status === ANSWER.NO_MEMORY ? new Uint8Array() : this.read(out, this.number(written));
       const error = status === ANSWER.FAULT ? asText(this.read(this.words, this.number(told))) : "";
       this.free(from, out);
@@ -81,8 +108,8 @@ class Module {
   explain(name, ...texts) {
     const inputs = texts.map(asBytes), rooms = inputs.map(it => this.put(it));
     const pairs = inputs.flatMap((it, each) => [BigInt(rooms[each]), BigInt(it.length)]);
-    const status = this.exports[`ncp_web_${name}`](...pairs, BigInt(this.words), BigInt(ROOM.words), BigInt(this.counts));
-    const words = status === ANSWER.DONE ? asText(this.read(this.words, this.number(this.counts))) : "";
+    const status = this.exports[`ncp_web_${name}`](...pairs, BigInt(this.words), BigInt(ROOM.words), BigInt(this.lengths));
+    const words = status === ANSWER.DONE ? asText(this.read(this.words, this.number(this.lengths))) : "";
     this.free(...rooms);
     return words;
   }
@@ -133,7 +160,7 @@ class Session {
     this.stepped++;
     const [begin, end] = this.script.place(this.line);
     this.status = this.module.exports.ncp_web_step(
-      BigInt(this.handle), BigInt(this.from + begin), BigInt(end - begin), BigInt(this.out), BigInt(ROOM.event), BigInt(this.module.counts));
+      BigInt(this.handle), BigInt(this.from + begin), BigInt(end - begin), BigInt(this.out), BigInt(ROOM.event), BigInt(this.module.lengths));
     this.goesOn = this.status === ANSWER.GOES_ON;
     return this.goesOn || this.status === ANSWER.DONE;
   }
@@ -144,14 +171,14 @@ class Session {
   }
 
   said() {
-    return asText(this.module.read(this.out, this.module.number(this.module.counts)));
+    return asText(this.module.read(this.out, this.module.number(this.module.lengths)));
   }
 
   /** What a line would be answered that reads a host, without its number; none where it is refused. */
   ask(line) {
     const input = asBytes(line), at = this.module.put(input);
     const status = this.module.exports.ncp_web_ask(
-      BigInt(this.handle), BigInt(at), BigInt(input.length), BigInt(this.out), BigInt(ROOM.event), BigInt(this.module.counts));
+      BigInt(this.handle), BigInt(at), BigInt(input.length), BigInt(this.out), BigInt(ROOM.event), BigInt(this.module.lengths));
     this.module.free(at);
     return status === ANSWER.DONE ? this.said().trimEnd().replace(/^\d+ /, "") : null;
   }
@@ -161,7 +188,7 @@ class Session {
     const lines = [];
     for (let place = 0; ; place++) {
       const status = this.module.exports.ncp_web_waiting(
-        BigInt(this.handle), host, peer, place, BigInt(this.out), BigInt(ROOM.event), BigInt(this.module.counts));
+        BigInt(this.handle), this.module.lend("Queued", { host, peer, place }), BigInt(this.out), BigInt(ROOM.event), BigInt(this.module.lengths));
       if (status !== ANSWER.DONE) return lines;
       lines.push(this.said().trim());
     }
@@ -170,32 +197,32 @@ class Session {
   /** The message that a host keeps for a peer on a link. */
   kept(host, peer, link) {
     return this.message(this.module.exports.ncp_web_kept(
-      BigInt(this.handle), host, peer, link, BigInt(this.out), BigInt(ROOM.message), BigInt(this.module.counts)));
+      BigInt(this.handle), this.module.lend("LinkBetween", { host, peer, link }), BigInt(this.out), BigInt(ROOM.message), BigInt(this.module.lengths)));
   }
 
   /** The message that went out or came at an event. */
   messageOf(number) {
     return this.message(this.module.exports.ncp_web_message(
-      BigInt(this.handle), BigInt(number), BigInt(this.out), BigInt(ROOM.message), BigInt(this.module.counts)));
+      BigInt(this.handle), BigInt(number), BigInt(this.out), BigInt(ROOM.message), BigInt(this.module.lengths)));
   }
 
   message(status) {
     if (status !== ANSWER.DONE) return null;
-    const bits = this.module.number(this.module.counts);
+    const bits = this.module.number(this.module.lengths);
     return { bits, bytes: this.module.read(this.out, Math.ceil(bits / 8)) };
   }
 
   /** The ledger of a sender, in messages and bits; none where an end is not open. */
   ledger(host, local, remote) {
-    const status = this.module.exports.ncp_web_ledger(BigInt(this.handle), host, local, remote, BigInt(this.out));
+    const status = this.module.exports.ncp_web_ledger(BigInt(this.handle), this.module.lend("Sender", { host, local, remote }), BigInt(this.out));
     if (status !== ANSWER.DONE) return null;
     const amount = place => ({ messages: this.module.number(this.out + 16 * place), bits: this.module.number(this.out + 16 * place + 8) });
     return { outstanding: amount(0), counters: amount(1), all: amount(2), text: amount(3), ret: amount(4) };
   }
 
-  /** What became of the last message from a host to another on a link. */
-  transit(from, to, link) {
-    const status = this.module.exports.ncp_web_transit(BigInt(this.handle), from, to, link, BigInt(this.out));
+  /** What became of the last message from a host to a peer on a link. */
+  transit(host, peer, link) {
+    const status = this.module.exports.ncp_web_transit(BigInt(this.handle), this.module.lend("LinkBetween", { host, peer, link }), BigInt(this.out));
     return status === ANSWER.DONE ? FATES[this.module.memory[this.out]] : FATES[0];
   }
 }

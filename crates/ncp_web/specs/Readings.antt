@@ -16,7 +16,7 @@ use Rattle.ncp_transcript_two.specs.Ledgers.{ledger_of}
 use Rattle.ncp_model.specs.declared.pair.Pair.{Pair}
 use Rattle.ncp_terms.specs.declared.command.Command.{Command}
 use Rattle.ncp_host.specs.Host.{state_of}
-use Rattle.ncp_host.specs.Calls.{waiting_at, kept_for}
+use Rattle.ncp_host.specs.Calls.{sockets, waiting_at, kept_for}
 use Rattle.ncp_transcript_many.specs.Numbered.{thing_in}
 use Rattle.ncp_transcript_many.specs.declared.many_event.ManyEvent.{ManyEvent}
 use Rattle.ncp_transcript_many.specs.declared.many_event.ManyEvent.TheVariants as many_events
@@ -45,6 +45,9 @@ use Rattle.ncp_web.specs.Sessions.{note_number, side_at, host_of_stage, code_of_
 use Rattle.ncp_numbers.specs.Bytes.{bytes_of, bytes_for}
 use Rattle.ncp_model.specs.declared.amounts.Amount.{Amount}
 use Rattle.ncp_transcript_two.specs.declared.ledger.Ledger.{Ledger}
+use Rattle.ncp_web.specs.declared.lent.Queued.{Queued}
+use Rattle.ncp_web.specs.declared.lent.LinkBetween.{LinkBetween}
+use Rattle.ncp_web.specs.declared.lent.Sender.{Sender}
 use Rattle.ncp_web.specs.declared.readers.Quantity.{Quantity}
 use Rattle.ncp_web.specs.declared.readers.Books.{Books}
 
@@ -98,11 +101,11 @@ Asks asked (Err NoLine) text = (asked ≡ None) × (text ≡ [])
 Asks asked (Err NoMemory) text = text ≡ []
 Asks asked (Err Full) text = (more : List ℕ) × (asked ≡ Some (text ++ more))
 
-abbrev pub waiting_in : Stage → ℕ → ℕ → ℕ → Option Command
-waiting_in stage host peer place = read_of_host (λ h. waiting_at (state_of h peer) place) (host_of_stage host stage)
+abbrev pub waiting_in : Stage → Queued → Option Command
+waiting_in stage it = read_of_host (λ h. waiting_at (state_of h it.peer) it.place) (host_of_stage it.host stage)
 
-abbrev pub kept_in : Stage → ℕ → ℕ → ℕ → Option (List Bool)
-kept_in stage host peer link = read_of_host (λ h. kept_for (state_of h peer) link) (host_of_stage host stage)
+abbrev pub kept_in : Stage → LinkBetween → Option (List Bool)
+kept_in stage it = read_of_host (λ h. kept_for (state_of h it.peer) it.link) (host_of_stage it.host stage)
 
 -- the message that went out, or came, as a note tells it
 
@@ -142,15 +145,15 @@ ledger_at_side None pair stage = None
 ledger_at_side (Some side) pair (Two s) = ledger_of side pair s.hosts.hosts.hosts
 ledger_at_side (Some side) pair (Many s) = None
 
-abbrev pub ledger_of_stage : Stage → ℕ → Pair → Option Ledger
-ledger_of_stage (Two s) host pair = ledger_at_side (side_at s.first.hosts host) pair (Two s)
-ledger_of_stage (Many s) host pair = None
+abbrev pub ledger_of_stage : Stage → Sender → Option Ledger
+ledger_of_stage (Two s) it = ledger_at_side (side_at s.first.hosts it.host) (sockets it.local it.remote) (Two s)
+ledger_of_stage (Many s) it = None
 
--- What became of the last message from a host to another on a link.
+-- What became of the last message from a host to a peer on a link.
 
-abbrev pub fate_in : Stage → ℕ → ℕ → ℕ → Fate
-fate_in (Two s) sender peer link = fate_between (side_at s.first.hosts sender) (side_at s.first.hosts peer) link s.hosts.hosts.hosts
-fate_in (Many s) sender peer link = fate_among sender peer link s.hosts.hosts.crowd
+abbrev pub fate_in : Stage → LinkBetween → Fate
+fate_in (Two s) it = fate_between (side_at s.first.hosts it.host) (side_at s.first.hosts it.peer) it.link s.hosts.hosts.hosts
+fate_in (Many s) it = fate_among it.host it.peer it.link s.hosts.hosts.crowd
 
 -- ---- behind a handle
 
@@ -208,9 +211,9 @@ SaysWaiting None result out out' written = IsRefused NOTHING result out out' wri
 SaysWaiting (Some command) result out out' written =
     (answer : Result Unit Failed) × (text : List ℕ) × IsWritten (item_line (Ok command)) answer text × (result ≡ code_of_saying answer) × IsFront text out out' written
 
-abbrev pub WaitsHeld : ℕ → ℕ → ℕ → ℕ → Option Held → List ℕ → List ℕ → ℕ → Type 0
-WaitsHeld host peer place result None out out' written = IsRefused NO_SESSION result out out' written
-WaitsHeld host peer place result (Some s) out out' written = SaysWaiting (waiting_in s.stage host peer place) result out out' written
+abbrev pub WaitsHeld : Queued → ℕ → Option Held → List ℕ → List ℕ → ℕ → Type 0
+WaitsHeld queued result None out out' written = IsRefused NO_SESSION result out out' written
+WaitsHeld queued result (Some s) out out' written = SaysWaiting (waiting_in s.stage queued) result out out' written
 
-abbrev pub WaitsSession : ℕ → ℕ → ℕ → ℕ → Option Held → List ℕ → List ℕ → ℕ → Type 0
-WaitsSession host peer place result session out out' written = IsRefused NO_MEMORY result out out' written ⊎ WaitsHeld host peer place result session out out' written
+abbrev pub WaitsSession : Queued → ℕ → Option Held → List ℕ → List ℕ → ℕ → Type 0
+WaitsSession queued result session out out' written = IsRefused NO_MEMORY result out out' written ⊎ WaitsHeld queued result session out out' written

@@ -3,6 +3,7 @@ ghost use Rattle.std.specs.Prelude.{◌≡◌, ◌≢◌, [], false, IfSome};
 ghost use Rattle.ncp_web.specs.Bytes.{ShowsBytes, ChecksBytes, FollowsBytes, AuditsBytes, HandsOut, code_of_shown, code_of_checked};
 
 use crate::answer::{NO_MEMORY, conclude, copy_out};
+use crate::lent::{Lengths, Modes};
 use ncp_follow::Follower;
 use ncp_play_audit::{Auditor, audit};
 use ncp_play_files::{FileFault, check, show};
@@ -91,19 +92,18 @@ pub extern "C" fn ncp_web_show(
     alloc: Global,
     input: &[u8],
     out: &mut [u8],
-    written: &mut usize,
     error: &mut [u8],
-    told: &mut usize,
+    lengths: &mut Lengths,
 ) -> u32
-    ensures shown { HandsOut (ShowsBytes input.now) code_of_shown result out.old out.new written.new }
+    ensures shown { HandsOut (ShowsBytes input.now) code_of_shown result out.old out.new lengths.new.written }
 {
-    *written = 0;
+    lengths.written = 0;
     let Ok(mut sink) = MemorySink::new(alloc, out.len(), None) else {
         return NO_MEMORY;
     };
     let answer = shown(input, &mut sink);
-    *written = copy_out(&sink, out);
-    conclude_file(alloc, answer, error, told)
+    lengths.written = copy_out(&sink, out);
+    conclude_file(alloc, answer, error, &mut lengths.told)
 }
 
 /// `check`: the line of what a message file holds.
@@ -114,21 +114,20 @@ pub extern "C" fn ncp_web_check(
     alloc: Global,
     input: &[u8],
     out: &mut [u8],
-    written: &mut usize,
     error: &mut [u8],
-    told: &mut usize,
+    lengths: &mut Lengths,
 ) -> u32
-    ensures checked { HandsOut (ChecksBytes input.now) code_of_checked result out.old out.new written.new }
+    ensures checked { HandsOut (ChecksBytes input.now) code_of_checked result out.old out.new lengths.new.written }
 {
-    *written = 0;
+    lengths.written = 0;
     let Ok(mut sink) = MemorySink::new(alloc, out.len(), None) else {
         return NO_MEMORY;
     };
     let answer = checked(input, &mut sink);
-    *written = copy_out(&sink, out);
+    lengths.written = copy_out(&sink, out);
     match answer {
-        Ok(sound) => conclude(alloc, Ok(sound), error, told),
-        Err(fault) => conclude(alloc, Err(PlayFault::Feed(fault)), error, told),
+        Ok(sound) => conclude(alloc, Ok(sound), error, &mut lengths.told),
+        Err(fault) => conclude(alloc, Err(PlayFault::Feed(fault)), error, &mut lengths.told),
     }
 }
 
@@ -143,22 +142,21 @@ pub extern "C" fn ncp_web_follow(
     part: bool,
     input: &[u8],
     out: &mut [u8],
-    written: &mut usize,
     error: &mut [u8],
-    told: &mut usize,
+    lengths: &mut Lengths,
 ) -> u32
-    ensures followed { HandsOut (FollowsBytes part input.now) code_of_shown result out.old out.new written.new }
+    ensures followed { HandsOut (FollowsBytes part input.now) code_of_shown result out.old out.new lengths.new.written }
 {
-    *written = 0;
-    *told = 0;
+    lengths.written = 0;
+    lengths.told = 0;
     let Ok(mut sink) = MemorySink::new(alloc, out.len(), None) else {
         return NO_MEMORY;
     };
     let Some(answer) = followed(alloc, part, input, &mut sink) else {
         return NO_MEMORY;
     };
-    *written = copy_out(&sink, out);
-    conclude_file(alloc, answer, error, told)
+    lengths.written = copy_out(&sink, out);
+    conclude_file(alloc, answer, error, &mut lengths.told)
 }
 
 /// `audit`: the lines of the findings of a message file of version 2. Of a `part` of a capture nothing is known that was
@@ -169,27 +167,25 @@ pub extern "C" fn ncp_web_follow(
 #[unsafe(no_mangle)]
 pub extern "C" fn ncp_web_audit(
     alloc: Global,
-    part: bool,
-    standard: bool,
+    modes: &Modes,
     input: &[u8],
     out: &mut [u8],
-    written: &mut usize,
     error: &mut [u8],
-    told: &mut usize,
+    lengths: &mut Lengths,
 ) -> u32
-    ensures audited { HandsOut (AuditsBytes part standard input.now) code_of_checked result out.old out.new written.new }
+    ensures audited { HandsOut (AuditsBytes modes.now.part modes.now.standard input.now) code_of_checked result out.old out.new lengths.new.written }
 {
-    *written = 0;
-    *told = 0;
+    lengths.written = 0;
+    lengths.told = 0;
     let Ok(mut sink) = MemorySink::new(alloc, out.len(), None) else {
         return NO_MEMORY;
     };
-    let Some(answer) = audited(alloc, part, standard, input, &mut sink) else {
+    let Some(answer) = audited(alloc, modes.part, modes.standard, input, &mut sink) else {
         return NO_MEMORY;
     };
-    *written = copy_out(&sink, out);
+    lengths.written = copy_out(&sink, out);
     match answer {
-        Ok(clean) => conclude(alloc, Ok(clean), error, told),
-        Err(fault) => conclude(alloc, Err(PlayFault::Feed(fault)), error, told),
+        Ok(clean) => conclude(alloc, Ok(clean), error, &mut lengths.told),
+        Err(fault) => conclude(alloc, Err(PlayFault::Feed(fault)), error, &mut lengths.told),
     }
 }

@@ -3,8 +3,9 @@
 //! between. A static library.
 //!
 //! What a page has to uphold: a handle is all zeros before its first use, and then what these functions left there,
-//! neither altered nor copied and used twice; pointers lead to as much as their length says, and do not overlap. Each
-//! buffer for bytes has its length behind it, and how many bytes were written is answered in `written`.
+//! neither altered nor copied and used twice; pointers lead to as much as their length says, and do not overlap. What is
+//! lent is laid out as its struct, and a `bool` in it is 0 or 1. Each buffer for bytes has its length behind it, and how
+//! many bytes were written is answered in `written`, or in `Lengths`.
 //!
 //! - *Use:* `web/ncp.html`, whose module this library is.
 //! - *Proved:* what is written is what the players and the readers of files write (clauses `played`, `recorded`,
@@ -19,6 +20,7 @@ mod faults;
 mod files;
 mod handle;
 pub mod laws;
+mod lent;
 mod readers;
 mod reading;
 mod scripts;
@@ -31,6 +33,7 @@ pub use answer::{
     BAD, DONE, FAULT, FULL, GOES_ON, LONGEST_MESSAGE, NO_LINE, NO_MEMORY, NO_SESSION, NOTHING,
 };
 pub use handle::Handle;
+pub use lent::{Lengths, LinkBetween, Modes, Queued, Sender};
 pub use readers::{Books, Quantity};
-pub use stage::{ManyStage, Stage, TwoStage};
+pub use stage::{ManyStage, Stage, StageOf, TwoStage};
 pub use transit::Fate;

@@ -13,6 +13,7 @@ ghost use Rattle.ncp_web.specs.Readings.{quantity_of, books_of, message_over, wa
 
 use crate::answer::{DONE, FULL, LONGEST_MESSAGE, NO_MEMORY, NO_SESSION, NOTHING, copy_out};
 use crate::handle::{Handle, put, take};
+use crate::lent::{LinkBetween, Queued, Sender};
 use crate::reading::reading;
 use crate::session::code_of_refusal;
 use crate::stage::{ManyStage, Refusal, Stage, TwoStage, side_of};
@@ -82,17 +83,17 @@ fn write_message(message: &Part<'_>, out: &mut [u8]) -> usize
 }
 
 // The command that waits at a host for a peer at a place.
-fn waiting_at(stage: &Stage, host: u8, peer: u8, place: u32) -> Option<Command>
-    ensures { result ≡ waiting_in stage.now host peer place }
+fn waiting_at(stage: &Stage, queued: &Queued) -> Option<Command>
+    ensures { result ≡ waiting_in stage.now queued.now }
 {
-    stage.host(host)?.waiting(peer, place)
+    stage.host(queued.host)?.waiting(queued.peer, queued.place)
 }
 
 // The message that a host keeps for a peer on a link.
-fn kept_at<'a>(stage: &'a Stage, host: u8, peer: u8, link: u8) -> Option<&'a Bits>
-    ensures { option_copied result ≡ kept_in stage.now host peer link }
+fn kept_at<'a>(stage: &'a Stage, between: &LinkBetween) -> Option<&'a Bits>
+    ensures { option_copied result ≡ kept_in stage.now between.now }
 {
-    stage.host(host)?.kept(peer, link)
+    stage.host(between.host)?.kept(between.peer, between.link)
 }
 
 // The message that a host noted which went out, or came.
@@ -145,14 +146,18 @@ fn message_of(stage: &Stage, number: usize) -> Option<&Message>
 }
 
 // The ledger of a sender of two hosts.
-fn ledger_at(stage: &Stage, host: u8, pair: Pair) -> Option<Ledger>
-    ensures { result ≡ ledger_of_stage stage.now host pair }
+fn ledger_at(stage: &Stage, sender: &Sender) -> Option<Ledger>
+    ensures { result ≡ ledger_of_stage stage.now sender.now }
 {
+    let pair = Pair {
+        local: sender.local,
+        remote: sender.remote,
+    };
     match stage {
         Stage::Two(two) => two
             .hosts
             .world()
-            .ledger(side_of(two.first.hosts, host)?, pair),
+            .ledger(side_of(two.first.hosts, sender.host)?, pair),
         Stage::Many(_) => None,
     }
 }
@@ -341,21 +346,19 @@ pub extern "C" fn ncp_web_ask(
     code_of_asking(asked)
 }
 
-/// `Host::waiting`: the line of the command that waits at a host for a peer, at a place from the front, the first at 0.
+/// `Host::waiting`: the line of the command that waits at a host for a peer, at its place.
 ///
 /// Refused, in this order: `NO_MEMORY`, `NO_SESSION`, `NOTHING` (there is no such host, peer or command), `FULL`.
 #[unsafe(no_mangle)]
 pub extern "C" fn ncp_web_waiting(
     alloc: Global,
     handle: &mut Handle,
-    host: u8,
-    peer: u8,
-    place: u32,
+    queued: &Queued,
     out: &mut [u8],
     written: &mut usize,
 ) -> u32
     ensures session { handle.new.session ≡ handle.old.session }
-    ensures waits { WaitsSession host peer place result handle.old.session out.old out.new written.new }
+    ensures waits { WaitsSession queued.now result handle.old.session out.old out.new written.new }
 {
     *written = 0;
     let Ok(mut sink) = MemorySink::new(alloc, out.len(), None) else {
@@ -364,7 +367,7 @@ pub extern "C" fn ncp_web_waiting(
     let Some(held) = take(alloc, handle) else {
         return NO_SESSION;
     };
-    let waiting = waiting_at(&held.stage, host, peer, place);
+    let waiting = waiting_at(&held.stage, queued);
     put(handle, held);
     let Some(command) = waiting else {
         return NOTHING;
@@ -381,16 +384,14 @@ pub extern "C" fn ncp_web_waiting(
 pub extern "C" fn ncp_web_kept(
     alloc: Global,
     handle: &mut Handle,
-    host: u8,
-    peer: u8,
-    link: u8,
+    between: &LinkBetween,
     out: &mut [u8],
     bits: &mut usize,
 ) -> u32
     ensures session { handle.new.session ≡ handle.old.session }
-    ensures code { result ≡ with_room out.old FULL (code_found (λ s. kept_in s host peer link) handle.old.session) }
-    ensures message { out.new ≡ with_room out.old out.old (written_if_any (λ m. message_over m out.old) (found_in (λ s. kept_in s host peer link) handle.old.session) out.old) }
-    ensures bits { bits.new ≡ with_room out.old bits.old (written_if_any length (found_in (λ s. kept_in s host peer link) handle.old.session) bits.old) }
+    ensures code { result ≡ with_room out.old FULL (code_found (λ s. kept_in s between.now) handle.old.session) }
+    ensures message { out.new ≡ with_room out.old out.old (written_if_any (λ m. message_over m out.old) (found_in (λ s. kept_in s between.now) handle.old.session) out.old) }
+    ensures bits { bits.new ≡ with_room out.old bits.old (written_if_any length (found_in (λ s. kept_in s between.now) handle.old.session) bits.old) }
 {
     if out.len() < LONGEST_MESSAGE {
         return FULL;
@@ -398,7 +399,7 @@ pub extern "C" fn ncp_web_kept(
     let Some(held) = take(alloc, handle) else {
         return NO_SESSION;
     };
-    let told = match kept_at(&held.stage, host, peer, link) {
+    let told = match kept_at(&held.stage, between) {
         Some(message) => {
             *bits = write_message(&message.whole(), out);
             DONE
@@ -443,26 +444,24 @@ pub extern "C" fn ncp_web_message(
     told
 }
 
-/// `World::ledger`: what an open connection has outstanding, and where it is. The host and the pair are the sender's.
+/// `World::ledger`: what an open connection has outstanding, and where it is.
 ///
 /// Refused, in this order: `NO_SESSION`, `NOTHING` (no such host, an end is not open, or more than two hosts).
 #[unsafe(no_mangle)]
 pub extern "C" fn ncp_web_ledger(
     alloc: Global,
     handle: &mut Handle,
-    host: u8,
-    local: u32,
-    remote: u32,
+    sender: &Sender,
     out: &mut Books,
 ) -> u32
     ensures session { handle.new.session ≡ handle.old.session }
-    ensures code { result ≡ code_found (λ s. ledger_of_stage s host (record { local = local; remote = remote })) handle.old.session }
-    ensures told { out.new ≡ written_if_any books_of (found_in (λ s. ledger_of_stage s host (record { local = local; remote = remote })) handle.old.session) out.old }
+    ensures code { result ≡ code_found (λ s. ledger_of_stage s sender.now) handle.old.session }
+    ensures told { out.new ≡ written_if_any books_of (found_in (λ s. ledger_of_stage s sender.now) handle.old.session) out.old }
 {
     let Some(held) = take(alloc, handle) else {
         return NO_SESSION;
     };
-    let ledger = ledger_at(&held.stage, host, Pair { local, remote });
+    let ledger = ledger_at(&held.stage, sender);
     put(handle, held);
     match ledger {
         Some(ledger) => {
@@ -473,7 +472,7 @@ pub extern "C" fn ncp_web_ledger(
     }
 }
 
-/// What became of the last message from a host to another on a link, as the subnet has it: the number of its
+/// What became of the last message from a host to a peer on a link, as the subnet has it: the number of its
 /// [`crate::Fate`].
 ///
 /// Refused: `NO_SESSION`. Where they are no two hosts of the session nothing is underway: `Free`.
@@ -481,19 +480,17 @@ pub extern "C" fn ncp_web_ledger(
 pub extern "C" fn ncp_web_transit(
     alloc: Global,
     handle: &mut Handle,
-    from: u8,
-    to: u8,
-    link: u8,
+    between: &LinkBetween,
     out: &mut u32,
 ) -> u32
     ensures session { handle.new.session ≡ handle.old.session }
-    ensures code { result ≡ code_found (λ s. Some (fate_in s from to link)) handle.old.session }
-    ensures fate { out.new ≡ written_if_any number_of_fate (found_in (λ s. Some (fate_in s from to link)) handle.old.session) out.old }
+    ensures code { result ≡ code_found (λ s. Some (fate_in s between.now)) handle.old.session }
+    ensures fate { out.new ≡ written_if_any number_of_fate (found_in (λ s. Some (fate_in s between.now)) handle.old.session) out.old }
 {
     let Some(held) = take(alloc, handle) else {
         return NO_SESSION;
     };
-    let fate = held.stage.fate(from, to, link);
+    let fate = held.stage.fate(between);
     put(handle, held);
     *out = fate.number();
     DONE

@@ -3,6 +3,7 @@ ghost use Rattle.std.specs.Prelude.{◌≡◌, [], false};
 ghost use Rattle.ncp_web.specs.Bytes.{PlaysBytes, RecordsBytes, PlaysHostBytes, HandsOut, code_of_played};
 
 use crate::answer::{NO_MEMORY, conclude, copy_out};
+use crate::lent::Lengths;
 use ncp_bits::PackedStore;
 use ncp_play_host::play_host;
 use ncp_play_notes::PlayFault;
@@ -49,19 +50,18 @@ pub extern "C" fn ncp_web_play(
     alloc: Global,
     input: &[u8],
     out: &mut [u8],
-    written: &mut usize,
     error: &mut [u8],
-    told: &mut usize,
+    lengths: &mut Lengths,
 ) -> u32
-    ensures played { HandsOut (PlaysBytes input.now) code_of_played result out.old out.new written.new }
+    ensures played { HandsOut (PlaysBytes input.now) code_of_played result out.old out.new lengths.new.written }
 {
-    *written = 0;
+    lengths.written = 0;
     let Ok(mut sink) = MemorySink::new(alloc, out.len(), None) else {
         return NO_MEMORY;
     };
     let answer = played(alloc, input, &mut sink);
-    *written = copy_out(&sink, out);
-    conclude(alloc, answer, error, told)
+    lengths.written = copy_out(&sink, out);
+    conclude(alloc, answer, error, &mut lengths.told)
 }
 
 /// `record_world`: a script of two hosts, or of two to eight, as a message file. It answers as [`ncp_web_play`] does.
@@ -70,19 +70,18 @@ pub extern "C" fn ncp_web_record(
     alloc: Global,
     input: &[u8],
     out: &mut [u8],
-    written: &mut usize,
     error: &mut [u8],
-    told: &mut usize,
+    lengths: &mut Lengths,
 ) -> u32
-    ensures recorded { HandsOut (RecordsBytes input.now) code_of_played result out.old out.new written.new }
+    ensures recorded { HandsOut (RecordsBytes input.now) code_of_played result out.old out.new lengths.new.written }
 {
-    *written = 0;
+    lengths.written = 0;
     let Ok(mut sink) = MemorySink::new(alloc, out.len(), None) else {
         return NO_MEMORY;
     };
     let answer = recorded(alloc, input, &mut sink);
-    *written = copy_out(&sink, out);
-    conclude(alloc, answer, error, told)
+    lengths.written = copy_out(&sink, out);
+    conclude(alloc, answer, error, &mut lengths.told)
 }
 
 /// `play_host`: the lines of a script of one host. It answers as [`ncp_web_play`] does.
@@ -91,17 +90,16 @@ pub extern "C" fn ncp_web_host(
     alloc: Global,
     input: &[u8],
     out: &mut [u8],
-    written: &mut usize,
     error: &mut [u8],
-    told: &mut usize,
+    lengths: &mut Lengths,
 ) -> u32
-    ensures played { HandsOut (PlaysHostBytes input.now) code_of_played result out.old out.new written.new }
+    ensures played { HandsOut (PlaysHostBytes input.now) code_of_played result out.old out.new lengths.new.written }
 {
-    *written = 0;
+    lengths.written = 0;
     let Ok(mut sink) = MemorySink::new(alloc, out.len(), None) else {
         return NO_MEMORY;
     };
     let answer = host_played(alloc, input, &mut sink);
-    *written = copy_out(&sink, out);
-    conclude(alloc, answer, error, told)
+    lengths.written = copy_out(&sink, out);
+    conclude(alloc, answer, error, &mut lengths.told)
 }

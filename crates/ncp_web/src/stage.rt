@@ -7,25 +7,23 @@ use ncp_bits::PackedStore;
 use ncp_host::Host;
 use ncp_play_scene::Scene;
 use ncp_play_script::{TwoHosts, Words, is_many};
-use ncp_play_world::{FirstLine, ManyHosts, ManyPlayed, ManyStaged, TwoPlayed, TwoStaged};
+use ncp_play_world::{ManyPlayed, TwoPlayed};
 use ncp_world::Side;
 use std::alloc::Global;
 
-/// Two hosts, with the first line of their script, and how many notes the line has left that is not at its end.
+/// Hosts, with the first line of their script, and how many notes the line has left that is not at its end.
 #[derive(Drop)]
-pub struct TwoStage {
-    pub first: FirstLine,
-    pub hosts: TwoStaged<PackedStore>,
+pub struct StageOf<C: Scene> {
+    pub first: C::First,
+    pub hosts: C::Hosts,
     pub left: usize,
 }
 
-/// The same of two to eight hosts.
-#[derive(Drop)]
-pub struct ManyStage {
-    pub first: ManyHosts,
-    pub hosts: ManyStaged<PackedStore>,
-    pub left: usize,
-}
+/// Two hosts.
+pub type TwoStage = StageOf<TwoPlayed<PackedStore>>;
+
+/// Two to eight hosts.
+pub type ManyStage = StageOf<ManyPlayed<PackedStore>>;
 
 /// The hosts of a session.
 #[derive(Drop)]

@@ -3,7 +3,7 @@ ghost use Rattle.std.specs.Prelude.{◌≡◌, if◌then◌else◌, [], Some};
 ghost use Rattle.ncp_play_page.specs.Outlets.{SameOutlet};
 ghost use Rattle.ncp_web.specs.Sessions.{Notes, Reads, Steps, StepsStage, note_number};
 
-use crate::stage::{Refusal, Stage};
+use crate::stage::{Refusal, Stage, StageOf};
 use ncp_bits::PackedStore;
 use ncp_play_page::{Outlet, Page};
 use ncp_play_scene::{Scene, Teller};
@@ -65,22 +65,27 @@ fn event_in<C: Scene>(alloc: Global, first: &C::First, line: &[u8]) -> Result<C:
 // The next part of the event that a line asks for happens, and what is told of its note is written to an empty sink.
 fn stepped<C: Scene, T: Teller<C>>(
     alloc: Global,
-    first: &C::First,
-    hosts: &mut C::Hosts,
-    left: &mut usize,
+    stage: &mut StageOf<C>,
     line: &[u8],
     sink: &mut MemorySink,
 ) -> Result<bool, Refusal>
     requires empty { sink.old.written ≡ [] }
-    ensures { Steps C.rules (T.tale first.now) first.now line.now left.old hosts.old result left.new hosts.new sink.new.written }
+    ensures steps { Steps C.rules (T.tale stage.old.first) stage.old.first line.now stage.old.left stage.old.hosts result stage.new.left stage.new.hosts sink.new.written }
+    ensures first { stage.new.first ≡ stage.old.first }
 {
-    let event = event_in::<C>(alloc, first, line)?;
+    let event = event_in::<C>(alloc, &stage.first, line)?;
     let mut page = Page::new();
     let mut out = Outlet {
         page: &mut page,
         sink,
     };
-    let more = noted::<C, T>(first, hosts, &event, left, &mut out)?;
+    let more = noted::<C, T>(
+        &stage.first,
+        &mut stage.hosts,
+        &event,
+        &mut stage.left,
+        &mut out,
+    )?;
     match out.flush() {
         Ok(()) => Ok(more),
         Err(_) => Err(Refusal::Full),
@@ -100,22 +105,12 @@ impl Stage {
         ensures { StepsStage line.now self.old result self.new sink.new.written }
     {
         match self {
-            Stage::Two(two) => stepped::<TwoPlayed<PackedStore>, NoteLines>(
-                alloc,
-                &two.first,
-                &mut two.hosts,
-                &mut two.left,
-                line,
-                sink,
-            ),
-            Stage::Many(of_many) => stepped::<ManyPlayed<PackedStore>, NoteLines>(
-                alloc,
-                &of_many.first,
-                &mut of_many.hosts,
-                &mut of_many.left,
-                line,
-                sink,
-            ),
+            Stage::Two(two) => {
+                stepped::<TwoPlayed<PackedStore>, NoteLines>(alloc, two, line, sink)
+            }
+            Stage::Many(of_many) => {
+                stepped::<ManyPlayed<PackedStore>, NoteLines>(alloc, of_many, line, sink)
+            }
         }
     }
 }

@@ -5,6 +5,7 @@ ghost use Rattle.ncp_web.specs.Fates.{number_of_fate, leader_out, is_leader_on, 
 ghost use Rattle.ncp_web.specs.Readings.{fate_in};
 ghost use Rattle.ncp_web.specs.Sessions.{side_at};
 
+use crate::lent::LinkBetween;
 use crate::stage::{ManyStage, Stage, TwoStage, side_of};
 use ncp_bits::PackedStore;
 use ncp_leader::{Leader, REGULAR, read_leader_in};
@@ -212,13 +213,14 @@ fn fate_among(of_many: &ManyStage, sender: u8, peer: u8, link: u8) -> Fate
 }
 
 impl Stage {
-    /// What became of the last message from a host to another on a link.
-    pub(crate) fn fate(&self, sender: u8, peer: u8, link: u8) -> Fate
-        ensures { result ≡ fate_in self.now sender peer link }
+    /// What became of the last message from a host to a peer on a link.
+    pub(crate) fn fate(&self, between: &LinkBetween) -> Fate
+        ensures { result ≡ fate_in self.now between.now }
     {
+        let LinkBetween { host, peer, link } = *between;
         match self {
-            Stage::Two(two) => fate_between(two, sender, peer, link),
-            Stage::Many(of_many) => fate_among(of_many, sender, peer, link),
+            Stage::Two(two) => fate_between(two, host, peer, link),
+            Stage::Many(of_many) => fate_among(of_many, host, peer, link),
         }
     }
 }

@@ -6,9 +6,9 @@ use Rattle.ncp_web.proofs.readers.ncp_web_waiting.Goals as goal
 
 pub returns-clause-waits : goal.returns-clause-waits
 returns-clause-waits c =
-    let host = c.args.host in let peer = c.args.peer in let place = c.args.place in let code = c.code_of_saying.result in
+    let queued = c.args.queued.now in let code = c.code_of_saying.result in
     let before = c.args.out.now in let now = c.copy_out.new.out in let written = c.copy_out.result in
-    let waits = sym c.in-Some-waiting.is ∙ c.waiting_at-waiting.ensures ∙ ap (λ (held : Held). waiting_in held.stage host peer place) c.deref.ensures in
-    inr (subst (λ (s : Option Held). WaitsHeld host peer place code s before now written) c.in-Some.ensures.held
+    let waits = sym c.in-Some-waiting.is ∙ c.waiting_at-waiting.ensures ∙ ap (λ (held : Held). waiting_in held.stage queued) c.deref.ensures in
+    inr (subst (λ (s : Option Held). WaitsHeld queued code s before now written) c.in-Some.ensures.held
     (subst (λ (w : Option Command). SaysWaiting w code before now written) waits
     (c.say_command-said.result, c.say_command-said.new.sink.written, c.say_command-said.ensures, c.code_of_saying.ensures, (c.copy_out.ensures.count, c.copy_out.ensures.front, c.copy_out.ensures.rest))))
