@@ -2,7 +2,7 @@
 //! and why a script is not played on.
 //!
 //! The line of a note is written in `note_lines.rt` (`say_note`), its result in `results.rt`, what became of bits in
-//! `arrived.rt`.
+//! `arrived.rt`. The lines of a subnet are in `ncp_play_world_lines`.
 //!
 //! - *Use:* `ncp_play_host` and `ncp_play_feed` play inputs by `play_input`; `ncp_play_world_lines` writes notes of
 //!   hosts by `say_note`.
