@@ -101,6 +101,11 @@ class Indexing(unittest.TestCase):
         self.assertNotIn("unseen", page)
         self.assertTrue(page.endswith("By hand.\n"))
 
+    def test_what_the_tests_call_of_their_own_is_no_call_of_a_type(self):
+        self.write("crates/ncp_test_low/src/lib.rt", TESTS.replace("Kept::new().keep(3)", "keep(3)"))
+        self.assertEqual(self.index().returncode, 0)
+        self.assertIn(ROW.replace("`ncp_test_low/lib`", ""), self.page())
+
     def test_what_was_written_is_as_it_would_be_written(self):
         self.index()
         self.assertEqual(self.index("--check").returncode, 0)

@@ -3,6 +3,7 @@
 mod allocation;
 mod closing;
 mod connection;
+mod copies;
 mod memory;
 mod requests;
 mod steps;

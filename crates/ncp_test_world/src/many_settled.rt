@@ -31,6 +31,25 @@ fn three_come_up<S: BitStore>(rt: &impl Abort, alloc: Global) -> Result<(), Fail
     Ok(())
 }
 
+// One event after the other, host 1 first: what it sends comes to 2 and then to 3, and each of them replies.
+fn come_up_by_single_events<S: BitStore>(rt: &impl Abort, alloc: Global) -> Result<(), Fail> {
+    let mut tried: ManyTried<S> = ManyTried::new(alloc, &THREE)?;
+    assert!(rt; tried.goes_on_once() == Some(false));
+    tried.does(rt, &reset(1, 2));
+    tried.does(rt, &reset(1, 3));
+    for many in 3..15 {
+        assert!(rt; tried.goes_on_once() == Some(true) && tried.notes().len() == many);
+    }
+    assert!(rt; tried.goes_on_once() == Some(false) && tried.notes().len() == 14);
+    assert!(rt; tried.is_up(1, 2) && tried.is_up(2, 1) && tried.is_up(1, 3) && tried.is_up(3, 1));
+    Ok(())
+}
+
+#[test]
+fn single_events_bring_three_up(rt: HostRuntime) -> Result<(), Fail> {
+    come_up_by_single_events::<PackedStore>(&rt, rt.alloc())
+}
+
 #[test]
 fn three_come_up_over_packed_bits(rt: HostRuntime) -> Result<(), Fail> {
     three_come_up::<PackedStore>(&rt, rt.alloc())

@@ -89,6 +89,11 @@ impl<S: BitStore> ManyTried<S> {
         self.many.settle().is_ok()
     }
 
+    /// Whether there was an event to go on by; none where memory is refused.
+    pub(super) fn goes_on_once(&mut self) -> Option<bool> {
+        self.many.go_on().ok()
+    }
+
     /// What is read of a host, if it is there.
     pub(super) fn reading(&self, host: u8, peer: u8) -> Option<Reading> {
         match self.many.host(host) {

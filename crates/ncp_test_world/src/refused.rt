@@ -73,6 +73,9 @@ trait Hosts: Drop + Sized {
     /// Whether settling is answered Ok.
     fn settle(&mut self) -> bool;
 
+    /// Whether there was an event to go on by; none where memory is refused.
+    fn go_on(&mut self) -> Option<bool>;
+
     fn transcript(&self) -> &[Self::Note];
 
     /// Whether a note says that a call was refused for want of memory.
@@ -212,14 +215,56 @@ fn settles_behind<H: Hosts>(rt: &impl Abort, hosts: &mut H, event: &H::Event) ->
     refused
 }
 
-/// Settles behind a reset twice, and compares: both note the same seven notes. Whether memory was refused.
+/// Both note the same seven notes: those of a reset, and of what it brings about.
+fn come_up_alike<H: Hosts>(rt: &impl Abort, alloc: Global, one: &H, other: &H) -> Result<(), Fail> {
+    let is_noted = notes_refusal(rt, alloc, 7, one, other)?;
+    assert!(rt; !is_noted);
+    Ok(())
+}
+
+/// Settles behind a reset twice, and compares. Whether memory was refused.
 fn settle_alike<H: Hosts>(rt: &impl Abort, alloc: Global, reset: &H::Event) -> Result<bool, Fail> {
     let (mut one, _refused) = made::<H>(rt, alloc)?;
     let (mut other, _refused) = made::<H>(rt, alloc)?;
     let first = settles_behind(rt, &mut one, reset);
     let second = settles_behind(rt, &mut other, reset);
-    let is_noted = notes_refusal(rt, alloc, 7, &one, &other)?;
-    assert!(rt; !is_noted);
+    come_up_alike(rt, alloc, &one, &other)?;
+    Ok(first || second)
+}
+
+/// Goes on by one event, and once more where memory is refused: then nothing happened. Whether there was an event, and
+/// whether memory was refused.
+fn goes_on<H: Hosts>(rt: &impl Abort, hosts: &mut H) -> (bool, bool) {
+    let count = hosts.transcript().len();
+    let before = hosts.readings();
+    match hosts.go_on() {
+        Some(more) => (more, false),
+        None => {
+            assert!(rt; hosts.transcript().len() == count && hosts.readings() == before);
+            (hosts.go_on().expect(rt, "refused twice"), true)
+        }
+    }
+}
+
+/// Goes on behind a reset by its six events, and then there is none. Whether memory was refused.
+fn goes_on_behind<H: Hosts>(rt: &impl Abort, hosts: &mut H, reset: &H::Event) -> bool {
+    let mut refused = false;
+    let _refused = does(rt, hosts, reset);
+    for place in 0..7 {
+        let (more, again) = goes_on(rt, hosts);
+        assert!(rt; more == (place < 6));
+        refused = refused || again;
+    }
+    refused
+}
+
+/// Goes on behind a reset twice, and compares. Whether memory was refused.
+fn go_on_alike<H: Hosts>(rt: &impl Abort, alloc: Global, reset: &H::Event) -> Result<bool, Fail> {
+    let (mut one, _refused) = made::<H>(rt, alloc)?;
+    let (mut other, _refused) = made::<H>(rt, alloc)?;
+    let first = goes_on_behind(rt, &mut one, reset);
+    let second = goes_on_behind(rt, &mut other, reset);
+    come_up_alike(rt, alloc, &one, &other)?;
     Ok(first || second)
 }
 

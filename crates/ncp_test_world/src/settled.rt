@@ -12,8 +12,8 @@ use std::alloc::Global;
 use std::process::Abort;
 use std::test::Fail;
 
-/// What a reset brings about, and then a request of each side: the messages of side A first.
-const OPENED: &[Wanted<'static>] = &[
+/// What a reset brings about.
+const UP: &[Wanted<'static>] = &[
     Wanted::Done,
     Wanted::Out(RST),
     Wanted::Came(RST_CAME, CONTROL),
@@ -21,6 +21,10 @@ const OPENED: &[Wanted<'static>] = &[
     Wanted::Out(RRP),
     Wanted::Came(RRP_CAME, CONTROL),
     Wanted::Answered(Answer::Rfnm),
+];
+
+/// And then a request of each side: the messages of side A first.
+const OPENED: &[Wanted<'static>] = &[
     Wanted::Done,
     Wanted::Done,
     Wanted::Out(STR),
@@ -36,10 +40,24 @@ fn opens<S: BitStore>(rt: &impl Abort, tried: &mut Tried<S>) {
     assert!(rt; tried.settles(rt) == 0);
     tried.does(rt, &RESET_A);
     assert!(rt; tried.settles(rt) == 6);
+    say(rt, tried.notes(), 0, UP);
     tried.does(rt, &ASK_SEND);
     tried.does(rt, &ASK_RECEIVE);
     assert!(rt; tried.settles(rt) == 6 && tried.settles(rt) == 0);
-    say(rt, tried.notes(), 0, OPENED);
+    say(rt, tried.notes(), UP.len(), OPENED);
+}
+
+// One event after the other makes what settling makes, and then there is none.
+fn comes_up_by_single_events<S: BitStore>(rt: &impl Abort, alloc: Global) -> Result<(), Fail> {
+    let mut tried: Tried<S> = Tried::new(alloc)?;
+    assert!(rt; tried.goes_on_once() == Some(false));
+    tried.does(rt, &RESET_A);
+    for many in 2..8 {
+        assert!(rt; tried.goes_on_once() == Some(true) && tried.notes().len() == many);
+    }
+    assert!(rt; tried.goes_on_once() == Some(false));
+    say(rt, tried.notes(), 0, UP);
+    Ok(())
 }
 
 fn calls_open<S: BitStore>(rt: &impl Abort, alloc: Global) -> Result<(), Fail> {
@@ -101,6 +119,12 @@ fn texts_go_on<S: BitStore>(rt: &impl Abort, alloc: Global) -> Result<(), Fail> 
 fn calls_open_over_either_store(rt: HostRuntime) -> Result<(), Fail> {
     calls_open::<PlainStore>(&rt, rt.alloc())?;
     calls_open::<PackedStore>(&rt, rt.alloc())
+}
+
+#[test]
+fn single_events_come_up_over_either_store(rt: HostRuntime) -> Result<(), Fail> {
+    comes_up_by_single_events::<PlainStore>(&rt, rt.alloc())?;
+    comes_up_by_single_events::<PackedStore>(&rt, rt.alloc())
 }
 
 #[test]

@@ -86,6 +86,11 @@ impl<S: BitStore> Tried<S> {
         self.world.settle().is_ok()
     }
 
+    /// Whether there was an event to go on by; none where memory is refused.
+    pub(super) fn goes_on_once(&mut self) -> Option<bool> {
+        self.world.go_on().ok()
+    }
+
     /// What is read of a host.
     pub(super) fn reading(&self, side: Side, other: u8) -> Reading {
         reading_of(self.world.host(side), other)

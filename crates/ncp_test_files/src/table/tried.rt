@@ -2,7 +2,7 @@
 use super::steps::{Call, Say, Step, err, heard, made};
 use super::{INWARD, LINK, OUTWARD};
 use ncp_bits::{BitStore, Bits};
-use ncp_conn::{CallFault, Heard, Pair, Table};
+use ncp_conn::{CallFault, Heard, Pair, Record, Table};
 use ncp_terms::Command;
 use std::alloc::{AllocError, Global};
 use std::process::Abort;
@@ -86,6 +86,40 @@ impl<S: BitStore> Tried<S> {
             Call::Interrupt(pair) => Ok(Some(self.table.interrupt(*pair, full)?)),
             Call::AskSend(..) | Call::AskReceive(..) | Call::Close(_) => Err(CallFault::NoEntry),
         }
+    }
+
+    /// A copy of the table.
+    pub(super) fn copy(&self, alloc: Global) -> Result<Self, AllocError> {
+        Ok(Tried {
+            table: self.table.copy(alloc)?,
+        })
+    }
+
+    /// Whether a connection of another table is put into this one, with a copy of what it stores.
+    pub(super) fn puts_back(
+        &mut self,
+        alloc: Global,
+        other: &Self,
+        pair: Pair,
+    ) -> Result<bool, AllocError> {
+        let Some(record) = other.table.record(pair) else {
+            return Ok(false);
+        };
+        let store = other.table.stored(alloc, pair)?;
+        Ok(self.table.restore(pair, &record, store).is_ok())
+    }
+
+    /// Whether this connection, with this room, is the only one, and is found by its place and by its link.
+    pub(super) fn has_only(&self, pair: Pair, known: Record, room: u32) -> bool {
+        let is_first = match self.table.connection_at(0) {
+            Some((found, record)) => found == pair && record == known,
+            None => false,
+        };
+        is_first
+            && self.table.connection_at(1).is_none()
+            && self.table.room(pair) == Some(room)
+            && self.table.pair_on(known.end, known.link) == Some(pair)
+            && self.table.pair_on(known.end, 0).is_none()
     }
 
     /// Whether there is no such connection.

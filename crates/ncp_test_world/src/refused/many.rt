@@ -1,5 +1,5 @@
 //! Three hosts with their subnet.
-use super::{Hosts, is_made_again, runs, settle_alike, steps, tell, wants_memory};
+use super::{Hosts, go_on_alike, is_made_again, runs, settle_alike, steps, tell, wants_memory};
 use crate::many::{RECEIVER, SENDER, THREE};
 use crate::many_tried::ManyTried;
 use crate::reading::Reading;
@@ -36,6 +36,10 @@ impl<S: BitStore> Hosts for ManyTried<S> {
 
     fn settle(&mut self) -> bool {
         self.settles_once()
+    }
+
+    fn go_on(&mut self) -> Option<bool> {
+        self.goes_on_once()
     }
 
     fn transcript(&self) -> &[ManyNote] {
@@ -182,6 +186,17 @@ fn many_settle(rt: HostRuntime) -> Result<(), Fail> {
         &rt,
         plain || packed,
         "what happened before stands, and the rest may be asked for again",
+    )
+}
+
+#[test]
+fn many_go_on(rt: HostRuntime) -> Result<(), Fail> {
+    let plain = go_on_alike::<ManyTried<PlainStore>>(&rt, rt.alloc(), &OPENING[0])?;
+    let packed = go_on_alike::<ManyTried<PackedStore>>(&rt, rt.alloc(), &OPENING[0])?;
+    tell(
+        &rt,
+        plain || packed,
+        "nothing happened, and the same event may be asked for again",
     )
 }
 

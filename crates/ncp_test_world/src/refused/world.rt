@@ -1,5 +1,5 @@
 //! Two hosts with their subnet.
-use super::{Hosts, is_made_again, runs, settle_alike, steps, tell, wants_memory};
+use super::{Hosts, go_on_alike, is_made_again, runs, settle_alike, steps, tell, wants_memory};
 use crate::events::{RESET_A, Script, events_of};
 use crate::reading::Reading;
 use crate::tried::{A, B, Tried};
@@ -36,6 +36,10 @@ impl<S: BitStore> Hosts for Tried<S> {
         self.settles_once()
     }
 
+    fn go_on(&mut self) -> Option<bool> {
+        self.goes_on_once()
+    }
+
     fn transcript(&self) -> &[Note] {
         self.notes()
     }
@@ -70,6 +74,17 @@ fn world_settle(rt: HostRuntime) -> Result<(), Fail> {
         &rt,
         plain || packed,
         "what happened before stands, and the rest may be asked for again",
+    )
+}
+
+#[test]
+fn world_go_on(rt: HostRuntime) -> Result<(), Fail> {
+    let plain = go_on_alike::<Tried<PlainStore>>(&rt, rt.alloc(), &RESET_A)?;
+    let packed = go_on_alike::<Tried<PackedStore>>(&rt, rt.alloc(), &RESET_A)?;
+    tell(
+        &rt,
+        plain || packed,
+        "nothing happened, and the same event may be asked for again",
     )
 }
 
