@@ -193,8 +193,8 @@ def works():
     """Each subcommand with each example that it reads."""
     for file in sorted(glob.glob(os.path.join(TOP, "examples", "*.ncp"))):
         yield from ((["show"], file), (["check"], file), (["convert", "--at", "1"], file))
-    for word in ("audit", "follow"):
-        yield [word], os.path.join(TOP, "examples", "broken.ncp")  # one with findings, so that something is written
+    for word, file in (("audit", "broken.ncp"), ("follow", "texts.ncp")):
+        yield [word], os.path.join(TOP, "examples", file)  # one of which something is told, so that something is written
     for script in sorted(glob.glob(os.path.join(TOP, "examples", "*.script"))):
         with open(script) as lines:
             first = next(line for line in lines if line.strip() and not line.startswith("#")).split()[0]

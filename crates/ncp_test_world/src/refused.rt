@@ -144,8 +144,10 @@ fn does<H: Hosts>(rt: &impl Abort, hosts: &mut H, event: &H::Event) -> bool {
 
 /// Whether the last of two lists of notes say the same.
 fn end_alike<H: Hosts>(alloc: Global, one: &H, other: &H) -> Result<bool, AllocError> {
-    let last = one.transcript().len().saturating_sub(1);
-    is_same_at(alloc, one.transcript(), other.transcript(), last)
+    match (one.transcript().last(), other.transcript().last()) {
+        (Some(note), Some(other)) => is_same(alloc, note, other),
+        _ => Ok(false),
+    }
 }
 
 /// Does all events at two hosts, which note the same. Whether memory was refused.
