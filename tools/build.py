@@ -1,7 +1,7 @@
 #!/usr/bin/env python3
-"""Proves and builds a crate with all that it stands on, crates that do not stand on one another side by side.
+"""Proves and builds crates with all that they stand on, those that do not stand on one another side by side.
 
-    tools/build.py NAME
+    tools/build.py NAME..
 
 The toolchain builds one crate at a time in a checkout. So each lane but the first has a room of its own, a copy of the
 crates' sources with what the checkout has built, and what one lane has built is given to all; the first lane works in the
@@ -97,9 +97,9 @@ def lanes():
 class Build:
     """A build under way. What is left waits for what it uses, and those with the longest chain come first."""
 
-    def __init__(self, top):
-        self.top, self.uses = top, uses_of_crates()
-        self.crates = below([top], self.uses)
+    def __init__(self, tops):
+        self.tops, self.uses = tops, uses_of_crates()
+        self.crates = below(tops, self.uses)
         self.behind = chains(self.crates, self.uses)
         self.left = sorted(self.crates, key=self.behind.get, reverse=True)
         self.built, self.running, self.failed = set(), {}, None
@@ -108,9 +108,10 @@ class Build:
 
     def run(self):
         """Builds all, and returns whether that went well. Where the sources stand is told in a file, for the launcher."""
-        os.makedirs(f"{TOP}/crates/{self.top}/out", exist_ok=True)
-        with open(f"{TOP}/crates/{self.top}/out/sources", "w", encoding="utf-8") as file:
-            file.writelines(f"crates/{name}/src\n" for name in self.crates)
+        for top in self.tops:
+            os.makedirs(f"{TOP}/crates/{top}/out", exist_ok=True)
+            with open(f"{TOP}/crates/{top}/out/sources", "w", encoding="utf-8") as file:
+                file.writelines(f"crates/{name}/src\n" for name in below([top], self.uses))
         with tempfile.TemporaryDirectory(prefix="ncp-rooms-") as rooms:
             self.places += [self.furnished(f"{rooms}/{number}") for number in range(1, lanes())]
             workers = [threading.Thread(target=self.work, args=(place,)) for place in self.places]
@@ -163,8 +164,8 @@ class Build:
         return self.built.issuperset(below(self.uses[name], self.uses))
 
     def next_in(self, place):
-        """The next crate that can be built there now; the top one is built in the checkout."""
-        return next((it for it in self.left if self.can_begin(it) and (it != self.top or place == TOP)), None)
+        """The next crate that can be built there now; what was asked for is built in the checkout."""
+        return next((it for it in self.left if self.can_begin(it) and (it not in self.tops or place == TOP)), None)
 
     def is_urgent(self, name):
         """Whether nothing that runs has a much longer chain: the whole build takes as long as its longest."""
@@ -210,11 +211,11 @@ class Build:
     def tell(self):
         now = sorted(self.running, key=self.behind.get, reverse=True)
         if now and not self.failed:
-            say(f"{self.top}: {len(self.built)} of {len(self.crates)} crates built; now {', '.join(now)}")
+            say(f"{' '.join(self.tops)}: {len(self.built)} of {len(self.crates)} crates built; now {', '.join(now)}")
 
     def stop(self, *_):
         """Ends what runs, as where somebody has enough of it."""
-        self.failed = self.top
+        self.failed = self.tops[0]
         for ran in list(self.running.values()):
             if ran:
                 ran.terminate()
@@ -259,9 +260,10 @@ def rt():
 
 
 def main():
-    if len(sys.argv) != 2 or sys.argv[1] not in uses_of_crates():
-        sys.exit("usage: tools/build.py NAME, a crate of crates.txt")
-    build = Build(sys.argv[1])
+    names = sys.argv[1:]
+    if not names or not set(names) <= set(uses_of_crates()):
+        sys.exit("usage: tools/build.py NAME.., crates of crates.txt")
+    build = Build(names)
     for number in (signal.SIGINT, signal.SIGTERM):
         signal.signal(number, build.stop)
     sys.exit(0 if build.run() else 1)

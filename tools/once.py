@@ -2,7 +2,8 @@
 """The toolchain's rt as a first build wants it.
 
     tools/once.py WORD..             as rt WORD..
-    tools/once.py --sums WORD..      the same with the sums alone: what is proved is kept, as the gate wants it
+    tools/once.py --sums WORD..      the same with the sums alone: what is proved is kept, as the gate wants it; and each
+                                     library that a gate built is left with its sum, so that later commands find it built
 
 rt knows whether a crate is built by a sum over its sources and over the sums of its libraries. There is a kit that takes
 those anew on each way down to a library, and below a program there are thousands of ways: minutes in which nothing is
@@ -27,6 +28,8 @@ sys.dont_write_bytecode = True
 
 # The kits in which the functions have these names and do what is said above.
 KNOWN = ("rattle-kit-13b", "rattle-kit-13f")
+# Those whose gate takes names, and then is of these crates alone, over what earlier gates kept.
+WITH_A_GATE_OF_CRATES = ("rattle-kit-13f",)
 
 
 def kit():
@@ -64,6 +67,22 @@ def each_once(stamp):
     return summed
 
 
+def with_its_sum(build_rlib):
+    """The build of a library, which leaves the library's sum beside it even if it was built from nothing. What stands on it was
+    built over it in the same run, so it all fits."""
+
+    @functools.wraps(build_rlib)
+    def built(crate, flags, anew):
+        before = crate.stamp()
+        status = build_rlib(crate, flags, anew)
+        if status == 0 and crate.stamp() == before:
+            with open(f"{crate.folder}/out/rlib/stamp", "w", encoding="utf-8") as file:
+                file.write(before)
+        return status
+
+    return built
+
+
 def for_one_build(call, is_library, keeping):
     """The call of the compiler for a crate: without the words by which it keeps its work, and for statements of a library."""
 
@@ -75,6 +94,17 @@ def for_one_build(call, is_library, keeping):
         return call(crate, *words)
 
     return called
+
+
+def unbuilt(top, names):
+    """Those of these crates of the repository at a folder whose libraries are not built of their sources as they are."""
+    script, name = os.path.realpath(shutil.which("rt")), kit()
+    if name not in KNOWN:
+        return names
+    rt = loaded(script).rtlib
+    rt.Crate.stamp = each_once(rt.Crate.stamp)
+    crates = {it.name: it for it in rt.crates_below(top)}
+    return [it for it in names if not crates[it].is_built()]
 
 
 def main():
@@ -90,7 +120,9 @@ def main():
     rt = loaded(script)
     crate = rt.rtlib.Crate
     crate.stamp = each_once(crate.stamp)
-    if not sums_alone:
+    if sums_alone:
+        crate.build_rlib = with_its_sum(crate.build_rlib)
+    else:
         crate.call = for_one_build(crate.call, crate.makes_rlib, rt.rtlib.KEPT)
     sys.exit(rt.main(words))
 

@@ -4,10 +4,12 @@ import importlib.util
 import os
 import shutil
 import subprocess
+import sys
 import tempfile
 import unittest
 
 TOOLS = os.path.dirname(os.path.dirname(os.path.abspath(__file__)))
+sys.path.insert(0, TOOLS)
 SOURCE = """//! A crate of two functions, one of which promises nothing.
 #![tactic(auto)]
 
@@ -34,6 +36,21 @@ new:     x / 4
 """
 
 
+# A law about a definition of that crate.
+LAW = """//! Laws of a crate above.
+#![tactic(auto)]
+
+pub mod laws;
+"""
+ABOUT_MOST = """//! A law about most.
+ghost use Rattle.std.specs.Prelude.{◌≡◌};
+ghost use Rattle.sample.specs.Most.{most};
+
+/// It is eight.
+pub fn most_is_eight()
+    ensures { most ≡ 8 }
+{}
+"""
 # Data of another crate, and a definition that cites it.
 DATA = """/// A number that a host has.
 pub struct Number {
@@ -59,13 +76,18 @@ impl Model for Number {
 CITING = "use Rattle.data.specs.declared.number.Number.{Number}\n"
 
 
+def copy_tools(folder):
+    for name in ("audit", "build.py", "once.py"):
+        shutil.copy(f"{TOOLS}/{name}", folder)
+
+
 class TestSums(unittest.TestCase):
     def setUp(self):
         self.top = tempfile.mkdtemp(prefix="ncp-audit-test-")
         self.addCleanup(shutil.rmtree, self.top)
         for folder in ("tools", "crates/data/src", "crates/sample/src", "crates/sample/specs"):
             os.makedirs(f"{self.top}/{folder}")
-        shutil.copy(f"{TOOLS}/audit", f"{self.top}/tools")
+        copy_tools(f"{self.top}/tools")
         self.write("crates/sample/src/lib.rt", SOURCE)
         self.write("crates/sample/specs/Numbers.antt", CITING)
 
@@ -111,12 +133,16 @@ class TestAudit(unittest.TestCase):
         for name, text in {"crates.txt": "sample:\n", "HANDLES": "Handles allowed: none.\n", "crates/sample/src/lib.rt": SOURCE}.items():
             self.write(name, text)
         os.mkdir(f"{self.top}/tools")
-        shutil.copy(f"{TOOLS}/audit", f"{self.top}/tools")
+        copy_tools(f"{self.top}/tools")
 
     def write(self, name, text):
         os.makedirs(os.path.dirname(f"{self.top}/{name}"), exist_ok=True)
         with open(f"{self.top}/{name}", "w", encoding="utf-8") as file:
             file.write(text)
+
+    def passed(self):
+        with open(f"{self.top}/audit/PASSED", encoding="utf-8") as file:
+            return [line.split()[0] for line in file]
 
     def audit(self, *words):
         ran = subprocess.run([f"{self.top}/tools/audit", *words], stdout=subprocess.PIPE, stderr=subprocess.STDOUT, text=True)
@@ -131,19 +157,37 @@ class TestAudit(unittest.TestCase):
         self.assertEqual((status, lines[-1]), (1, "1 refused, 1 proved"))
         self.assertTrue(lines[-3].startswith("sample/halves: refused: "))
         self.assertTrue(lines[-2].startswith("sample/quarters: PROVED"))
-        self.assertFalse(os.path.getsize(f"{self.top}/audit/PASSED"))
+        self.assertEqual(self.passed(), ["sample/halves"])
+
+        status, lines = self.audit("--changed")
+        self.assertEqual((status, lines[0], lines[-1]), (1, "audit: not passed as they are: sample 1", "0 refused, 1 proved"))
 
         os.remove(f"{self.top}/audit/sample/quarters.edit")
-        self.assertEqual(self.audit("--changed")[1][0], "audit: never passed: sample: run `tools/audit` for these, and commit audit/PASSED")
-        self.assertEqual(self.audit("sample")[1][-1], "1 refused, 0 proved")
-        self.assertEqual(self.audit("--changed"), (0, ["audit: nothing that the audits of audit/PASSED rest on has changed"]))
+        self.assertEqual(self.audit("--changed"), (0, ["audit: nothing that the lines of audit/PASSED rest on has changed"]))
 
         self.write("crates/sample/src/lib.rt", f"// What a comment says is nothing that an audit rests on.\n\n{SOURCE}")
-        self.assertEqual(self.audit("--changed"), (0, ["audit: nothing that the audits of audit/PASSED rest on has changed"]))
+        self.assertEqual(self.audit("--changed"), (0, ["audit: nothing that the lines of audit/PASSED rest on has changed"]))
 
         self.write("crates/sample/src/lib.rt", SOURCE.replace("result ≡ x", "result ≡ result"))
         status, lines = self.audit("--changed")
-        self.assertEqual((status, lines[0], lines[-1]), (1, "audit: changed since it was passed: sample", "0 refused, 1 proved"))
+        self.assertEqual((status, lines[0], lines[-1]), (1, "audit: not passed as they are: sample 1", "0 refused, 1 proved"))
+
+    def test_a_law_of_another_crate_refuses(self):
+        self.write("crates.txt", "sample:\nlaws: sample\n")
+        self.write("crates/sample/specs/Lib.antt", "pub mod Most\n")
+        self.write("crates/sample/specs/Most.antt", "use Rattle.std.specs.Prelude.{ℕ}\n\nabbrev pub most : ℕ\nmost = 8\n")
+        self.write("crates/laws/src/lib.rt", LAW)
+        self.write("crates/laws/src/laws.rt", ABOUT_MOST)
+        turned = "file: specs/Most.antt\nold: most = 8\nnew: most = {}\n"
+        self.write("audit/sample/nine.edit", "above: laws\n" + turned.format(9))
+        self.write("audit/sample/eight.edit", "above: laws\n" + turned.format("0x8"))
+
+        status, lines = self.audit("sample")
+
+        self.assertEqual((status, lines[-1]), (1, "1 refused, 1 proved"), lines)
+        self.assertIn("sample/nine: refused: by laws::most_is_eight of laws", lines)
+        self.assertIn("sample/eight: PROVED: all laws of laws let it through", lines)
+        self.assertEqual(self.passed(), ["sample/nine"])
 
     def test_what_cannot_be_tried_fails(self):
         self.write("audit/sample/nowhere.edit", REFUSED.replace("let same = x;\nnew", "let none = x;\nnew"))
@@ -151,7 +195,7 @@ class TestAudit(unittest.TestCase):
         status, lines = self.audit("sample")
 
         self.assertEqual((status, lines[-1]), (1, "0 refused, 0 proved"))
-        self.assertTrue(lines[0].startswith("sample/nowhere: NOT TRIED: "))
+        self.assertTrue(lines[1].startswith("sample/nowhere: NOT TRIED: "), lines)
 
     def test_many_changed_crates_are_not_tried(self):
         names = [f"sample{number}" for number in range(5)]
@@ -159,7 +203,7 @@ class TestAudit(unittest.TestCase):
         for name in names:
             self.write(f"crates/{name}/src/lib.rt", SOURCE)
             self.write(f"audit/{name}/halves.edit", REFUSED)
-        self.write("audit/PASSED", "".join(f"{name} 0 1\n" for name in names))
+        self.write("audit/PASSED", "".join(f"{name}/halves 0\n" for name in names))
 
         status, lines = self.audit("--changed")
 
