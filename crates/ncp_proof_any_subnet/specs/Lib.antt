@@ -1,0 +1,5 @@
+pub mod Notes
+pub mod HonestRuns
+pub mod Finished
+pub mod Restarts
+pub mod Examples

@@ -1,0 +1,62 @@
+//! Two hosts with one another as their only peers, over any honest subnet.
+ghost use Rattle.std.specs.Prelude.{◌≡◌, ◌↔◌, ℕ};
+ghost use Rattle.ncp_model.specs.declared.pair.Pair.{Pair};
+ghost use Rattle.ncp_proof_machine.specs.Hosts.{past_of};
+ghost use Rattle.ncp_proof_runs.specs.Peers.{notes_of_peer};
+ghost use Rattle.ncp_proof_runs.specs.Histories.{past_so_far};
+ghost use Rattle.ncp_transcript_two.specs.declared.side.Side.{Side};
+ghost use Rattle.ncp_transcript_two.specs.declared.side.Side.TheVariants.{A, B};
+ghost use Rattle.ncp_transcript_two.specs.Seen.{seen};
+ghost use Rattle.ncp_transcript_two.specs.Sides.{notes_at};
+ghost use Rattle.ncp_transcript_two.specs.OfRules.{histories_of};
+ghost use Rattle.ncp_statement.specs.Statement.{Headline};
+ghost use Rattle.ncp_proof_statement.specs.Moments.{TakenBegins};
+ghost use Rattle.ncp_proof_any_subnet.specs.Notes.{SidedNotes, notes_by, as_notes};
+ghost use Rattle.ncp_proof_any_subnet.specs.HonestRuns.{IsHonestRun, IsOfWorld, WorldOf};
+ghost use Rattle.ncp_proof_any_subnet.specs.Finished.{seen_of};
+
+use ncp_proof_statement::headline::{messages_are_delivered, transcripts_keep_the_page};
+use ncp_proof_statement::histories::the_histories_are_of_the_notes_of_each_host;
+use ncp_proof_statement::moments::what_is_taken_begins_what_is_given;
+
+/// The headline over any honest subnet: all that the page says of a transcript of a `World` holds for the notes of two hosts,
+/// each made by itself.
+pub fn headline_over_any_subnet()
+    ensures { (a b : ℕ) (ns : SidedNotes) → IsHonestRun a b ns → Headline a b (as_notes ns) }
+{
+    transcripts_keep_the_page();
+    any_honest_subnet_is_that_of_a_world();
+}
+
+/// The notes of two hosts over any honest subnet are those of a transcript of a `World`, but for the notes that its subnet
+/// makes of itself.
+pub fn any_honest_subnet_is_that_of_a_world()
+    ensures { (a b : ℕ) (ns : SidedNotes) → IsHonestRun a b ns → WorldOf a b ns }
+{}
+
+/// And the other way round: the two are the same, so the premise of these laws is neither stronger than honesty nor empty.
+pub fn hosts_over_any_honest_subnet_are_those_of_a_world()
+    ensures { (a b : ℕ) (ns : SidedNotes) → IsHonestRun a b ns ↔ IsOfWorld a b ns }
+{
+    any_honest_subnet_is_that_of_a_world();
+    messages_are_delivered();
+}
+
+/// At every moment what was taken is a prefix of what is given, over any honest subnet.
+pub fn what_is_taken_begins_what_is_given_over_any_subnet()
+    ensures { (a b : ℕ) (ns : SidedNotes) → IsHonestRun a b ns → TakenBegins (as_notes ns) }
+{
+    any_honest_subnet_is_that_of_a_world();
+    what_is_taken_begins_what_is_given();
+}
+
+/// What the rules see of that world, the notes of its hosts, and the histories of their pairs are read off the notes of the
+/// two hosts alone. So each law of transcripts can be said of them.
+pub fn what_is_seen_of_their_world_is_in_their_notes()
+    ensures seen { (a b : ℕ) (ns : SidedNotes) (k : WorldOf a b ns) → seen k.world ≡ seen_of a b ns }
+    ensures notes { (a b : ℕ) (ns : SidedNotes) (k : WorldOf a b ns) (side : Side) → notes_at side k.more ≡ notes_by side ns }
+    ensures here { (a b : ℕ) (ns : SidedNotes) (k : WorldOf a b ns) (pair : Pair) → past_of (histories_of k.more k.world).this pair ≡ past_so_far pair (notes_of_peer b (notes_by A ns)) }
+    ensures there { (a b : ℕ) (ns : SidedNotes) (k : WorldOf a b ns) (pair : Pair) → past_of (histories_of k.more k.world).that pair ≡ past_so_far pair (notes_of_peer a (notes_by B ns)) }
+{
+    the_histories_are_of_the_notes_of_each_host();
+}

@@ -1,0 +1,11 @@
+//! What the premise admits, and what it refuses.
+ghost use Rattle.ncp_host.specs.declared.received.Received.{Received};
+ghost use Rattle.ncp_proof_any_subnet.specs.HonestRuns.{IsHonestRun};
+ghost use Rattle.ncp_proof_any_subnet.specs.Examples.{delivered_once, delivered_twice};
+
+/// Host 1 resets: its RST is sent, delivered to host 2 and answered (`once`); no honest subnet delivers it a second time
+/// (`twice`).
+pub fn a_message_is_delivered_once()
+    ensures once { (there : Received) × (here : Received) × IsHonestRun 1 2 (delivered_once there here) }
+    ensures twice { (there again here : Received) → IsHonestRun 1 2 (delivered_twice there again here) → ⊥ }
+{}
