@@ -1,0 +1,41 @@
+-- What the records of a capture say of the messages from one host to another on one link, and what an honest subnet and a
+-- host that retransmits only what was not delivered make of them. No state of an umpire is named here.
+use Rattle.std.specs.Prelude.{ℕ, ◌==◌, ◌&&◌, Bool, true, false, List, [], ◌∷◌, if◌then◌else◌}
+use Rattle.ncp_transcript_two.specs.Honest.{MessageDeed, Sent, Comes, Taken, Refused, Other, Clear, HonestFrom, RepeatsFrom}
+use Rattle.ncp_umpire.specs.declared.event.Event.{Event}
+use Rattle.ncp_umpire.specs.declared.event.Event.TheVariants as event
+use Rattle.ncp_umpire.specs.Events.{event_of}
+use Rattle.ncp_proof_umpire_cases.specs.Cases.{Capture}
+
+-- An event at the interface of a host concerns a message from one host to another: the message is sent or answered at the
+-- interface of the first, or is delivered at that of the second.
+abbrev pub is_toward : ℕ → ℕ → ℕ → Event → Bool
+is_toward from to at (event.Out peer link) = at == from && peer == to
+is_toward from to at (event.Answer kind peer link) = at == from && peer == to
+is_toward from to at (event.In peer link) = at == to && peer == from
+is_toward from to at other = false
+
+abbrev pub is_on : ℕ → Event → Bool
+is_on on (event.Out peer link) = link == on
+is_on on (event.Answer kind peer link) = link == on
+is_on on (event.In peer link) = link == on
+is_on on other = false
+
+-- an answer of type 5 is an RFNM (BBN 1822, section 3)
+abbrev pub deed_of : List Bool → Event → MessageDeed
+deed_of bits (event.Out peer link) = Sent bits
+deed_of bits (event.In peer link) = Comes bits
+deed_of bits (event.Answer kind peer link) = if kind == 5 then Taken else Refused
+deed_of bits other = Other
+
+abbrev pub deed_recorded : ℕ → ℕ → ℕ → ℕ → List Bool → Event → MessageDeed
+deed_recorded from to on at bits e = if is_toward from to at e && is_on on e then deed_of bits e else Other
+
+abbrev pub deeds_recorded : ℕ → ℕ → ℕ → Capture → List MessageDeed
+deeds_recorded from to on [] = []
+deeds_recorded from to on (one ∷ more) = deed_recorded from to on one.0 one.2 (event_of one.1 one.0 one.2) ∷ deeds_recorded from to on more
+
+-- An honest subnet carried them: each message was delivered once, unaltered but for the number in its leader, before its RFNM,
+-- or was not delivered and had another answer. And the host sent again what was not delivered, unchanged, before anything else.
+abbrev pub IsFaithful : ℕ → List MessageDeed → Type 0
+IsFaithful from deeds = HonestFrom from Clear deeds × RepeatsFrom [] true deeds

@@ -1,0 +1,29 @@
+//! The rules of messages are exact.
+ghost use Rattle.ncp_proof_umpire_exact.specs.Exact.{IsExact, IsExactOfAll, NoPhaseRests, WatchesAll, CleanIsInOrder};
+
+/// From one host to another: nothing is found by the rules of messages and all is judged, if and only if the subnet was honest
+/// and the host sent again what was not delivered, unchanged, before anything else. Whatever else the capture has.
+pub fn the_rules_of_messages_are_exact()
+    ensures { IsExact }
+{}
+
+/// The same of a whole capture, of any number of hosts.
+pub fn the_rules_of_messages_are_exact_of_all()
+    ensures { IsExactOfAll }
+{}
+
+/// All is judged if the capture has a record at both interfaces before the first message between them.
+pub fn all_is_watched()
+    ensures { WatchesAll }
+{}
+
+/// If nothing is found, and all is judged, the messages on each link were delivered in the order in which they were sent, each
+/// once, and all but the last one at most.
+pub fn clean_is_in_order()
+    ensures { CleanIsInOrder }
+{}
+
+/// If nothing is found, the phase of each host with each other is judged to the end, at each interface.
+pub fn no_phase_rests()
+    ensures { NoPhaseRests }
+{}
