@@ -7,6 +7,7 @@ import unittest
 
 TOP = os.path.dirname(os.path.dirname(os.path.dirname(os.path.abspath(__file__))))
 RT = """#!/bin/sh
+[ "$1" = version ] && { echo rattle-kit-none logic 0; exit; }
 echo "rt $*"
 echo "$VERDICT"
 exit $STATUS
@@ -24,7 +25,8 @@ class Gate(unittest.TestCase):
         self.top = f"{self.room.name}/top"
         os.makedirs(f"{self.top}/tools")
         shutil.copy(f"{TOP}/test", self.top)
-        shutil.copy(f"{TOP}/tools/once.py", f"{self.top}/tools")
+        for name in "once.py", "toolchain":
+            shutil.copy(f"{TOP}/tools/{name}", f"{self.top}/tools")
         self.write(f"{self.room.name}/bin/rt", RT)
         self.write(f"{self.top}/tools/audit", STEP)
         self.write(f"{self.top}/docs/believed.py", "")

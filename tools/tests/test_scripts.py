@@ -1,0 +1,181 @@
+"""The scripts where a shell, a user or an older version left something unusual: CDPATH, umask, odd paths, changed files."""
+import os
+import shutil
+import subprocess
+import tempfile
+import unittest
+
+TOP = os.path.dirname(os.path.dirname(os.path.dirname(os.path.abspath(__file__))))
+# What a shell, echo or pkg-config could take for something else.
+ODD = r"a b\nc 'd'"
+
+
+def write(path, text, mode=0o644):
+    os.makedirs(os.path.dirname(path), exist_ok=True)
+    with open(path, "w", encoding="utf-8") as file:
+        file.write(text)
+    os.chmod(path, mode)
+
+
+def read(path):
+    with open(path, encoding="utf-8") as file:
+        return file.read()
+
+
+class Scripts(unittest.TestCase):
+    def setUp(self):
+        self.room = tempfile.TemporaryDirectory()
+        self.addCleanup(self.room.cleanup)
+        self.top = f"{self.room.name}/{ODD}"
+
+    def copy(self, *names):
+        for name in names:
+            os.makedirs(os.path.dirname(f"{self.top}/{name}"), exist_ok=True)
+            shutil.copy(f"{TOP}/{name}", f"{self.top}/{name}")
+
+    def said(self, *words, at=None, **environment):
+        """What a command says that goes well."""
+        ran = subprocess.run(words, cwd=at or self.top, env={**os.environ, **environment}, stdout=subprocess.PIPE, stderr=subprocess.STDOUT, text=True)
+        self.assertEqual(ran.returncode, 0, ran.stdout)
+        return ran.stdout
+
+
+class WithCdpath(Scripts):
+    """A folder that CDPATH names has folders of the same names. A script that is called by a path from the top stays at home."""
+
+    def setUp(self):
+        super().setUp()
+        self.other = f"{self.room.name}/other"
+        for name in "tools", "examples", ".ci":
+            os.makedirs(f"{self.other}/{name}")
+
+    def test_the_sum_of_sources(self):
+        self.copy("tools/sources")
+        write(f"{self.top}/crates.txt", "ncp:\n")
+        write(f"{self.other}/crates.txt", "ncp: other\n")
+        self.assertEqual(self.said("sh", "tools/sources", CDPATH=self.other), self.said("sh", "tools/sources"))
+
+    def test_the_gate(self):
+        self.copy(".ci/run")
+        for top, word in (self.top, "home"), (self.other, "other"):
+            write(f"{top}/test", f'#!/bin/sh\necho "{word} $*"\n', 0o755)
+        self.assertEqual(self.said("sh", ".ci/run", CDPATH=self.other).splitlines()[-1], "home all")
+
+    def test_the_examples(self):
+        self.copy("examples/compare")
+        for top, word in (self.top, "home"), (self.other, "other"):
+            write(f"{top}/ncp", f'#!/bin/sh\necho {word} >>"{self.room.name}/asked"\nexit 1\n', 0o755)
+        subprocess.run(["sh", "examples/compare"], cwd=self.top, env={**os.environ, "CDPATH": self.other}, stdout=subprocess.DEVNULL)
+        self.assertEqual(read(f"{self.room.name}/asked"), "home\n")
+
+
+HAS = "#!/bin/sh\n[ \"$1\" = --has ]\n"
+
+
+class Library(Scripts):
+    """include/install with the library of prebuilt/, which only has a name here."""
+
+    def setUp(self):
+        super().setUp()
+        self.copy("include/install", "include/ncp.h", "include/ncp_capture.h", "include/ncp_events.h")
+        write(f"{self.top}/tools/prebuild", HAS, 0o755)
+        for at in "", "aarch64/":
+            write(f"{self.top}/prebuilt/{at}libncp.a", "archive\n")
+            write(f"{self.top}/prebuilt/{at}libncp.so.1", "shared\n")
+        self.prefix = f"{self.room.name}/to/{ODD}"
+
+    def install(self):
+        self.said("sh", "-c", "umask 077 && include/install --target aarch64 \"$1\"", "sh", self.prefix)
+
+    def test_everybody_can_read_what_root_installs(self):
+        self.install()
+        closed = [path for at, _, names in os.walk(self.prefix) for path in (at, *(f"{at}/{name}" for name in names)) if os.stat(path).st_mode & 0o044 != 0o044]
+        self.assertEqual(closed, [])
+        self.assertEqual(os.stat(f"{self.prefix}/lib/pkgconfig/ncp.pc").st_mode & 0o777, 0o644)
+
+    def test_a_link_to_a_folder_of_an_older_install(self):
+        os.makedirs(f"{self.prefix}/lib/older")
+        os.symlink("older", f"{self.prefix}/lib/libncp.so")
+        self.install()
+        self.assertEqual(os.readlink(f"{self.prefix}/lib/libncp.so"), "libncp.so.1")
+        self.assertEqual(os.listdir(f"{self.prefix}/lib/older"), [])
+
+    @unittest.skipUnless(shutil.which("pkg-config"), "there is no pkg-config")
+    def test_a_path_with_blanks(self):
+        self.prefix = f"{self.room.name}/to/a b"
+        self.install()
+        words = self.said("pkg-config", "--cflags", "--libs", "ncp", PKG_CONFIG_PATH=f"{self.prefix}/lib/pkgconfig")
+        blank = self.prefix.replace(" ", "\\ ")
+        self.assertEqual(words.split(" -"), [f"-I{blank}/include", f"L{blank}/lib", "lncp \n"])
+
+
+class Plugin(Scripts):
+    def setUp(self):
+        super().setUp()
+        self.copy("wireshark/install")
+        for name in "one", "two":
+            write(f"{self.top}/wireshark/plugin/{name}.lua", f"-- {name}\n")
+        for name in "ARPANET", "ARPANET-more":
+            write(f"{self.top}/wireshark/profiles/{name}/preferences", f"# {name}\n")
+        write(f"{self.top}/wireshark/profiles/colorfilters", "# colours\n")
+        self.home = f"{self.room.name}/home {ODD}"
+        self.plugins = f"{self.home}/.local/lib/wireshark/plugins/arpanet"
+        self.profiles = f"{self.home}/.config/wireshark/profiles"
+
+    def install(self, *words):
+        return self.said("wireshark/install", *words, HOME=self.home, XDG_CONFIG_HOME="")
+
+    def below(self, folder):
+        return sorted(os.path.relpath(f"{at}/{name}", folder) for at, _, names in os.walk(folder) for name in names)
+
+    def test_all_is_there_and_all_goes(self):
+        self.install()
+        self.assertEqual(self.below(self.plugins), ["installed", "one.lua", "two.lua"])
+        self.assertEqual(self.below(self.profiles), ["ARPANET-more/colorfilters", "ARPANET-more/preferences", "ARPANET/colorfilters", "ARPANET/preferences"])
+        self.assertNotIn("changed", self.install())
+        self.install("--remove")
+        self.assertEqual((self.below(self.home), os.listdir(self.profiles)), ([], []))
+
+    def test_what_an_older_version_left(self):
+        self.install()
+        os.remove(f"{self.top}/wireshark/plugin/two.lua")
+        shutil.rmtree(f"{self.top}/wireshark/profiles/ARPANET-more")
+        write(f"{self.top}/wireshark/profiles/ARPANET/preferences", "# newer\n")
+        self.assertNotIn("changed", self.install())
+        self.assertEqual(self.below(self.plugins), ["installed", "one.lua"])
+        self.assertEqual(os.listdir(self.profiles), ["ARPANET"])
+        self.assertEqual(read(f"{self.profiles}/ARPANET/preferences"), "# newer\n")
+
+    def test_a_version_that_left_no_sums(self):
+        write(f"{self.plugins}/older.lua", "-- older\n")
+        write(f"{self.profiles}/ARPANET/preferences", "# older\n")
+        said = self.install()
+        self.assertEqual(self.below(self.plugins), ["installed", "one.lua", "two.lua"])
+        self.assertIn("changed since it was installed, and kept", said)
+        self.assertEqual(read(f"{self.profiles}/ARPANET/preferences.old"), "# older\n")
+
+    def test_what_its_user_changed(self):
+        self.install()
+        for text in "# mine\n", "# mine too\n":
+            write(f"{self.profiles}/ARPANET/preferences", text)
+            said = self.install()
+            self.assertIn(f"kept: {self.profiles}/ARPANET/preferences.old\n", said)
+        self.assertEqual(read(f"{self.profiles}/ARPANET/preferences"), "# ARPANET\n")
+        write(f"{self.profiles}/ARPANET/colorfilters", "# my colours\n")
+        said = self.install("--remove")
+        self.assertIn(f"kept: {self.profiles}/ARPANET/colorfilters.old\n", said)
+        self.assertIn(f"left, since other files are in it: {self.profiles}/ARPANET\n", said)
+        kept = sorted(read(f"{self.profiles}/{name}") for name in self.below(self.profiles))
+        self.assertEqual(kept, ["# mine\n", "# mine too\n", "# my colours\n"])
+
+    def test_a_profile_of_its_user(self):
+        self.install()
+        shutil.copytree(f"{self.profiles}/ARPANET", f"{self.profiles}/ARPANET-mine")
+        self.install()
+        said = self.install("--remove")
+        self.assertEqual(self.below(self.profiles), ["ARPANET-mine/colorfilters", "ARPANET-mine/preferences"])
+        self.assertIn("left, since other files are in it", said)
+
+
+if __name__ == "__main__":
+    unittest.main()
