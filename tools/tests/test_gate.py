@@ -1,20 +1,42 @@
-"""./test all with a toolchain that only says what a gate says: its last line is the gate's, and a step that fails fails it."""
+"""./test all with a toolchain that only says what a gate says, and steps that only say their names: its last line is the
+gate's, the steps run beside it, and a step that fails, or in CI leaves something out, fails it."""
 import os
 import shutil
 import subprocess
+import sys
 import tempfile
 import unittest
 
 TOP = os.path.dirname(os.path.dirname(os.path.dirname(os.path.abspath(__file__))))
+# Its gate waits for the first step beside it.
 RT = """#!/bin/sh
 [ "$1" = version ] && { echo rattle-kit-none logic 0; exit; }
 echo "rt $*"
+for _ in 1 2 3 4 5 6 7 8 9 10; do [ -e "$ROOM/asked" ] && echo "side by side" && break; sleep 1; done
 echo "$VERDICT"
 exit $STATUS
 """
+ANOTHER_RT = """#!/bin/sh
+echo rt 4.4.4
+"""
+# Each step says its name and how nice it is, and fails where FAILS has its name, or where FAILS_ONCE has it the first time.
 STEP = """#!/bin/sh
-echo "$0 $*"
-exit $BESIDE
+name=${0##*/}
+echo "$name $* at $(nice)"
+case " $LEAVES_OUT " in *" $name "*) echo "aarch64: left out, since its compiler is not there" ;; esac
+grep -q "^$name" "$ROOM/asked" 2>/dev/null && FAILS_ONCE=
+echo "$name $*" >>"$ROOM/asked"
+case " $FAILS $FAILS_ONCE " in *" $name "*) exit 1 ;; esac
+"""
+STEPS = ("ncp", "tools/try_launcher", "examples/compare", "tools/try_habits", "examples/embed/run", "bindings/test", "tools/index", "tools/words", "wireshark/test",
+         "web/build", "web/test", "tools/prebuild", "tools/audit", "tools/prove")
+COMMANDS = ("cc", "tshark", "sharkd", "lua5.2")
+NONE = """import unittest
+
+
+class None_(unittest.TestCase):
+    def test_nothing(self):
+        pass
 """
 
 
@@ -23,12 +45,15 @@ class Gate(unittest.TestCase):
         self.room = tempfile.TemporaryDirectory()
         self.addCleanup(self.room.cleanup)
         self.top = f"{self.room.name}/top"
-        os.makedirs(f"{self.top}/tools")
-        shutil.copy(f"{TOP}/test", self.top)
-        for name in "once.py", "toolchain":
-            shutil.copy(f"{TOP}/tools/{name}", f"{self.top}/tools")
+        for name in "test", ".ci/run", "tools/once.py", "tools/toolchain":
+            os.makedirs(os.path.dirname(f"{self.top}/{name}"), exist_ok=True)
+            shutil.copy(f"{TOP}/{name}", f"{self.top}/{name}")
+        for name in STEPS:
+            self.write(f"{self.top}/{name}", STEP)
+        for name in COMMANDS:
+            self.write(f"{self.room.name}/bin/{name}", "#!/bin/sh\n")
         self.write(f"{self.room.name}/bin/rt", RT)
-        self.write(f"{self.top}/tools/audit", STEP)
+        self.write(f"{self.top}/tools/tests/test_nothing.py", NONE)
         self.write(f"{self.top}/docs/believed.py", "")
 
     def write(self, path, text):
@@ -37,30 +62,108 @@ class Gate(unittest.TestCase):
             file.write(text)
         os.chmod(path, 0o755)
 
-    def gate(self, verdict, status=0, beside=0):
+    def said(self, *words, **environment):
         """The status, the lines, and the last line."""
         path = f"{self.room.name}/bin:{os.environ['PATH']}"
-        environment = {**os.environ, "PATH": path, "VERDICT": verdict, "STATUS": f"{status}", "BESIDE": f"{beside}"}
-        ran = subprocess.run([f"{self.top}/test", "all"], env=environment, stdout=subprocess.PIPE, stderr=subprocess.STDOUT, text=True)
+        plain = {"PATH": path, "ROOM": self.room.name, "VERDICT": "7 passed, 0 failed", "STATUS": "0", "FAILS": "", "FAILS_ONCE": "", "LEAVES_OUT": "", "CI": "", "NCP_NO_REGISTRY": ""}
+        ran = subprocess.run(words, cwd=self.top, env={**os.environ, **plain, **environment}, stdout=subprocess.PIPE, stderr=subprocess.STDOUT, text=True)
         return ran.returncode, ran.stdout, ran.stdout.splitlines()[-1]
 
+    def gate(self, **environment):
+        return self.said(sys.executable, "test", "all", **environment)
+
+    def asked(self, name):
+        """How often a step was asked for."""
+        with open(f"{self.room.name}/asked", encoding="utf-8") as file:
+            return [line.split()[0] for line in file].count(name)
+
     def test_a_green_run_ends_with_the_line_of_the_gate(self):
-        status, said, last = self.gate("7 passed, 0 failed")
+        status, said, last = self.gate()
         self.assertEqual((status, last), (0, "7 passed, 0 failed"), said)
         self.assertIn("rt ci\n", said)
-        self.assertIn("tools/audit --changed", said)
-        self.assertIn("skipped: there is no tools/prebuild", said)
+        self.assertIn("audit --changed at 0\n", said)
+        self.assertIn("skipped: there is no include/compare", said)
+
+    def test_all_steps_run_beside_the_gate(self):
+        _, said, _ = self.gate()
+        self.assertIn("\nside by side\n", said)
+        for line in "embed/run --prebuilt", "bindings/test", "wireshark/test", "web/test --shots":
+            self.assertIn(f"| $ {'examples/' if line.startswith('embed') else ''}{line}", said)
+        self.assertIn("| test --shots", said)
+        self.assertIn("at 19\n", said)
+        for name in "try_launcher", "compare", "try_habits", "run", "index", "words", "build":
+            self.assertEqual(self.asked(name), 1, said)
+        self.assertNotIn("unproved", said)
 
     def test_a_gate_that_fails(self):
-        self.assertEqual(self.gate("6 passed, 1 failed", status=1)[::2], (1, "6 passed, 1 failed"))
+        self.assertEqual(self.gate(VERDICT="6 passed, 1 failed", STATUS="1")[::2], (1, "6 passed, 1 failed"))
 
     def test_a_gate_that_says_nothing(self):
-        self.assertEqual(self.gate("", status=2)[::2], (1, "0 passed, 1 failed"))
+        self.assertEqual(self.gate(VERDICT="", STATUS="2")[::2], (1, "0 passed, 1 failed"))
+
+    def test_a_step_after_the_gate_that_fails(self):
+        status, said, last = self.gate(FAILS="audit")
+        self.assertEqual((status, last), (1, "7 passed, 1 failed"), said)
+        self.assertIn("FAILED: audit: tools/audit --changed", said)
 
     def test_a_step_beside_the_gate_that_fails(self):
-        status, said, last = self.gate("7 passed, 0 failed", beside=1)
+        status, said, last = self.gate(FAILS="compare")
         self.assertEqual((status, last), (1, "7 passed, 1 failed"), said)
-        self.assertIn("FAILED: tools/audit --changed", said)
+        self.assertIn("| test: FAILED: examples: all examples", said)
+        self.assertEqual((self.asked("compare"), self.asked("try_habits")), (2, 1))
+
+    def test_a_step_that_failed_for_want_of_a_processor(self):
+        status, said, last = self.gate(FAILS_ONCE="compare")
+        self.assertEqual((status, last), (0, "7 passed, 0 failed"), said)
+        self.assertIn("test: once more, without anything beside: examples\n", said)
+
+    def test_without_a_program_nothing_is_proved(self):
+        status, said, last = self.gate(FAILS="ncp")
+        self.assertEqual((status, last), (1, "7 passed, 1 failed"), said)
+        self.assertEqual(self.asked("prove"), 0)
+
+    def test_what_is_left_out(self):
+        self.write(f"{self.top}/include/compare", STEP)
+        line = "test: left out: c: aarch64: left out, since its compiler is not there\n"
+        status, said, last = self.gate(LEAVES_OUT="run")
+        self.assertEqual((status, last), (0, "7 passed, 0 failed"), said)
+        self.assertIn(f"\n{line}", said)
+        status, said, last = self.gate(LEAVES_OUT="run", CI="true")
+        self.assertEqual((status, last), (1, "7 passed, 1 failed"), said)
+        self.assertIn("c: FAILED, since in CI nothing is left out: aarch64", said)
+        self.assertEqual(self.gate(CI="true")[::2], (0, "7 passed, 0 failed"))
+
+    def test_a_step_that_is_skipped_in_ci(self):
+        status, said, last = self.gate(CI="true")
+        self.assertEqual((status, last), (1, "7 passed, 1 failed"), said)
+        self.assertIn("header: FAILED, since in CI nothing is left out: there is no include/compare", said)
+
+    def test_ci_installs_what_is_wanted(self):
+        self.write(f"{self.top}/include/compare", STEP)
+        for status_of_need, status, failed in (0, 1, 1), (1, 1, 1), (3, 0, 0):
+            self.write(f"{self.top}/tools/need", f'#!/bin/sh\necho "need $*"\nexit {status_of_need}\n')
+            ended, said, last = self.said("sh", ".ci/run", CI="true", LEAVES_OUT="run")
+            self.assertEqual((ended, last), (status, f"7 passed, {failed} failed"), said)
+            self.assertTrue(said.startswith("need --install\n"), said)
+        lines = said.splitlines()
+        self.assertIn("test: the registry of packages could not be reached, so what is left out is no failure", lines[-4:])
+        self.assertIn("test: left out: c: aarch64: left out, since its compiler is not there", lines[-4:])
+
+    def test_steps_by_their_words(self):
+        status, said, _ = self.said(sys.executable, "test", "docs", "examples")
+        self.assertEqual((status, self.asked("compare"), self.asked("index"), self.asked("try_habits")), (0, 1, 1, 0), said)
+        status, said, _ = self.said(sys.executable, "test", "nothing")
+        self.assertEqual(status, 1)
+        self.assertTrue(said.startswith("usage: ./test"), said)
+
+    def test_another_program_is_called_rt(self):
+        """What else is in its folder is still found."""
+        self.write(f"{self.room.name}/bin/rt", ANOTHER_RT)
+        self.write(f"{self.room.name}/bin/of-the-launcher", "#!/bin/sh\n")
+        self.write(f"{self.top}/ncp", "#!/bin/sh\nof-the-launcher\n")
+        status, said, _ = self.said(sys.executable, "test", "examples")
+        self.assertEqual((status, self.asked("compare")), (0, 1), said)
+        self.assertEqual(self.gate()[0], 1)
 
 
 if __name__ == "__main__":
