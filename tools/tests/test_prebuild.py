@@ -1,8 +1,10 @@
 """tools/prebuild in a repository of three crates, with a toolchain that only says its name: what is prebuilt is compared with
 what is built here by its bytes, and with another kit by its answers."""
+import hashlib
 import os
 import shutil
 import subprocess
+import sys
 import tempfile
 import time
 import unittest
@@ -14,12 +16,16 @@ RT = """#!/bin/sh
 LIBRARY = """#!/bin/sh
 mkdir -p "$3"
 for name in libncp.a libncp.so.1; do
-    [ "$1" = --target ] && cat "$(dirname "$0")/../crates/ncp_embed/src/lib.rt" >"$3/$name" && echo "$name $2" >>"$3/$name"
+    [ "$1" = --target ] && cat "$(dirname "$0")/../crates/ncp_embed/src/lib.rt" >"$3/$name" && echo "$name $2$REMARK" >>"$3/$name"
 done
 """
+# What the tools call beside these: so nothing else is on the path.
+COMMANDS = ("awk", "b2sum", "cat", "dirname", "env", "find", "mkdir", "sh", "sort", "xargs")
 PAGE = """#!/bin/sh
 cd "$(dirname "$0")/.." || exit
-[ "$1" = --module ] && cat crates/ncp_web/src/lib.rt >"$2" || echo page >web/ncp.html
+[ "$1" != --check ] || exit "${PAGE_DIFFERS:-0}"
+[ "$1" != --module ] || { cat crates/ncp_web/src/lib.rt >"$2" && echo "$REMARK" >>"$2"; exit; }
+echo page >web/ncp.html
 """
 PROGRAM = """#!/bin/sh
 # {remark}
@@ -38,6 +44,10 @@ def write(path, text, mode=0o644):
     os.chmod(path, mode)
 
 
+def sum_of(text):
+    return hashlib.sha256(text.encode()).hexdigest()
+
+
 class Prebuilding(unittest.TestCase):
     def setUp(self):
         self.room = tempfile.TemporaryDirectory()
@@ -46,7 +56,13 @@ class Prebuilding(unittest.TestCase):
         for name in ("prebuild", "sources", "prove"):
             os.makedirs(f"{self.top}/tools", exist_ok=True)
             shutil.copy(f"{TOP}/tools/{name}", f"{self.top}/tools")
-        write(f"{self.room.name}/bin/rt", RT, 0o755)
+        self.bin = f"{self.room.name}/bin"
+        for name, text in ("rt", RT), ("gcc", ""), ("aarch64-linux-gnu-gcc", ""), ("wasm-opt", ""):
+            write(f"{self.bin}/{name}", text, 0o755)
+        for name in COMMANDS:
+            os.symlink(shutil.which(name), f"{self.bin}/{name}")
+        os.symlink(sys.executable, f"{self.bin}/python3")
+        os.makedirs(f"{self.top}/.git")
         write(f"{self.top}/include/library", LIBRARY, 0o755)
         write(f"{self.top}/web/build", PAGE, 0o755)
         for name in ("ncp.h", "ncp.c", "heap.c"):
@@ -64,10 +80,9 @@ class Prebuilding(unittest.TestCase):
         time.sleep(0.01)
         write(f"{self.top}/crates/ncp/out/ncp", PROGRAM.format(remark=remark, answer=answer), 0o755)
 
-    def prebuild(self, *words):
+    def prebuild(self, *words, **environment):
         """The status of tools/prebuild, and what it said."""
-        path = f"{self.room.name}/bin:{os.environ['PATH']}"
-        ran = subprocess.run([f"{self.top}/tools/prebuild", *words], env={**os.environ, "PATH": path, "KIT": self.kit},
+        ran = subprocess.run([f"{self.top}/tools/prebuild", *words], env={**os.environ, "PATH": self.bin, "KIT": self.kit, **environment},
                              stdout=subprocess.PIPE, stderr=subprocess.STDOUT, text=True)
         return ran.returncode, ran.stdout
 
@@ -102,6 +117,13 @@ class Prebuilding(unittest.TestCase):
         self.assertEqual([self.prebuild("--has", name)[0] for name in ("ncp", "libncp.so.1", "aarch64/libncp.so.1")], [0, 0, 1])
         write(f"{self.top}/include/ncp.h", "other code\n")
         self.assertEqual([self.prebuild("--has", name)[0] for name in ("ncp", "libncp.a", "aarch64/libncp.a")], [0, 1, 1])
+
+    def test_what_the_module_is_made_of(self):
+        write(f"{self.top}/web/module/heap.c", "code\n")
+        self.prebuild()
+        self.assertEqual(self.prebuild("--has", "ncp.wasm")[0], 0)
+        write(f"{self.top}/web/module/heap.c", "other code\n")
+        self.assertEqual([self.prebuild("--has", name)[0] for name in ("ncp", "ncp.wasm", "libncp.a")], [0, 1, 0])
 
     def test_each_target_has_its_archive(self):
         self.prebuild()
@@ -150,6 +172,69 @@ class Prebuilding(unittest.TestCase):
         self.assertEqual(status, 1)
         self.assertIn("answers otherwise than", said)
         self.assertIn("examples/one.script", said)
+
+
+    def swap(self, name, text):
+        """Puts another file in the place of a prebuilt one, with its line in SUMS."""
+        path = f"{self.top}/prebuilt/{name}"
+        with open(path, encoding="utf-8") as file:
+            was = file.read()
+        write(path, text)
+        with open(f"{self.top}/prebuilt/SUMS", encoding="utf-8") as file:
+            sums = file.read()
+        self.assertIn(sum_of(was), sums)
+        write(f"{self.top}/prebuilt/SUMS", sums.replace(sum_of(was), sum_of(text)))
+
+    def test_all_is_made_again_once(self):
+        self.prebuild()
+        status, said = self.prebuild("--again")
+        self.assertEqual((status, said.count("was made again, and is the same bytes")), (0, 5), said)
+        status, said = self.prebuild("--again")
+        self.assertEqual((status, said.count("made again here before")), (0, 3), said)
+        status, said = self.prebuild("--all")
+        self.assertEqual((status, said.count("was made again, and is the same bytes")), (0, 5), said)
+        self.assertIn("prebuilt/ncp is of these sources, and the same bytes as here", said)
+
+    def test_a_file_that_was_swapped_with_its_sum(self):
+        self.prebuild()
+        self.prebuild("--again")
+        for name in "libncp.a", "aarch64/libncp.so.1", "ncp.wasm":
+            self.swap(name, f"somebody's {name}\n")
+            self.assertEqual(self.prebuild("--compare")[0], 0)
+            status, said = self.prebuild("--again")
+            self.assertEqual(status, 1, said)
+            self.assertIn(f"prebuilt/{name} is other bytes than", said)
+            self.prebuild()
+
+    def test_other_sources_are_made_again(self):
+        self.prebuild()
+        self.prebuild("--again")
+        write(f"{self.top}/crates/ncp_web/src/lib.rt", "other code\n")
+        self.assertEqual(self.prebuild("--again")[0], 1)
+        self.prebuild()
+        status, said = self.prebuild("--again")
+        self.assertEqual((status, said.count("made again here before"), said.count("was made again, and is the same bytes")), (0, 2, 1), said)
+
+    def test_made_again_by_another_kit(self):
+        self.prebuild()
+        self.prebuild("--again")
+        self.kit = "kit two"
+        status, said = self.prebuild("--again")
+        self.assertEqual((status, said.count("was made again, and is the same bytes")), (0, 5), said)
+        self.kit = "kit three"
+        status, said = self.prebuild("--again", REMARK=" by kit three")
+        self.assertEqual((status, said.count("is other bytes than")), (1, 5), said)
+
+    def test_made_again_without_a_compiler(self):
+        self.prebuild()
+        os.remove(f"{self.bin}/aarch64-linux-gnu-gcc")
+        status, said = self.prebuild("--again")
+        self.assertEqual(status, 0, said)
+        self.assertIn("prebuilt/aarch64/libncp.so.1: left out, since aarch64-linux-gnu-gcc is not here", said)
+
+    def test_a_page_that_is_not_as_it_would_be_made(self):
+        self.prebuild()
+        self.assertEqual(self.prebuild("--again", PAGE_DIFFERS="1")[0], 1)
 
 
 if __name__ == "__main__":
