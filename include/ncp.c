@@ -407,3 +407,11 @@ const char *ncp_version(void)
 {
     return NCP_VERSION;
 }
+
+#define SIZE_OF(name) sizeof(struct name),
+
+const uint32_t *ncp_sizes(void)
+{
+    static const uint32_t sizes[] = {NCP_STRUCTS(SIZE_OF) 0};
+    return sizes;
+}

@@ -32,8 +32,9 @@
 #include <stddef.h>
 #include <stdint.h>
 
-/* The version of this header; ncp_version tells that of the library. */
-#define NCP_VERSION "1.1.0"
+/* The version of this header; ncp_version tells that of the library. Its first number is that of the shared library, libncp.so.2: another
+ * one may have other structs. */
+#define NCP_VERSION "2.0.0"
 
 #ifdef __cplusplus
 extern "C" {
@@ -450,6 +451,15 @@ const char *ncp_word(uint32_t code);
 
 /* The version of the library, as NCP_VERSION was when it was made. */
 const char *ncp_version(void);
+
+/* The structs above by their names, in their order: NCP_STRUCTS(EACH) is EACH(ncp_host) EACH(ncp_subnet) and so on. */
+#define NCP_STRUCTS(EACH) \
+    EACH(ncp_host) EACH(ncp_subnet) EACH(ncp_arrived) EACH(ncp_flags) EACH(ncp_counted) EACH(ncp_discarded) EACH(ncp_noted) \
+    EACH(ncp_connection) EACH(ncp_changes)
+
+/* The sizes in bytes that the structs of NCP_STRUCTS have in the library, in this order, and a 0 after the last. Who has the structs from
+ * elsewhere than this header, as another language, compares them before its first call. */
+const uint32_t *ncp_sizes(void);
 
 #ifdef __cplusplus
 }

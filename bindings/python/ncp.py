@@ -10,18 +10,26 @@ which order, and docs/EMBEDDING.md how a host is driven.
         ...
 
 A refusal is an exception, a subclass of Refused that has its name: NotUp, NoEntry, BadPeers. It changes nothing. The library is
-that of NCP_LIBRARY, if this is set, of prebuilt/ where this file stands in the repository, or the one that is installed. No call
-gives up the lock of the interpreter, so threads may share a host.
+that of NCP_LIBRARY, if this is set, of prebuilt/ if this file stands in the repository, or the one that is installed; one of another
+version is refused. Threads may share a host: its calls come one after the other. Builds of Python without a global lock are refused.
 """
 import ctypes
+import operator
 import os
 import platform
+import subprocess
+import sys
+import threading
 from ctypes import POINTER, byref, c_bool, c_char_p, c_size_t, c_uint8, c_uint16, c_uint32, c_void_p
 from pathlib import Path
 from typing import NamedTuple
 
+VERSION = "2.0.0"
+SONAME = f"libncp.so.{VERSION.partition('.')[0]}"
 LONGEST_MESSAGE, LONGEST_COMMAND, LINKS = 1024, 12, 72
 DONE, UNKNOWN_PEER, NO_ENTRY, SHORT_BUFFER, NOTHING = 0, 1, 6, 34, 35
+# How many connections a peer are watched for events: twice as many as there can be.
+WATCHED = 256
 # Types of messages from an IMP that say what no host is told otherwise (BBN 1822, section 3).
 ERROR_IN_LEADER, ERROR_IN_MESSAGE, INTERFACE_RESET = 1, 8, 10
 # Directions of a capture.
@@ -121,13 +129,52 @@ class Changes(_Struct):
     _fields_ = [(name, c_bool) for name in ("closed", "refused", "ended", "asks", "opened", "text", "allowed", "delivered", "interrupted", "closes")]
 
 
+# The structs of ncp.h, in its order.
+_STRUCTS = {"ncp_host": _Handle, "ncp_subnet": _Handle, "ncp_arrived": _Arrived, "ncp_flags": Flags, "ncp_counted": Counted,
+            "ncp_discarded": Discarded, "ncp_noted": Noted, "ncp_connection": Connection, "ncp_changes": Changes}
+
+
+def _repository():
+    """The top of the repository, if this file stands there, else None: a copy of it elsewhere trusts no folder."""
+    here = Path(__file__).resolve()
+    top = here.parent.parent.parent
+    is_there = here == top / "bindings/python/ncp.py" and all((top / name).is_file() for name in ("crates.txt", "include/ncp.h", "tools/prebuild"))
+    return top if is_there else None
+
+
+def _path():
+    """Where the library is. That of the repository has to be built from its sources."""
+    named, top = os.environ.get("NCP_LIBRARY"), _repository()
+    if named or not top:
+        return named or SONAME
+    name = SONAME if platform.machine() == "x86_64" else f"{platform.machine()}/{SONAME}"
+    if subprocess.run([top / "tools/prebuild", "--has", name], stdout=subprocess.DEVNULL, stderr=subprocess.DEVNULL).returncode:
+        raise ImportError(f"{top}/prebuilt/{name} is not built from the sources of this repository: run tools/prebuild, or set NCP_LIBRARY")
+    return str(top / "prebuilt" / name)
+
+
 def _library():
-    here = Path(__file__).resolve().parent.parent.parent / "prebuilt"
-    built = here / ("libncp.so.1" if platform.machine() == "x86_64" else f"{platform.machine()}/libncp.so.1")
-    return ctypes.PyDLL(os.environ.get("NCP_LIBRARY") or (str(built) if built.is_file() else "libncp.so.1"))
+    """The library, if it is of this version and has these structs."""
+    if not getattr(sys, "_is_gil_enabled", lambda: True)():
+        raise ImportError("ncp needs a Python with a global lock, and this one runs without it")
+    path = _path()
+    library = ctypes.PyDLL(path)
+    try:
+        library.ncp_version.restype = c_char_p
+        version = library.ncp_version().decode()
+    except AttributeError:
+        raise ImportError(f"{path} is no libncp: it does not say its version") from None
+    if version != VERSION:
+        raise ImportError(f"{path} is version {version} of libncp, and ncp.py is for {VERSION}")
+    library.ncp_sizes.restype = POINTER(c_uint32)
+    sizes = [*map(ctypes.sizeof, _STRUCTS.values()), 0]
+    if library.ncp_sizes()[:len(sizes)] != sizes:
+        raise ImportError(f"{path} has structs of other sizes than ncp.py, though both are version {VERSION}")
+    return library
 
 
 _HANDLE, _BYTES, _SIZE, _BUFFER = POINTER(_Handle), c_char_p, c_size_t, POINTER(c_uint8)
+_INTEGERS = c_uint8, c_uint16, c_uint32, c_size_t
 _PEER, _AT, _WAY = (c_uint8,), (c_uint8, c_uint32, c_uint32), (c_uint8, c_uint8, c_uint8)
 # The functions by their parameters behind the host, or the subnet.
 _CALLS = {
@@ -153,9 +200,6 @@ _ncp.ncp_subnet_free.argtypes, _ncp.ncp_subnet_free.restype = [_HANDLE], None
 _ncp.ncp_is_held.restype = c_bool
 _ncp.ncp_command.argtypes, _ncp.ncp_command.restype = [_BYTES, _SIZE, _SIZE, c_uint32, _BUFFER, _SIZE, POINTER(_SIZE)], c_uint32
 _ncp.ncp_word.argtypes, _ncp.ncp_word.restype = [c_uint32], c_char_p
-_ncp.ncp_version.argtypes, _ncp.ncp_version.restype = [], c_char_p
-
-VERSION = _ncp.ncp_version().decode()
 
 
 class Refused(Exception):
@@ -184,11 +228,30 @@ def _judge(number):
         raise refused
 
 
+def _bytes(data):
+    """The bytes of what has a buffer, as many as that has, whatever its items are and its len is."""
+    return memoryview(data).tobytes()
+
+
 def _bits(data, count):
     """Bits as they are passed: bytes, a Bits, or bytes and a number of bits."""
     if isinstance(data, Bits):
-        return data
-    return Bits(bytes(data), 8 * len(data) if count is None else count)
+        data, count = data
+    data = _bytes(data)
+    return Bits(data, 8 * len(data) if count is None else _fitting("bits", c_size_t, count))
+
+
+def _fitting(name, kind, number):
+    """A number for a parameter; one that has no place in it is an OverflowError."""
+    number, bits = operator.index(number), 8 * ctypes.sizeof(kind)
+    if not 0 <= number < 1 << bits:
+        raise OverflowError(f"{name}: {number} has no place in {bits} bits")
+    return number
+
+
+def _numbers(hosts):
+    """Numbers of hosts, as bytes."""
+    return bytes(_fitting("hosts", c_uint8, host) for host in hosts)
 
 
 def commands(data, count=None):
@@ -208,11 +271,12 @@ class _Handled:
     _free = None
 
     def __init__(self):
-        self._handle = _Handle()
+        self._handle, self._lock = _Handle(), threading.RLock()
 
     def free(self):
-        """Gives back what the library has for it. A call behind that is refused: NoHost, NoSubnet."""
-        getattr(_ncp, self._free)(byref(self._handle))
+        """Gives back what the library has for it. A call after that is refused: NoHost, NoSubnet."""
+        with self._lock:
+            getattr(_ncp, self._free)(byref(self._handle))
 
     def __enter__(self):
         return self
@@ -225,11 +289,10 @@ class _Handled:
             self.free()
 
     def _answer(self, name, *words):
-        """What a function answers; a number that has no place in its parameter is an OverflowError."""
-        for kind, word in zip(_CALLS[name], words):
-            if isinstance(word, int) and not 0 <= word < 1 << 8 * ctypes.sizeof(kind):
-                raise OverflowError(f"{name}: {word} has no place in {8 * ctypes.sizeof(kind)} bits")
-        return getattr(_ncp, f"ncp_{name}")(byref(self._handle), *words)
+        """What a function answers."""
+        words = [_fitting(name, kind, word) if kind in _INTEGERS else word for kind, word in zip(_CALLS[name], words)]
+        with self._lock:
+            return getattr(_ncp, f"ncp_{name}")(byref(self._handle), *words)
 
     def _do(self, name, *words):
         _judge(self._answer(name, *words))
@@ -263,34 +326,37 @@ class Host(_Handled):
 
     def __init__(self, me, peers):
         super().__init__()
-        self.me, self.peers = me, tuple(peers)
+        numbers = _numbers(peers)
+        self.me, self.peers = operator.index(me), tuple(numbers)
         self._seen, self._known = {}, {}
-        self._do("new", me, bytes(self.peers), len(self.peers))
+        self._do("new", me, numbers, len(numbers))
 
     def copy(self):
         """Another host in the same state, with what was seen for `events`: what happens to one leaves the other as it is."""
         copy = Host.__new__(Host)
         _Handled.__init__(copy)
-        copy.me, copy.peers, copy._seen = self.me, self.peers, dict(self._seen)
-        copy._known = {key: Connection.from_buffer_copy(seen) for key, seen in self._known.items()}
-        self._do("copy", byref(copy._handle))
+        with self._lock:
+            copy.me, copy.peers, copy._seen = self.me, self.peers, dict(self._seen)
+            copy._known = {key: Connection.from_buffer_copy(seen) for key, seen in self._known.items()}
+            self._do("copy", byref(copy._handle))
         return copy
 
     def save(self):
         """The host as bytes, for `load`: so it is pickled too. They say nothing of what was seen for `events`."""
         size = c_size_t()
-        number = self._answer("save", None, 0, byref(size))
-        if number != SHORT_BUFFER:
-            _judge(number)
-        return self._bytes("save", room=size.value)[0]
+        with self._lock:
+            number = self._answer("save", None, 0, byref(size))
+            if number != SHORT_BUFFER:
+                _judge(number)
+            return self._bytes("save", room=size.value)[0]
 
     @classmethod
     def load(cls, data):
         """The host that is saved as these bytes, which may come from anywhere: NotAHost, OtherVersion. Its peers are in the order of
         their numbers, and its first `events` tell all that there is."""
-        host = cls.__new__(cls)
+        host, data = cls.__new__(cls), _bytes(data)
         _Handled.__init__(host)
-        host._do("load", bytes(data), len(data))
+        host._do("load", data, len(data))
         host.me, host._seen, host._known = data[9], {}, {}
         host.peers = tuple(peer for peer in range(256) if host._answer("phase", peer, byref(Flags())) != UNKNOWN_PEER)
         return host
@@ -321,12 +387,14 @@ class Host(_Handled):
         self._do("reset", peer)
 
     def ask_send(self, peer, local, remote, size=8, room=65536):
-        self._do("ask_send", peer, local, remote, size, room)
-        self._watch(peer, local, remote, True)
+        with self._lock:
+            self._do("ask_send", peer, local, remote, size, room)
+            self._watch(peer, local, remote, True)
 
     def ask_receive(self, peer, local, remote, room=65536):
-        self._do("ask_receive", peer, local, remote, room)
-        self._watch(peer, local, remote, True)
+        with self._lock:
+            self._do("ask_receive", peer, local, remote, room)
+            self._watch(peer, local, remote, True)
 
     def give(self, peer, local, remote, data, count=None):
         bits = _bits(data, count)
@@ -348,8 +416,9 @@ class Host(_Handled):
         self._do("interrupt", peer, local, remote)
 
     def close(self, peer, local, remote):
-        self._do("close", peer, local, remote)
-        self._known.setdefault((peer, local, remote), Connection(asked=True)).leaving = True  # also where nobody looks before it is gone
+        with self._lock:
+            self._do("close", peer, local, remote)
+            self._watch(peer, local, remote, True).leaving = True  # also if nobody looks before it is gone
 
     def echo(self, peer, byte):
         self._do("echo", peer, byte)
@@ -383,13 +452,14 @@ class Host(_Handled):
         """The connections with a peer: the sockets here and there, and what is known of each, in the order of the sockets here. One that
         was heard and not asked is a peer that asks."""
         found = []
-        while True:
-            local, remote, known = c_uint32(), c_uint32(), Connection()
-            number = self._answer("connection_at", peer, len(found), byref(local), byref(remote), byref(known))
-            if number == NOTHING:
-                return found
-            _judge(number)
-            found.append((local.value, remote.value, known))
+        with self._lock:
+            while True:
+                local, remote, known = c_uint32(), c_uint32(), Connection()
+                number = self._answer("connection_at", peer, len(found), byref(local), byref(remote), byref(known))
+                if number == NOTHING:
+                    return found
+                _judge(number)
+                found.append((local.value, remote.value, known))
 
     def room(self, peer, local, remote):
         """For how many bits a connection has room in all."""
@@ -415,7 +485,8 @@ class Host(_Handled):
 
     def errors(self, peer):
         """The last sixteen ERRs that came, the oldest first."""
-        found = (self._told("error", Noted, peer, place) for place in range(16))
+        with self._lock:
+            found = [self._told("error", Noted, peer, place) for place in range(16)]
         return [it for it in found if it is not None]
 
     def counts(self, peer):
@@ -427,8 +498,9 @@ class Host(_Handled):
     def waiting(self, peer):
         """The commands that wait for a peer, as bytes, in their order."""
         found = []
-        while command := self._bytes("waiting", peer, len(found), room=LONGEST_COMMAND):
-            found.append(command[0][:command[1]])
+        with self._lock:
+            while command := self._bytes("waiting", peer, len(found), room=LONGEST_COMMAND):
+                found.append(command[0][:command[1]])
         return found
 
     def kept(self, peer, link):
@@ -444,34 +516,47 @@ class Host(_Handled):
         return changes
 
     def _watch(self, peer, local, remote, asked):
-        self._known.setdefault((peer, local, remote), Connection(asked=asked))
+        """What was seen of a connection, from now on. If nobody asks for events, those that ended are forgotten from time to time."""
+        if len(self._known) >= WATCHED * len(self.peers):
+            there = {(at, *it[:2]) for at in self.peers for it in self.connections(at)}
+            self._known = {key: seen for key, seen in self._known.items() if key in there}
+        return self._known.setdefault((*map(operator.index, (peer, local, remote)),), Connection(asked=asked))
 
     def events(self):
         """What changed since the last look, by readings of each peer and of each connection. Of what changed twice in between, only
-        the end is seen: so look after each message that comes."""
+        the end is seen: so look after each message that comes. Each event is given once, also to two that go through them at once. Of
+        more than WATCHED connections a peer that ended since the last look, some are forgotten."""
         for peer in self.peers:
-            now = self.is_up(peer), self.echoed(peer)
-            before = self._seen.get(peer, (False, None))
+            yield from self._look_at(peer)
+        with self._lock:
+            known = [*self._known]
+        for key in known:
+            yield from self._look_at_connection(key)
+
+    def _look_at(self, peer):
+        with self._lock:
+            now, before = (self.is_up(peer), self.echoed(peer)), self._seen.get(peer, (False, None))
             self._seen[peer] = now
-            if now[0] != before[0]:
-                yield Event("up" if now[0] else "down", peer)
-            if now[1] != before[1]:
-                yield Event("echoed", peer, told=now[1])
             for local, remote, _ in self.connections(peer):
                 self._watch(peer, local, remote, False)
-        for (peer, local, remote), seen in [*self._known.items()]:
-            yield from self._changes(Event("", peer, local, remote), seen)
+        if now[0] != before[0]:
+            yield Event("up" if now[0] else "down", peer)
+        if now[1] != before[1]:
+            yield Event("echoed", peer, told=now[1])
 
-    def _changes(self, at, seen):
-        key = at.peer, at.local, at.remote
-        changes = self.changes(*key, seen)
-        if not (seen.asked or seen.heard):
-            del self._known[key]
-        told = {"asks": seen.link if seen.sends else seen.size, "text": seen.stored, "allowed": (seen.messages, seen.bits),
-                "interrupted": seen.interrupts}
+    def _look_at_connection(self, key):
+        with self._lock:
+            seen = self._known.get(key)
+            if seen is None:
+                return
+            changes = self.changes(*key, seen)
+            if not (seen.asked or seen.heard):
+                del self._known[key]
+            told = {"asks": seen.link if seen.sends else seen.size, "text": seen.stored, "allowed": (seen.messages, seen.bits),
+                    "interrupted": seen.interrupts}
         for name, _ in Changes._fields_:
             if getattr(changes, name):
-                yield at._replace(what=name, told=told.get(name))
+                yield Event(name, *key, told.get(name))
 
 
 class Subnet(_Handled):
@@ -481,8 +566,9 @@ class Subnet(_Handled):
 
     def __init__(self, hosts):
         super().__init__()
-        self.hosts = tuple(hosts)
-        self._do("subnet_new", bytes(self.hosts), len(self.hosts))
+        numbers = _numbers(hosts)
+        self.hosts = tuple(numbers)
+        self._do("subnet_new", numbers, len(numbers))
 
     def accept(self, sender, data, count=None):
         """Takes a message of a host. Its destination and link are those of its leader."""
@@ -521,4 +607,5 @@ class Capture:
 
     def message(self, direction, at, bits):
         """Writes a message at the interface of the host `at`, TO_IMP or FROM_IMP."""
-        self._file.write(bytes([direction, at]) + bits.count.to_bytes(2, "big") + bits.data[:(bits.count + 7) // 8])
+        data, count = _bits(bits, None)
+        self._file.write(_numbers((direction, at)) + count.to_bytes(2, "big") + data[:(count + 7) // 8])

@@ -1,9 +1,16 @@
-"""The binding: refusals, what is told, captures and events; two_hosts.py prints what the example in C prints; and the examples
-of README.md are as they print."""
+"""The binding: refusals, what is told, captures and events, which library it loads; two_hosts.py prints what the example in C
+prints; and the examples of README.md are as they print."""
+import array
 import contextlib
 import doctest
 import io
+import os
 import pickle
+import shutil
+import subprocess
+import sys
+import tempfile
+import threading
 import unittest
 from pathlib import Path
 
@@ -11,6 +18,7 @@ import ncp
 import two_hosts
 
 HERE = Path(__file__).resolve().parent
+TOP = HERE.parent.parent
 RST, RRP, RFNM = "0002000000080001000c", "0002000000080001000d", "05020000"
 
 
@@ -21,6 +29,32 @@ def up_with(peer):
     list(host.outputs())
     host.receive(bytes([5, peer, 0, 0]))
     return host
+
+
+class Number:
+    """A number that is no int, as numpy has them."""
+
+    def __init__(self, number):
+        self.number = number
+
+    def __index__(self):
+        return self.number
+
+
+class Liar(bytes):
+    def __len__(self):
+        return 1
+
+
+class Interrupted(ncp.Host):
+    """A host that another thread wants to call while it is saved."""
+
+    def _answer(self, name, *words):
+        number = super()._answer(name, *words)
+        if name == "save" and words[1] == 0 and hasattr(self, "other"):
+            self.other.start()
+            self.other.join(0.2)
+        return number
 
 
 class Binding(unittest.TestCase):
@@ -48,6 +82,78 @@ class Binding(unittest.TestCase):
         for call in (lambda: host.reset(258), lambda: host.reset(-1), lambda: host.ask_send(2, 1 << 32, 2), lambda: host.allocate(2, 3, 2, 1 << 16, 8)):
             with self.assertRaises(OverflowError):
                 call()
+
+    def test_what_can_be_an_index_is_judged_as_a_number(self):
+        host = ncp.Host(Number(1), [Number(2)])
+        self.assertEqual((host.me, host.peers), (1, (2,)))
+        host.reset(Number(2))
+        for call in (lambda: host.reset(Number(258)), lambda: host.receive(bytes(4), Number(1 << 64)), lambda: ncp.Host(1, [258]),
+                     lambda: ncp.commands(bytes(4), -1), lambda: ncp.Subnet([1, 256])):
+            with self.assertRaises(OverflowError):
+                call()
+        for call in (lambda: host.reset(2.0), lambda: host.receive(bytes(4), 32.0), lambda: host.echo(2, "A")):
+            with self.assertRaises(TypeError):
+                call()
+
+    def test_bytes_are_those_of_the_buffer(self):
+        host = up_with(2)
+        host.ask_receive(2, 2, 3, room=64)
+        # The peer's STR, as five items of sixteen bits, and as ten of which the len lies.
+        text = bytes.fromhex("000200000008000a00" "02" "00000003" "00000002" "08")
+        self.assertEqual(host.receive(array.array("B", text)).what, "control")
+        host.allocate(2, 2, 3, 4, 64)
+        words = array.array("H", bytes.fromhex("000202000008000200" "6869" "00"))
+        self.assertEqual(host.receive(words), ("text", 1, 2, 2, 2, 3, 0, 0, 0))
+        self.assertEqual(host.take(2, 2, 3), (b"hi", 16))
+        self.assertEqual(host.receive(Liar(bytes.fromhex("000202000008000200" "6869"))).what, "text")
+        self.assertEqual(host.receive(ncp.Bits(Liar(bytes.fromhex("000202000008000200" "6869")), 88)).what, "text")
+        with self.assertRaises(ncp.ShortBytes):
+            host.receive(ncp.Bits(Liar(b"\0\2\0\0"), 8000))
+        self.assertEqual(ncp.Host.load(Liar(host.save())).save(), host.save())
+        self.assertEqual(host.receive(array.array("H")).what, "short")
+        with self.assertRaises(TypeError):
+            host.receive(4)
+
+    def test_a_host_is_saved_while_another_thread_calls_it(self):
+        host = Interrupted(1, [2])
+        host.receive(bytes.fromhex(RST))
+        before = ncp.Host.save(host)
+        host.other = threading.Thread(target=host.ask_receive, args=(2, 2, 3))
+        self.assertEqual(host.save(), before)
+        host.other.join()
+        self.assertTrue(host.state(2, 2, 3).asked)
+
+    def test_nothing_grows_if_nobody_asks_for_events(self):
+        host = up_with(2)
+        for each in range(1000):
+            # The peer asks to send, is answered, and both close.
+            local, remote = 2 * each, 2 * each + 1
+            both = remote.to_bytes(4, "big") + local.to_bytes(4, "big")
+            host.receive(bytes.fromhex("000200000008000a00" "02") + both + b"\x08")
+            host.ask_receive(2, local, remote, room=64)
+            host.close(2, local, remote)
+            for message in host.outputs():
+                host.receive(bytes([5, *message.data[1:3], 0]))
+            host.receive(bytes.fromhex("000200000008000900" "03") + both)
+        self.assertEqual(host.connections(2), [])
+        self.assertLessEqual(len(host._known), 256)
+        # What is there is told of nevertheless, and what ended of late.
+        host.ask_receive(2, 2, 3, room=64)
+        host.receive(bytes.fromhex("000200000008000a00" "02" "00000003" "00000002" "08"))
+        told = list(host.events())
+        self.assertIn(("opened", 2, 2, 3, None), told)
+        self.assertIn(("closed", 2, 1998, 1999, None), told)
+
+    def test_two_go_through_the_events_at_once(self):
+        host = up_with(2)
+        list(host.events())
+        for local in 2, 4:
+            host.ask_receive(2, local, 3, room=64)
+        # The peer refuses both.
+        host.receive(bytes.fromhex("000200000008001200" "03" "00000003" "00000002" "03" "00000003" "00000004"))
+        one, other = host.events(), host.events()
+        told = [next(one), next(other), *one, *other]
+        self.assertEqual(sorted(told), [("refused", 2, 2, 3, None), ("refused", 2, 4, 3, None)])
 
     def test_no_host_once_it_is_free(self):
         with ncp.Host(1, [2]) as host:
@@ -244,8 +350,83 @@ class Binding(unittest.TestCase):
         self.assertEqual(file.getvalue(), bytes.fromhex("4e43504a" "48010020" "04000000" "49010005" "f8"))
 
     def test_the_version(self):
-        header = (HERE.parent.parent / "include/ncp.h").read_text(encoding="utf-8")
+        header = (TOP / "include/ncp.h").read_text(encoding="utf-8")
         self.assertIn(f'#define NCP_VERSION "{ncp.VERSION}"\n', header)
+
+    def test_the_structs_are_those_of_the_library(self):
+        lines = [ncp.SONAME]
+        for name, struct in ncp._STRUCTS.items():
+            lines += [f"{name} {ncp.ctypes.sizeof(struct)}"]
+            lines += [f"{name}.{field} {getattr(struct, field).offset} {getattr(struct, field).size}" for field, _ in struct._fields_]
+        told = "a struct never changes within a soname: give the library a new one, and all bindings its structs"
+        self.assertEqual((TOP / "include/abi.txt").read_text(encoding="utf-8").splitlines(), lines, told)
+
+
+class Loading(unittest.TestCase):
+    """Which library a copy of ncp.py loads, in a process of its own."""
+
+    def setUp(self):
+        room = tempfile.TemporaryDirectory()
+        self.addCleanup(room.cleanup)
+        self.room = Path(room.name).resolve()
+        self.installed = Path(ncp._ncp._name).parent
+
+    def copied_to(self, folder):
+        (self.room / folder).mkdir(parents=True, exist_ok=True)
+        shutil.copy(HERE / "ncp.py", self.room / folder)
+        return folder
+
+    def library(self, source):
+        """A shared library of a line of C, which is no host."""
+        made = self.room / "made.so"
+        subprocess.run(["cc", "-shared", "-fPIC", "-x", "c", "-o", made, "-"], input=source, text=True, check=True)
+        return made
+
+    def said(self, folder, before="", library=None):
+        """What a program says that imports it, where a library of this version is installed."""
+        env = {**os.environ, "LD_LIBRARY_PATH": str(self.installed), "NCP_LIBRARY": str(library or "")}
+        code = f"{before}\ntry:\n    import ncp\n    print(ncp._ncp._name)\nexcept ImportError as error:\n    print(error)"
+        ran = subprocess.run([sys.executable, "-B", "-c", code], cwd=self.room / folder, env=env, stdout=subprocess.PIPE, text=True, check=True)
+        return ran.stdout.strip()
+
+    def test_a_copy_trusts_no_folder(self):
+        planted = self.room / "prebuilt" / ncp.SONAME
+        planted.parent.mkdir()
+        planted.write_text("of anybody")
+        for folder in "any/where", "bindings/python":
+            self.assertEqual(self.said(self.copied_to(folder)), ncp.SONAME)
+
+    def test_in_the_repository_it_is_of_these_sources(self):
+        folder = self.copied_to("bindings/python")
+        for name in "crates.txt", "include/ncp.h":
+            (self.room / name).parent.mkdir(exist_ok=True)
+            (self.room / name).touch()
+        name = ncp.SONAME if ncp.platform.machine() == "x86_64" else f"{ncp.platform.machine()}/{ncp.SONAME}"
+        built, tool = self.room / "prebuilt" / name, self.room / "tools/prebuild"
+        for it in built, tool:
+            it.parent.mkdir(parents=True)
+        shutil.copy(self.installed / ncp.SONAME, built)
+        for status, said in (0, str(built)), (1, f"{built} is not built from the sources of this repository: run tools/prebuild, or set NCP_LIBRARY"):
+            tool.write_text(f'#!/bin/sh\n[ "$1 $2" = "--has {name}" ] && exit {status}\n')
+            tool.chmod(0o755)
+            self.assertEqual(self.said(folder), said)
+
+    @unittest.skipUnless(shutil.which("cc"), "there is no C compiler")
+    def test_another_library_is_refused(self):
+        folder = self.copied_to("any/where")
+        version = 'const char *ncp_version(void) { return "%s"; }'
+        sizes = "const unsigned *ncp_sizes(void) { static const unsigned all[] = {8, 8, 12, 4, 28, 12, 11, 28, 10, 0}; return all; }"
+        for source, said in (
+            ("int none;", "is no libncp: it does not say its version"),
+            (version % "1.1.0", "is version 1.1.0 of libncp, and ncp.py is for 2.0.0"),
+            (version % "2.0.0" + sizes, "has structs of other sizes than ncp.py, though both are version 2.0.0"),
+        ):
+            made = self.library(source)
+            self.assertEqual(self.said(folder, library=made), f"{made} {said}")
+
+    def test_a_python_without_a_global_lock_is_refused(self):
+        before = "import sys; sys._is_gil_enabled = lambda: False"
+        self.assertEqual(self.said(self.copied_to("any/where"), before), "ncp needs a Python with a global lock, and this one runs without it")
 
 
 def load_tests(_loader, tests, _pattern):

@@ -248,6 +248,16 @@ static void names(void)
     IS(0, (uint32_t)strcmp(NCP_VERSION, ncp_version()));
 }
 
+/* The library says the sizes of the structs that it has, and then 0. */
+#define SIZE_IS(name) IS(sizeof(struct name), *at++);
+
+static void sizes(void)
+{
+    const uint32_t *at = ncp_sizes();
+    NCP_STRUCTS(SIZE_IS)
+    IS(0, *at);
+}
+
 /* The commands of a message, of no other, and up to one that is none. */
 static void commands(void)
 {
@@ -551,6 +561,7 @@ int main(void)
     ncp_free(&host);
     no_memory();
     names();
+    sizes();
     memset(out, MARK, sizeof out);
     commands();
     memset(out, MARK, sizeof out);

@@ -15,7 +15,7 @@ RT = """#!/bin/sh
 """
 LIBRARY = """#!/bin/sh
 mkdir -p "$3"
-for name in libncp.a libncp.so.1; do
+for name in libncp.a libncp.so.2; do
     [ "$1" = --target ] && cat "$(dirname "$0")/../crates/ncp_embed/src/lib.rt" >"$3/$name" && echo "$name $2$REMARK" >>"$3/$name"
 done
 """
@@ -114,7 +114,7 @@ class Prebuilding(unittest.TestCase):
         self.assertEqual(status, 1)
         self.assertIn("prebuilt/libncp.a is of these sources", said)
         self.assertIn("prebuilt/aarch64/libncp.a was built from other sources", said)
-        self.assertEqual([self.prebuild("--has", name)[0] for name in ("ncp", "libncp.so.1", "aarch64/libncp.so.1")], [0, 0, 1])
+        self.assertEqual([self.prebuild("--has", name)[0] for name in ("ncp", "libncp.so.2", "aarch64/libncp.so.2")], [0, 0, 1])
         write(f"{self.top}/include/ncp.h", "other code\n")
         self.assertEqual([self.prebuild("--has", name)[0] for name in ("ncp", "libncp.a", "aarch64/libncp.a")], [0, 1, 1])
 
@@ -128,7 +128,7 @@ class Prebuilding(unittest.TestCase):
     def test_each_target_has_its_archive(self):
         self.prebuild()
         for at, target in ("", "x86-64"), ("aarch64/", "aarch64"):
-            for name in "libncp.a", "libncp.so.1":
+            for name in "libncp.a", "libncp.so.2":
                 with open(f"{self.top}/prebuilt/{at}{name}", encoding="utf-8") as file:
                     self.assertEqual(file.read(), f"code of the library\n{name} {target}\n")
 
@@ -198,7 +198,7 @@ class Prebuilding(unittest.TestCase):
     def test_a_file_that_was_swapped_with_its_sum(self):
         self.prebuild()
         self.prebuild("--again")
-        for name in "libncp.a", "aarch64/libncp.so.1", "ncp.wasm":
+        for name in "libncp.a", "aarch64/libncp.so.2", "ncp.wasm":
             self.swap(name, f"somebody's {name}\n")
             self.assertEqual(self.prebuild("--compare")[0], 0)
             status, said = self.prebuild("--again")
@@ -230,7 +230,7 @@ class Prebuilding(unittest.TestCase):
         os.remove(f"{self.bin}/aarch64-linux-gnu-gcc")
         status, said = self.prebuild("--again")
         self.assertEqual(status, 0, said)
-        self.assertIn("prebuilt/aarch64/libncp.so.1: left out, since aarch64-linux-gnu-gcc is not here", said)
+        self.assertIn("prebuilt/aarch64/libncp.so.2: left out, since aarch64-linux-gnu-gcc is not here", said)
 
     def test_a_page_that_is_not_as_it_would_be_made(self):
         self.prebuild()

@@ -81,7 +81,7 @@ class Library(Scripts):
         write(f"{self.top}/tools/prebuild", HAS, 0o755)
         for at in "", "aarch64/":
             write(f"{self.top}/prebuilt/{at}libncp.a", "archive\n")
-            write(f"{self.top}/prebuilt/{at}libncp.so.1", "shared\n")
+            write(f"{self.top}/prebuilt/{at}libncp.so.2", "shared\n")
         self.prefix = f"{self.room.name}/to/{ODD}"
 
     def install(self):
@@ -97,7 +97,7 @@ class Library(Scripts):
         os.makedirs(f"{self.prefix}/lib/older")
         os.symlink("older", f"{self.prefix}/lib/libncp.so")
         self.install()
-        self.assertEqual(os.readlink(f"{self.prefix}/lib/libncp.so"), "libncp.so.1")
+        self.assertEqual(os.readlink(f"{self.prefix}/lib/libncp.so"), "libncp.so.2")
         self.assertEqual(os.listdir(f"{self.prefix}/lib/older"), [])
 
     @unittest.skipUnless(shutil.which("pkg-config"), "there is no pkg-config")

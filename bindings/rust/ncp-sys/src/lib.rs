@@ -3,6 +3,7 @@
 #![allow(non_camel_case_types)]
 
 use core::ffi::{c_char, c_void};
+use core::mem::{offset_of, size_of};
 
 pub const NCP_DONE: u32 = 0;
 pub const NCP_SHORT_BUFFER: u32 = 34;
@@ -10,101 +11,115 @@ pub const NCP_NOTHING: u32 = 35;
 pub const NCP_LONGEST_MESSAGE: usize = 1024;
 pub const NCP_LONGEST_COMMAND: usize = 12;
 
-#[repr(C)]
-#[derive(Debug)]
-pub struct ncp_host {
-    pub at: *mut c_void,
+/// Makes the structs of the header, in its order, with what is known of their layout.
+macro_rules! structs {
+    ($($(#[$of:meta])* $name:ident { $($field:ident: $kind:ty,)* })*) => {
+        $(
+            #[repr(C)]
+            $(#[$of])*
+            pub struct $name {
+                $(pub $field: $kind,)*
+            }
+        )*
+
+        /// The sizes of the structs in bytes, as `ncp_sizes` has them, with the 0 after the last.
+        pub const SIZES: &[u32] = &[$(size_of::<$name>() as u32,)* 0];
+
+        /// The structs by their names, with their fields: their names, offsets and sizes.
+        pub const STRUCTS: &[(&str, &[(&str, usize, usize)])] = &[
+            $((stringify!($name), &[$((stringify!($field), offset_of!($name, $field), size_of::<$kind>())),*]),)*
+        ];
+    };
 }
 
-#[repr(C)]
-#[derive(Debug)]
-pub struct ncp_subnet {
-    pub at: *mut c_void,
-}
+structs! {
+    #[derive(Debug)]
+    ncp_host {
+        at: *mut c_void,
+    }
 
-#[repr(C)]
-#[derive(Clone, Copy, Debug, Default, PartialEq, Eq)]
-pub struct ncp_arrived {
-    pub what: u32,
-    pub detail: u32,
-    pub local: u32,
-    pub remote: u32,
-    pub errors: u32,
-    pub resets: u32,
-    pub peer: u8,
-    pub link: u8,
-    pub kind: u8,
-}
+    #[derive(Debug)]
+    ncp_subnet {
+        at: *mut c_void,
+    }
 
-#[repr(C)]
-#[derive(Clone, Copy, Debug, Default, PartialEq, Eq)]
-pub struct ncp_flags {
-    pub down: bool,
-    pub want: bool,
-    pub owe: bool,
-    pub wait: bool,
-}
+    #[derive(Clone, Copy, Debug, Default, PartialEq, Eq)]
+    ncp_arrived {
+        what: u32,
+        detail: u32,
+        local: u32,
+        remote: u32,
+        errors: u32,
+        resets: u32,
+        peer: u8,
+        link: u8,
+        kind: u8,
+    }
 
-#[repr(C)]
-#[derive(Clone, Copy, Debug, Default, PartialEq, Eq)]
-pub struct ncp_counted {
-    pub stray: u32,
-    pub faults: u32,
-    pub wrong_link: u32,
-    pub wrong_size: u32,
-    pub not_up: u32,
-    pub late: u32,
-    pub over: u32,
-}
+    #[derive(Clone, Copy, Debug, Default, PartialEq, Eq)]
+    ncp_flags {
+        down: bool,
+        want: bool,
+        owe: bool,
+        wait: bool,
+    }
 
-#[repr(C)]
-#[derive(Clone, Copy, Debug, Default, PartialEq, Eq)]
-pub struct ncp_discarded {
-    pub short_bits: u32,
-    pub other: u32,
-    pub unknown: u32,
-}
+    #[derive(Clone, Copy, Debug, Default, PartialEq, Eq)]
+    ncp_counted {
+        stray: u32,
+        faults: u32,
+        wrong_link: u32,
+        wrong_size: u32,
+        not_up: u32,
+        late: u32,
+        over: u32,
+    }
 
-#[repr(C)]
-#[derive(Clone, Copy, Debug, Default, PartialEq, Eq)]
-pub struct ncp_noted {
-    pub code: u8,
-    pub bytes: [u8; 10],
-}
+    #[derive(Clone, Copy, Debug, Default, PartialEq, Eq)]
+    ncp_discarded {
+        short_bits: u32,
+        other: u32,
+        unknown: u32,
+    }
 
-#[repr(C)]
-#[derive(Clone, Copy, Debug, Default, PartialEq, Eq)]
-pub struct ncp_connection {
-    pub bits: u32,
-    pub stored: u32,
-    pub interrupts: u32,
-    pub messages: u16,
-    pub link: u8,
-    pub size: u8,
-    pub sends: bool,
-    pub asked: bool,
-    pub heard: bool,
-    pub opened: bool,
-    pub leaving: bool,
-    pub left: bool,
-    pub cls: bool,
-    pub busy: bool,
-    pub recall: bool,
-}
+    #[derive(Clone, Copy, Debug, Default, PartialEq, Eq)]
+    ncp_noted {
+        code: u8,
+        bytes: [u8; 10],
+    }
 
-#[repr(C)]
-#[derive(Clone, Copy, Debug, Default, PartialEq, Eq)]
-pub struct ncp_changes {
-    pub closed: bool,
-    pub refused: bool,
-    pub ended: bool,
-    pub asks: bool,
-    pub opened: bool,
-    pub text: bool,
-    pub allowed: bool,
-    pub delivered: bool,
-    pub interrupted: bool,
-    pub closes: bool,
+    #[derive(Clone, Copy, Debug, Default, PartialEq, Eq)]
+    ncp_connection {
+        bits: u32,
+        stored: u32,
+        interrupts: u32,
+        messages: u16,
+        link: u8,
+        size: u8,
+        sends: bool,
+        asked: bool,
+        heard: bool,
+        opened: bool,
+        leaving: bool,
+        left: bool,
+        cls: bool,
+        busy: bool,
+        recall: bool,
+    }
+
+    #[derive(Clone, Copy, Debug, Default, PartialEq, Eq)]
+    ncp_changes {
+        closed: bool,
+        refused: bool,
+        ended: bool,
+        asks: bool,
+        opened: bool,
+        text: bool,
+        allowed: bool,
+        delivered: bool,
+        interrupted: bool,
+        closes: bool,
+    }
 }
 
 extern "C" {
@@ -154,4 +169,5 @@ extern "C" {
     pub fn ncp_name(code: u32, out: *mut c_char, len: usize, bytes: *mut usize) -> u32;
     pub fn ncp_word(code: u32) -> *const c_char;
     pub fn ncp_version() -> *const c_char;
+    pub fn ncp_sizes() -> *const u32;
 }

@@ -15,16 +15,19 @@
 //! # Ok::<(), Refusal>(())
 //! ```
 //!
+//! A library of another version, or with structs of other sizes, is a panic that says so, at the first host.
+//!
 //! A host may go from one thread to another, and be read where it is lent; it is not shared by threads.
 #![no_std]
 
+mod library;
 mod refusal;
 mod subnet;
 
 use core::cell::UnsafeCell;
-use core::ffi::CStr;
 use ncp_sys as sys;
 pub use ncp_sys::{ncp_changes as Changes, ncp_connection as Connection, ncp_counted as Counted, ncp_discarded as Discarded, ncp_flags as Flags, ncp_noted as Noted};
+pub use library::version;
 pub use refusal::Refusal;
 use refusal::{done, found};
 pub use subnet::Subnet;
@@ -168,6 +171,7 @@ impl Drop for Host {
 impl Host {
     // A handle that has no host yet.
     fn none() -> Host {
+        library::judge();
         Host { handle: UnsafeCell::new(sys::ncp_host { at: core::ptr::null_mut() }) }
     }
 
@@ -397,10 +401,4 @@ pub fn command<'a, 'b>(message: impl Into<Bits<'a>>, place: u32, buffer: &'b mut
         sys::ncp_command(message.bytes.as_ptr(), message.bytes.len(), message.len, place, buffer.as_mut_ptr(), buffer.len(), &mut len)
     };
     (answer == sys::NCP_DONE).then(|| &buffer[..len])
-}
-
-/// The version of the library.
-pub fn version() -> &'static str {
-    // SAFETY: the library answers a string that stays.
-    unsafe { CStr::from_ptr(sys::ncp_version()) }.to_str().unwrap_or_default()
 }

@@ -1,6 +1,6 @@
 //! `Subnet`.
 use crate::refusal::{done, found};
-use crate::{front, Bits, Buffer, Refusal};
+use crate::{front, library, Bits, Buffer, Refusal};
 use ncp_sys as sys;
 
 /// The subnet between hosts. Of each message its caller says whether it is delivered, lost, or finds its destination dead; then the
@@ -36,6 +36,7 @@ impl Drop for Subnet {
 impl Subnet {
     /// A subnet between these hosts, each with each other. Refused: `OutOfMemory`.
     pub fn new(hosts: &[u8]) -> Result<Subnet, Refusal> {
+        library::judge();
         let mut subnet = Subnet { handle: sys::ncp_subnet { at: core::ptr::null_mut() } };
         // SAFETY: in all calls here the handle has a subnet, or is empty as here; pointers lead to as much as the length beside them
         // says, and none overlap.
