@@ -147,6 +147,6 @@ int main(int argc, char **argv)
     until(&end, is_closed, "closed");
     send_part(&end.line, LAST, NULL, 0); /* not ready any more */
     ncp_free(&end.host);
-    close(end.line.socket);
+    detach(&end.line);
     return 0;
 }

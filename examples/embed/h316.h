@@ -1,7 +1,8 @@
 /* The line between a host and its IMP as the host interface of the H316 simulator has it, as far as that is known here
  * (README.md): a datagram is `H316`, a sequence number, a count of words and flags, and then the words of 16 bits, all with
  * the most significant byte first. A message is one datagram or more, the last of which has the flag LAST, and its last word
- * is filled up with zeros. */
+ * is filled up with zeros. Sequence numbers begin with 1, and after the last of 32 bits comes 0. A datagram that is no such thing,
+ * or whose number is no next one, is counted and dropped; one that comes from elsewhere does not reach a socket that is connected. */
 #ifndef H316_H
 #define H316_H
 
@@ -18,6 +19,7 @@ enum {
     WORDS_A_PART = 64, /* in a datagram */
     NAME = 4,         /* bytes of the header, up to the sequence number */
     HEAD = 12,        /* all bytes of the header */
+    AHEAD = 16,       /* so many datagrams may be lost on the way, at most, and the next is taken at once */
     LAST = 1,         /* flags: the message ends here */
     READY = 2         /* and who sends this is ready */
 };
@@ -27,7 +29,9 @@ enum { GOING_DOWN = NCP_TYPE_GOING_DOWN, NOP = NCP_TYPE_NOP, INTERFACE_RESET = N
 
 struct line {
     int socket;
-    uint32_t sent, came;                  /* the last sequence numbers */
+    uint32_t sent, came;                  /* the last sequence numbers that were sent, and taken */
+    uint32_t seen;                        /* and that came, whatever became of it */
+    size_t dropped;                       /* datagrams that were of no use */
     uint8_t message[NCP_LONGEST_MESSAGE]; /* what has come of a message */
     size_t len;
     bool is_ready; /* whether the other end is, as it said last */
@@ -58,6 +62,13 @@ static inline void attach(struct line *line, const char *here, const char *there
     if (line->socket < 0) give_up("socket");
     if (bind(line->socket, (const struct sockaddr *)&from, sizeof from) != 0) give_up("bind");
     if (connect(line->socket, (const struct sockaddr *)&to, sizeof to) != 0) give_up("connect");
+}
+
+/* Ends a line, and says how many datagrams were dropped, if any were. */
+static inline void detach(const struct line *line)
+{
+    if (line->dropped > 0) fprintf(stderr, "datagrams that were dropped: %lu\n", (unsigned long)line->dropped);
+    close(line->socket);
 }
 
 static inline void put(uint8_t *at, uint32_t number, size_t bytes)
@@ -110,8 +121,17 @@ static inline bool is_there(const struct line *line)
     return poll(&ready, 1, 0) > 0;
 }
 
-/* Waits for a datagram, but not for ever. Where it ends a message, the bits of that are answered, with what fills up its last word; else 0.
- * What is old, or no datagram of this form, is passed over; a sequence begins anew with 1. */
+/* Whether a sequence number may come next: any at first, then up to AHEAD more than the last one that was taken, or 1, since the other
+ * end may begin again. Any other is old or wrong, and taken only if it follows the last one that came: so no single one shuts the line. */
+static inline bool is_next(struct line *line, uint32_t sequence)
+{
+    const uint32_t more = sequence - line->came;
+    const bool follows = sequence == line->seen + 1;
+    line->seen = sequence;
+    return more != 0 && (line->came == 0 || more <= AHEAD || sequence == 1 || follows);
+}
+
+/* Waits for a datagram, but not for ever. If it ends a message, the bits of that are answered, with what fills up its last word; else 0. */
 static inline size_t take_part(struct line *line)
 {
     uint8_t datagram[HEAD + 2 * 65535];
@@ -120,9 +140,11 @@ static inline size_t take_part(struct line *line)
     uint32_t sequence, flags;
     size_t bytes;
     if (len < 0) return 0;
+    line->dropped++;
     if (len < HEAD || memcmp(datagram, "H316", NAME) != 0 || 2 * got(datagram + 8, 2) != (uint32_t)len - HEAD) return 0;
     sequence = got(datagram + NAME, 4), flags = got(datagram + 10, 2), bytes = (size_t)len - HEAD;
-    if (sequence != 1 && sequence <= line->came) return 0;
+    if (!is_next(line, sequence)) return 0;
+    line->dropped--;
     if (sequence != line->came + 1) line->len = 0; /* a part is missing, so what came before is of no use */
     line->came = sequence;
     line->is_ready = (flags & READY) != 0;

@@ -62,6 +62,6 @@ int main(int argc, char **argv)
             if (bits >= 8 * LEADER) carry((uint8_t)(host + 1), lines[host].message, bits);
         }
     }
-    for (int host = 0; host < HOSTS; host++) close(lines[host].socket);
+    for (int host = 0; host < HOSTS; host++) detach(&lines[host]);
     return 0;
 }

@@ -26,6 +26,13 @@ static inline void say(const char *words, const uint8_t *message, size_t bits)
     printf("\n");
 }
 
+/* The text of a peer: what is no letter, digit or sign of ASCII as its digits, as \x1b, since a terminal may obey it. */
+static inline void say_text(const uint8_t *text, size_t len)
+{
+    for (size_t place = 0; place < len; place++) printf(text[place] >= 0x20 && text[place] < 0x7f ? "%c" : "\\x%02x", text[place]);
+    printf("\n");
+}
+
 /* The answer of a network to a message of a host: a leader of a type, of the host that it went to, on
  * the link that it went on. */
 static inline void answer_of(uint8_t type, const uint8_t *message, uint8_t answer[LEADER])

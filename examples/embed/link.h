@@ -1,5 +1,6 @@
 /* A host of the examples at its end of a datagram socket: each message is a datagram, two bytes that say how
- * many bits it has, the most significant byte first, and then the message. */
+ * many bits it has, the most significant byte first, and then the message. A datagram that comes from elsewhere than the other
+ * program, or has no message, is counted and dropped: each program names the socket of the other as that names its own. */
 #ifndef LINK_H
 #define LINK_H
 
@@ -18,7 +19,8 @@ struct end {
     uint8_t peer;
     int socket;
     struct sockaddr_un there;
-    bool loses; /* whether the next text is lost on the way */
+    bool loses;     /* whether the next text is lost on the way */
+    size_t dropped; /* datagrams that were of no use */
 };
 
 static inline void give_up(const char *what)
@@ -48,6 +50,7 @@ static inline void begin(struct end *end, uint8_t me, uint8_t peer, const char *
     end->host.at = NULL;
     end->peer = peer;
     end->loses = false;
+    end->dropped = 0;
     end->there = address(there);
     end->socket = socket(AF_UNIX, SOCK_DGRAM, 0);
     if (end->socket < 0) give_up("socket");
@@ -92,25 +95,40 @@ static inline void send_all(struct end *end)
     }
 }
 
-/* Waits for a datagram, and gives it to the host. A message of the other host is answered by RFNM, as
+/* Waits for a datagram, of which there is room for one byte more than a message takes. Its length, or 0 where it comes from elsewhere. */
+static inline size_t wait_for_one(struct end *end, uint8_t datagram[HEAD + NCP_LONGEST_MESSAGE + 1])
+{
+    struct sockaddr_un from;
+    socklen_t from_len = sizeof from;
+    ssize_t len;
+    memset(&from, 0, sizeof from);
+    len = recvfrom(end->socket, datagram, HEAD + NCP_LONGEST_MESSAGE + 1, 0, (struct sockaddr *)&from, &from_len);
+    if (len < 0) give_up("recv");
+    return strncmp(from.sun_path, end->there.sun_path, sizeof from.sun_path) == 0 ? (size_t)len : 0;
+}
+
+/* Gives the host the message of a datagram of this length, if it has one. A message of the other host is answered by RFNM, as
  * a network does, whose leaders name the host that they come from. */
+static inline bool take_message(struct end *end, uint8_t *datagram, size_t len)
+{
+    uint8_t *message = datagram + HEAD;
+    uint8_t answer[LEADER];
+    size_t bits = (size_t)datagram[0] << 8 | datagram[1];
+    bool is_regular = message[0] == REGULAR;
+    struct ncp_arrived arrived;
+    if (len < HEAD + LEADER || len > HEAD + NCP_LONGEST_MESSAGE || bits < 8 * LEADER) return false;
+    answer_of(RFNM, message, answer);
+    if (is_regular) message[1] = end->peer;
+    if (ncp_receive(&end->host, message, len - HEAD, bits, &arrived) != NCP_DONE) return false;
+    if (is_regular) post(end, answer, 8 * sizeof answer);
+    return true;
+}
+
+/* Waits for a datagram, and takes the message in it, if it has one. */
 static inline void take_one(struct end *end)
 {
-    uint8_t datagram[HEAD + NCP_LONGEST_MESSAGE];
-    uint8_t answer[LEADER];
-    uint8_t *message = datagram + HEAD;
-    ssize_t len = recv(end->socket, datagram, sizeof datagram, 0);
-    if (len < 0) give_up("recv");
-    if (len < HEAD + LEADER) {
-        fputs("a datagram came that is too short for a message\n", stderr);
-        exit(1);
-    }
-    if (message[0] == REGULAR) {
-        answer_of(RFNM, message, answer);
-        message[1] = end->peer;
-        post(end, answer, 8 * sizeof answer);
-    }
-    hand(&end->host, message, (size_t)len - HEAD, (size_t)datagram[0] << 8 | datagram[1]);
+    uint8_t datagram[HEAD + NCP_LONGEST_MESSAGE + 1] = {0};
+    if (!take_message(end, datagram, wait_for_one(end, datagram))) end->dropped++;
 }
 
 static inline bool end_is_up(struct end *end)
@@ -139,6 +157,7 @@ static inline void until(struct end *end, bool (*holds)(struct end *end))
 
 static inline void finish(struct end *end, const char *here)
 {
+    if (end->dropped > 0) fprintf(stderr, "datagrams that were dropped: %lu\n", (unsigned long)end->dropped);
     ncp_free(&end->host);
     close(end->socket);
     unlink(here);

@@ -47,7 +47,8 @@ int main(int argc, char **argv)
     want(NCP_DONE, ncp_pair_on(&end.host, PEER, false, FIRST_LINK, &local, &remote), "pair_on");
     printf("link %d leads to socket %d, from %d\n", FIRST_LINK, (int)local, (int)remote);
     want(NCP_DONE, ncp_take(&end.host, PEER, EVEN, ODD, 100, text, sizeof text, &bits), "take");
-    printf("took %d bits: %.*s\n", (int)bits, (int)(bits / 8), (const char *)text);
+    printf("took %d bits: ", (int)bits);
+    say_text(text, bits / 8);
     until(&end, is_closed);
     puts("closed");
     finish(&end, argv[1]);

@@ -1,5 +1,6 @@
 /* A server: it waits on its contact socket, and sends whoever asks there a number of 32 bits, as the initial connection
- * protocol begins. Who asks stands among its connections. What it prints stands in server.txt. */
+ * protocol begins. Who asks stands among its connections. A request that it cannot serve, as the 65th of a peer while 64 are open, it
+ * refuses by a CLS. What it prints stands in server.txt. */
 #include "imp.h"
 
 enum { SERVER = 9, FIRST = 1, OTHER = 3, CONTACT = 1 /* an odd socket, since it sends */, SIZE = 32 };
@@ -11,17 +12,26 @@ static uint32_t socket_in(const uint8_t *bytes)
     return (uint32_t)bytes[0] << 24 | (uint32_t)bytes[1] << 16 | (uint32_t)bytes[2] << 8 | bytes[3];
 }
 
-/* Answers each request of a peer for the contact socket. */
-static void serve(uint8_t peer)
+/* Sends the number to who asks from a socket, or says why not. */
+static uint32_t answer_to(uint8_t peer, uint32_t asking)
 {
     const uint8_t number[4] = {0, 0, peer, 0};
-    uint32_t socket, asking;
+    uint32_t code = ncp_ask_send(&server, peer, CONTACT, asking, SIZE, SIZE);
+    return code != NCP_DONE ? code : ncp_give(&server, peer, CONTACT, asking, number, sizeof number, SIZE);
+}
+
+/* Answers each request of a peer for the contact socket. One that can be neither served nor refused now waits until more comes. */
+static void serve(uint8_t peer)
+{
+    uint32_t socket, asking, code;
     struct ncp_connection it;
     for (uint32_t place = 0; ncp_connection_at(&server, peer, place, &socket, &asking, &it) == NCP_DONE; place++) {
-        if (socket != CONTACT || it.asked || !it.heard) continue;
+        if (socket != CONTACT || it.asked || it.left || !it.heard) continue;
         printf("host %d asks from socket %lu, on link %d\n", peer, (unsigned long)asking, it.link);
-        want(NCP_DONE, ncp_ask_send(&server, peer, CONTACT, asking, SIZE, SIZE), "ask_send");
-        want(NCP_DONE, ncp_give(&server, peer, CONTACT, asking, number, sizeof number, SIZE), "give");
+        code = answer_to(peer, asking);
+        if (code == NCP_DONE) continue;
+        printf("refused: %s\n", ncp_word(code));
+        ncp_close(&server, peer, CONTACT, asking);
     }
 }
 

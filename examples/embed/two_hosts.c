@@ -94,7 +94,8 @@ int main(void)
     say_state(&a, B, ODD, EVEN, "a");
     say_state(&b, A, EVEN, ODD, "b");
     want(NCP_DONE, ncp_take(&b, A, EVEN, ODD, 100, text, sizeof text, &bits), "take");
-    printf("b took %d bits: %.*s\n", (int)bits, (int)(bits / 8), (const char *)text);
+    printf("b took %d bits: ", (int)bits);
+    say_text(text, bits / 8);
 
     want(NCP_DONE, ncp_close(&a, B, ODD, EVEN), "close");
     settle(&a, &b);

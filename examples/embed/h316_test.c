@@ -1,0 +1,113 @@
+/* What may come on a line of h316.h: `h316_test HERE THERE ELSEWHERE`, three UDP ports. A datagram of another form, an old one, and one
+ * whose sequence number is wrong is dropped, and the line goes on. It prints nothing if all is as it should be. */
+#define _POSIX_C_SOURCE 200809L
+#include "h316.h"
+
+static struct line one, other;
+
+static void is(uint32_t wanted, uint32_t found, int place)
+{
+    if (wanted == found) return;
+    printf("line %d: %lu in place of %lu\n", place, (unsigned long)found, (unsigned long)wanted);
+    exit(1);
+}
+
+/* Sends so many bytes as they are, and says what is taken of them. */
+static size_t send_raw(const uint8_t *bytes, size_t len)
+{
+    if (send(one.socket, bytes, len, 0) < 0) give_up("send");
+    return take_part(&other);
+}
+
+/* One word with a sequence number, which ends a message if it has this flag. */
+static size_t send_word(uint32_t sequence, uint16_t flags)
+{
+    static const uint8_t word[] = {4, 0};
+    one.sent = sequence - 1;
+    send_part(&one, flags, word, sizeof word);
+    return take_part(&other);
+}
+#define TAKEN(sequence) is(16, (uint32_t)send_word(sequence, READY | LAST), __LINE__)
+#define DROPPED(sequence) is(0, (uint32_t)send_word(sequence, READY | LAST), __LINE__)
+
+static void other_forms(void)
+{
+    const uint8_t part[] = {'H', '3', '1', '6', 0, 0, 0, 2, 0, 1, 0, 3, 4, 0};
+    uint8_t spoiled[sizeof part + 1] = {0};
+    for (size_t len = 0; len < sizeof part; len++) is(0, (uint32_t)send_raw(part, len), __LINE__);
+    for (size_t place = 0; place < NAME; place++) {
+        memcpy(spoiled, part, sizeof part);
+        spoiled[place] ^= 32;
+        is(0, (uint32_t)send_raw(spoiled, sizeof part), __LINE__);
+    }
+    memcpy(spoiled, part, sizeof part);
+    is(0, (uint32_t)send_raw(spoiled, sizeof part + 1), __LINE__); /* a byte more than it says */
+    spoiled[9] = 2;
+    is(0, (uint32_t)send_raw(spoiled, sizeof part), __LINE__); /* a word less */
+    is(sizeof part + NAME + 2, (uint32_t)other.dropped, __LINE__);
+    is(16, (uint32_t)send_raw(part, sizeof part), __LINE__);
+}
+
+static void sequences(void)
+{
+    TAKEN(3);
+    DROPPED(3); /* again */
+    DROPPED(0xffffffff);
+    TAKEN(4);
+    DROPPED(1000000); /* a number that is far, */
+    TAKEN(1000001);   /* until the next follows it */
+    DROPPED(5);
+    TAKEN(6); /* and so back */
+    TAKEN(6 + AHEAD);
+    DROPPED(7); /* an old one */
+    TAKEN(7 + AHEAD);
+    DROPPED(7 + AHEAD + AHEAD + 1);
+    TAKEN(1); /* it begins again */
+    DROPPED(1);
+    TAKEN(2);
+    other.came = 0xfffffffd;
+    TAKEN(0xfffffffe), TAKEN(0xffffffff), TAKEN(0), TAKEN(1), TAKEN(2);
+}
+
+/* Parts make a message if none is missing, and no more than a message. */
+static void parts(void)
+{
+    is(0, (uint32_t)send_word(3, READY), __LINE__);
+    is(32, (uint32_t)send_word(4, READY | LAST), __LINE__);
+    is(0, (uint32_t)send_word(5, READY), __LINE__);
+    is(16, (uint32_t)send_word(7, READY | LAST), __LINE__);
+    for (uint32_t sequence = 8; sequence < 8 + NCP_LONGEST_MESSAGE; sequence++) is(0, (uint32_t)send_word(sequence, READY), __LINE__);
+    is(8 * NCP_LONGEST_MESSAGE, (uint32_t)send_word(8 + NCP_LONGEST_MESSAGE, READY | LAST), __LINE__);
+}
+
+/* What comes from another port does not come on the line. */
+static void strangers(const char *elsewhere, const char *there)
+{
+    struct line stranger;
+    const size_t dropped = other.dropped;
+    attach(&stranger, elsewhere, there);
+    stranger.sent = other.came;
+    send_leader(&stranger, INTERFACE_RESET);
+    is(0, is_there(&other), __LINE__);
+    TAKEN(other.came + 1);
+    is((uint32_t)dropped, (uint32_t)other.dropped, __LINE__);
+    close(stranger.socket);
+}
+
+int main(int argc, char **argv)
+{
+    if (argc != 4) {
+        fputs("usage: h316_test HERE THERE ELSEWHERE\n", stderr);
+        return 2;
+    }
+    attach(&one, argv[1], argv[2]);
+    attach(&other, argv[2], argv[1]);
+    TAKEN(70000); /* any is the first */
+    TAKEN(1);
+    other_forms();
+    sequences();
+    parts();
+    strangers(argv[3], argv[2]);
+    close(one.socket), close(other.socket);
+    return 0;
+}
