@@ -34,6 +34,6 @@ const shortened = bits => bits.length > 320 ? `${grouped(bits.slice(0, 320))} â€
 
 function drawBits(box, message, shown) {
   const rows = fieldsOf(message).map(({ name, bits, value }) =>
-    `<tr><th scope="row">${name}</th><td class="bits">${shortened(bits)}</td><td>${value ?? `${bits.length} bits`}</td></tr>`);
-  box.innerHTML = `<table><thead><tr><th scope="col">field</th><th scope="col">bits</th><th scope="col">number</th></tr></thead><tbody>${rows.join("")}</tbody></table><pre>${escaped(shown)}</pre>`;
+    markup`<tr><th scope="row">${name}</th><td class="bits">${shortened(bits)}</td><td>${value ?? `${bits.length} bits`}</td></tr>`);
+  draw(box, markup`<table><thead><tr><th scope="col">field</th><th scope="col">bits</th><th scope="col">number</th></tr></thead><tbody>${rows}</tbody></table><pre>${shown}</pre>`);
 }

@@ -1,5 +1,6 @@
 /** A capture: which rules its messages break, what was said on its connections, whether it is sound, and what it holds. */
 const LONGEST_LIST = 1000;
+const NO_ROOM = { status: ANSWER.NO_MEMORY, bytes: new Uint8Array(), error: "There is no memory left for a capture of this length." };
 
 class Capture {
   constructor(module) {
@@ -21,7 +22,7 @@ class Capture {
   }
 
   #read(name, modes = {}) {
-    return this.module.call(name, this.bytes, modes, 16 * this.bytes.length + ROOM.event);
+    return orLacking(() => this.module.call(name, this.bytes, modes, 16 * this.bytes.length + ROOM.event), () => NO_ROOM);
   }
 
   #look() {
@@ -33,7 +34,7 @@ class Capture {
     const { status, bytes, error } = this.#read("audit", { part: $("is-part").checked, standard: $("is-standard").checked });
     const findings = asText(bytes).split("\n").slice(0, -1).map(line => ({ line, record: line.split(" ")[0] }));
     const count = findings.length ? counted(findings.length, "finding") : "No rule is seen to be broken";
-    $("findings").innerHTML = Capture.outcome(status, count, error) + this.#list(findings, "What these rules ask for", it => Capture.namesIn(it.line));
+    draw($("findings"), markup`${Capture.outcome(status, count, error)}${this.#list(findings, "What these rules ask for", it => Capture.namesIn(it.line))}`);
     return findings.map(it => it.record);
   }
 
@@ -46,27 +47,36 @@ class Capture {
     });
     const connections = told.filter(it => it.opened), others = told.filter(it => !it.opened);
     const count = connections.length ? counted(connections.length, "connection") : "No connection was opened";
-    $("connections").innerHTML = Capture.outcome(status, count, error)
-      + this.#list(connections.map(it => ({ line: it.line, text: it.text + Capture.letters(it), record: it.opened, by: it.by })), "How these have ended", it => [it.by])
-      + (others.length ? `<h4>Texts of no connection</h4><pre>${escaped(others.map(it => it.line).join("\n"))}</pre>` : "");
+    const list = this.#list(connections.map(it => ({ line: it.line, text: it.text + Capture.letters(it), record: it.opened, by: it.by })), "How these have ended", it => [it.by]);
+    const lines = others.slice(0, LONGEST_LIST).map(it => it.line).join("\n");
+    draw($("connections"), markup`${Capture.outcome(status, count, error)}${list}${others.length ? markup`<h4>Texts of no connection</h4><pre>${lines}</pre>${Capture.omitted(others)}` : ""}`);
     return connections.map(it => it.opened);
   }
 
   /** Some lines, each with its record, and what the names in them mean. */
   #list(told, title, namesOf) {
     if (!told.length) return "";
-    const items = told.slice(0, LONGEST_LIST).map(it => `<li><button data-record="${it.record}" title="look at the record">${escaped(it.line)}</button>${it.text ? `<pre>${escaped(it.text)}</pre>` : ""}</li>`);
-    const meant = [...new Set(told.flatMap(namesOf))].map(it => `<dt>${escaped(it)}</dt><dd>${escaped(this.module.explain("meaning", it))}</dd>`);
-    return `<ol>${items.join("")}</ol>${told.length > LONGEST_LIST ? `<p>The first ${LONGEST_LIST} are shown.</p>` : ""}<h4>${title}</h4><dl>${meant.join("")}</dl>`;
+    const items = told.slice(0, LONGEST_LIST).map(it => markup`<li><button data-record="${it.record}" title="look at the record">${it.line}</button>${it.text ? markup`<pre>${it.text}</pre>` : ""}</li>`);
+    const meant = [...new Set(told.flatMap(namesOf))].map(it => markup`<dt>${it}</dt><dd>${this.#meaning(it)}</dd>`);
+    return markup`<ol>${items}</ol>${Capture.omitted(told)}<h4>${title}</h4><dl>${meant}</dl>`;
+  }
+
+  #meaning(name) {
+    return orLacking(() => this.module.explain("meaning", name), () => "");
+  }
+
+  /** How many of a list are not shown. */
+  static omitted({ length }) {
+    return length > LONGEST_LIST ? markup`<p>The first ${LONGEST_LIST} are shown, and ${length - LONGEST_LIST} are omitted.</p>` : "";
   }
 
   /** How much is told of a file, or in front of its fault. */
   static outcome(status, count, error) {
     const fault = error.split("\n")[0];
-    const words = status === ANSWER.NO_MEMORY ? "There was no memory for it."
+    const words = status === ANSWER.NO_MEMORY ? fault
       : fault.includes("BadHeader") ? `${fault}: this wants a file of version 2, whose records name the host at whose interface they are; 'ncp convert --at H' makes one of version 1.`
       : fault ? `${count} before ${fault}` : `${count}.`;
-    return `<p>${escaped(words)}</p>`;
+    return markup`<p>${words}</p>`;
   }
 
   /** The rule that a finding names, and the fault of a message, where it is one. */
@@ -85,14 +95,27 @@ class Capture {
 
   /** What the capture holds; a record that is found fault with is marked, and one that opened a connection can be looked at. */
   #showRecords(found, opened) {
-    const { bytes, error } = this.#read("show"), records = asText(bytes).split(/\n(?! )/);
-    $("records").innerHTML = records.map(it => {
-      const number = it.slice(0, it.indexOf(" ")), tag = found.has(number) ? "mark" : opened.has(number) ? "span" : null;
-      return tag ? `<${tag} id="record-${number}" tabindex="-1">${escaped(it)}</${tag}>` : escaped(it);
-    }).join("\n") + escaped(error);
+    const { bytes, error } = this.#read("show");
+    Object.assign(this, { found, opened, error, records: asText(bytes).split(/(?<=\n)(?! )/) });
+    this.#drawRecords(0);
+  }
+
+  /** Draws as many records as a list has, from this one on. */
+  #drawRecords(first) {
+    const { records, error } = this, end = Math.min(first + LONGEST_LIST, records.length);
+    draw($("records"), markup`${records.slice(first, end).map(it => this.#record(it))}${end === records.length ? error : ""}`);
+    $("omitted").hidden = records.length <= LONGEST_LIST;
+    $("omitted").textContent = `Records ${first + 1} to ${end} are shown, and ${records.length - (end - first)} are omitted.`;
+  }
+
+  #record(lines) {
+    const number = lines.slice(0, lines.indexOf(" "));
+    if (this.found.has(number)) return markup`<mark id="record-${number}" tabindex="-1">${lines}</mark>`;
+    return this.opened.has(number) ? markup`<span id="record-${number}" tabindex="-1">${lines}</span>` : lines;
   }
 
   #lookAt(record) {
+    if (!$(`record-${record}`)) this.#drawRecords(Math.max(0, this.records.findIndex(it => it.startsWith(`${record} `)) - LONGEST_LIST / 2));
     const found = $(`record-${record}`);
     found?.scrollIntoView({ block: "center" });
     found?.focus({ preventScroll: true });

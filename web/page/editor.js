@@ -92,7 +92,7 @@ class Editor {
     const { scrollTop, clientHeight } = this.box, above = Math.floor(scrollTop / LINE), first = this.first + above;
     const count = Math.max(0, Math.min(Math.ceil(clientHeight / LINE) + 1, this.lines.length - first + 1));
     this.numbers.style.transform = `translateY(${-(scrollTop % LINE)}px)`;
-    this.numbers.innerHTML = Array.from({ length: count }, (_, each) => `<span class="${first + each === this.fault ? "refused" : ""}">${first + each}</span>`).join("");
+    draw(this.numbers, markup`${Array.from({ length: count }, (_, each) => markup`<span class="${first + each === this.fault ? "refused" : ""}">${first + each}</span>`)}`);
     this.nowLine.style.transform = `translateY(${(this.now - this.first) * LINE - scrollTop}px)`;
   }
 }

@@ -4,8 +4,6 @@ const ROW = 28, BELOW = 2, MARGIN = 24, OVERSCAN = 8;
 // As wide as the words of a row are seen at least: between many hosts the ladder is scrolled to the side for them.
 const WORDS = 160;
 
-const escaped = text => text.replace(/[&<>"]/g, it => ({ "&": "&amp;", "<": "&lt;", ">": "&gt;", '"': "&quot;" })[it]);
-
 /** The picture of some events as the inside of an SVG, from the height of the first of them. */
 class Picture {
   constructor(run, width, at) {
@@ -22,12 +20,12 @@ class Picture {
   rows(first, last) {
     const height = event => (event - first + 0.5) * ROW;
     const bottom = (last - first + 1) * ROW;
-    const lines = this.run.hosts.map((_, host) => `<line class="host" x1="${this.column(host)}" x2="${this.column(host)}" y1="0" y2="${bottom}"/>`);
+    const lines = this.run.hosts.map((_, host) => markup`<line class="host" x1="${this.column(host)}" x2="${this.column(host)}" y1="0" y2="${bottom}"/>`);
     const shown = Math.min(last, this.at);
     const messages = this.run.seen(first, shown).map(it => this.#message(it, height));
     const events = [];
     for (let event = first; event <= shown; event++) events.push(this.#event(event, height(event)));
-    return [...lines, ...messages, ...events].join("");
+    return [...lines, ...messages, ...events];
   }
 
   /** How far a message has come: it is at its other host where it was delivered, else on its way. */
@@ -41,11 +39,10 @@ class Picture {
 
   #message(message, height) {
     const { fate, x, event } = this.tip(message), [x1, y1, y2] = [this.column(message.from), height(message.event), height(event) + (event === message.event ? ROW / 2 : 0)];
-    const kind = Picture.kind(message), toLeft = x < x1;
+    const kind = Picture.kind(message);
     const angle = Math.atan2(y2 - y1, x - x1) * 180 / Math.PI;
-    return `<g class="message ${kind} ${fate}"><line x1="${x1}" y1="${y1}" x2="${x}" y2="${y2}"/>`
-      + `<path d="${Picture.MARKS[fate]}" transform="translate(${x} ${y2}) rotate(${angle})"/>`
-      + `<text x="${(x1 + x) / 2}" y="${(y1 + y2) / 2 - 5}" text-anchor="middle" data-left="${toLeft}">${escaped(Picture.label(message))}</text></g>`;
+    const arrow = markup`<line x1="${x1}" y1="${y1}" x2="${x}" y2="${y2}"/><path d="${Picture.MARKS[fate]}" transform="translate(${x} ${y2}) rotate(${angle})"/>`;
+    return markup`<g class="message ${kind} ${fate}">${arrow}<text x="${(x1 + x) / 2}" y="${(y1 + y2) / 2 - 5}" text-anchor="middle">${Picture.label(message)}</text></g>`;
   }
 
   static kind(message) {
@@ -60,13 +57,13 @@ class Picture {
     const answer = this.run.answers.get(event);
     if (answer) {
       const [x1, x2] = [this.column(answer.to), this.column(answer.from)];
-      return `<g class="answer"><line x1="${x1}" y1="${y}" x2="${x2}" y2="${y}"/><path d="${Picture.MARKS.deliver}" transform="translate(${x2} ${y}) rotate(${x2 < x1 ? 180 : 0})"/>`
-        + `<text x="${(x1 + x2) / 2}" y="${y - 4}" text-anchor="middle">${escaped(answer.words)}</text></g>`;
+      const arrow = markup`<line x1="${x1}" y1="${y}" x2="${x2}" y2="${y}"/><path d="${Picture.MARKS.deliver}" transform="translate(${x2} ${y}) rotate(${x2 < x1 ? 180 : 0})"/>`;
+      return markup`<g class="answer">${arrow}<text x="${(x1 + x2) / 2}" y="${y - 4}" text-anchor="middle">${answer.words}</text></g>`;
     }
     const [, name, ...words] = this.run.lines(event).split("\n")[0].split(" ");
     const host = this.run.hosts.findIndex(it => it.name === name);
     const refused = words.includes("refused") ? " refused" : "";
-    return host < 0 ? "" : `<circle class="event${refused}" cx="${this.column(host)}" cy="${y}" r="4"/>`;
+    return host < 0 ? "" : markup`<circle class="event${refused}" cx="${this.column(host)}" cy="${y}" r="4"/>`;
   }
 
   static MARKS = {
@@ -144,12 +141,12 @@ class Ladder {
     if (shown.every((it, each) => it === this.shown?.[each])) return;
     this.shown = shown;
     this.sheet.style.minWidth = `${width + WORDS}px`;
-    this.heads.innerHTML = run.hosts.map((it, host) => `<span style="left:${picture.column(host)}px">${escaped(run.isMany ? `host ${it.number}` : `${it.name} (${it.number})`)}</span>`).join("");
+    draw(this.heads, markup`${run.hosts.map((it, host) => markup`<span data-place="left:${picture.column(host)}px">${run.isMany ? `host ${it.number}` : `${it.name} (${it.number})`}</span>`)}`);
     const rows = [];
     for (let event = first; event <= last; event++) rows.push(this.#row(event, width));
     const height = Math.max(last - first + 1, 0) * ROW;
-    const drawing = last < first ? "" : `<svg class="picture" aria-hidden="true" width="${width}" height="${height}" style="top:${(first - 1) * ROW}px">${picture.rows(first, last)}</svg>`;
-    this.sheet.innerHTML = drawing + rows.join("") + this.#tips(picture);
+    const drawing = last < first ? "" : markup`<svg class="picture" aria-hidden="true" width="${width}" height="${height}" data-place="top:${(first - 1) * ROW}px">${picture.rows(first, last)}</svg>`;
+    draw(this.sheet, markup`${drawing}${rows}${this.#tips(picture)}`);
     if (at > 0) box.setAttribute("aria-activedescendant", `event-${at}`); else box.removeAttribute("aria-activedescendant");
   }
 
@@ -159,8 +156,8 @@ class Ladder {
     const more = details.map(it => it.trim()).filter(it => !it.startsWith("size=") && !it.startsWith("ledger")).join("; ");
     const state = event === this.at ? " now" : event > this.at ? " later" : "";
     const refused = words.includes("refused") ? " refused" : "";
-    return `<div role="option" id="event-${event}" class="row${state}${refused}" data-event="${event}" aria-selected="${event === this.at}" aria-posinset="${event}" aria-setsize="${this.run.length}" style="top:${(event - 1) * ROW}px;padding-left:${width}px">`
-      + `<span class="grip" title="drag to another place">⠿</span><span class="number">${number}</span><span class="words">${escaped(words.join(" "))}${more ? ` <i>${escaped(more)}</i>` : ""}</span></div>`;
+    const parts = markup`<span class="grip" title="drag to another place">⠿</span><span class="number">${number}</span><span class="words">${words.join(" ")}${more ? markup` <i>${more}</i>` : ""}</span>`;
+    return markup`<div role="option" id="event-${event}" class="row${state}${refused}" data-event="${event}" aria-selected="${event === this.at}" aria-posinset="${event}" aria-setsize="${this.run.length}" data-place="top:${(event - 1) * ROW}px;padding-left:${width}px">${parts}</div>`;
   }
 
   /** Behind each message that is underway now what may become of it. */
@@ -169,9 +166,9 @@ class Ladder {
     return this.underway.map((message, each) => {
       const { x } = picture.tip(message), name = `${this.run.hosts[message.from].name} to ${this.run.hosts[message.to]?.name}, link ${message.link}`;
       const buttons = [["deliver", "✓"], ["lose", "✗"], ["dead", "†"]].map(([move, sign]) =>
-        `<button class="move ${move}" tabindex="-1" data-move="${move}" data-from="${message.from}" data-to="${message.to}" data-link="${message.link}" title="${move} (${name})" aria-label="${move} the message from ${name}">${sign}</button>`);
-      return `<div class="tip" style="top:${(this.at + 0.15 + each) * ROW}px;left:${Math.max(0, x - 36)}px">${buttons.join("")}${isOne ? "" : `<span class="${Picture.kind(message)}">${escaped(Picture.label(message))}</span>`}</div>`;
-    }).join("");
+        markup`<button class="move ${move}" tabindex="-1" data-move="${move}" data-from="${message.from}" data-to="${message.to}" data-link="${message.link}" title="${move} (${name})" aria-label="${move} the message from ${name}">${sign}</button>`);
+      return markup`<div class="tip" data-place="top:${(this.at + 0.15 + each) * ROW}px;left:${Math.max(0, x - 36)}px">${buttons}${isOne ? "" : markup`<span class="${Picture.kind(message)}">${Picture.label(message)}</span>`}</div>`;
+    });
   }
 
   #eventAt(pointer) {
@@ -221,8 +218,8 @@ class Ladder {
   /** The whole ladder up to now as a picture of its own. */
   svg(style) {
     const width = 220 + 90 * Math.max(this.run.hosts.length - 2, 0), picture = new Picture(this.run, width, this.at), height = (this.at + 2) * ROW;
-    const heads = this.run.hosts.map((it, host) => `<text class="name" x="${picture.column(host)}" y="16" text-anchor="middle">${escaped(it.name)} (${it.number})</text>`);
-    const words = Array.from({ length: this.at }, (_, each) => `<text x="${width + 10}" y="${(each + 1.6) * ROW}">${escaped(this.run.lines(each + 1).split("\n")[0])}</text>`);
-    return `<svg xmlns="http://www.w3.org/2000/svg" width="${width + 640}" height="${height}"><style>${style}</style>${heads.join("")}<g transform="translate(0 ${ROW})">${this.at ? picture.rows(1, this.at) : ""}</g>${words.join("")}</svg>`;
+    const heads = this.run.hosts.map((it, host) => markup`<text class="name" x="${picture.column(host)}" y="16" text-anchor="middle">${it.name} (${it.number})</text>`);
+    const words = Array.from({ length: this.at }, (_, each) => markup`<text x="${width + 10}" y="${(each + 1.6) * ROW}">${this.run.lines(each + 1).split("\n")[0]}</text>`);
+    return markup`<svg xmlns="http://www.w3.org/2000/svg" width="${width + 640}" height="${height}"><style>${style}</style>${heads}<g transform="translate(0 ${ROW})">${this.at ? picture.rows(1, this.at) : ""}</g>${words}</svg>`.text;
   }
 }

@@ -1,6 +1,21 @@
 /** The page: a script is played by the module, and shown event by event. */
 const $ = id => document.getElementById(id);
-const WAIT_AFTER_TYPING = 150, LONGEST_PICTURE = 2000, LONGEST_AT_ONCE = 5000;
+const WAIT_AFTER_TYPING = 150, LONGEST_PICTURE = 2000, LONGEST_AT_ONCE = 5000, LONGEST_SCRIPT = 1 << 24;
+const FIRST = "one_connection", OUT_OF_MEMORY = "OutOfMemory";
+
+/** What is said where the module has no memory. */
+const LACKING = {
+  script: "There is no memory left for this script. A shorter one may still be played.",
+  event: "There is no memory left to show what the hosts hold at this event.",
+  record: "There is no memory left to record this script.",
+};
+
+/** Says why something cannot be shown. */
+function complain(words) {
+  $("fault").hidden = false;
+  $("fault").textContent = words;
+  $("status").textContent = "";
+}
 
 class Page {
   constructor(module, { examples, exercises }) {
@@ -51,20 +66,35 @@ class Page {
   load(text, at = 0, line = null) {
     this.editor.show(text);
     this.script = new Script(text);
-    this.isOpen = this.sessions.hold(this.script);
-    this.run = new Run(this.script);
-    this.run.addAsked();
     this.loads++;
+    orLacking(() => this.#begin(() => line === null ? at : this.run.lastOf(line)), () => this.#giveUp());
+  }
+
+  #begin(place) {
+    const { loads } = this;
+    this.isOpen = this.sessions.hold(this.script);
+    this.run = new Run(this.script, this.isOpen);
+    this.run.addAsked();
     this.isLoading = this.isOpen && this.script.length > LONGEST_AT_ONCE;
     this.isChecked = !this.isLoading;
     this.#choosePairs();
-    const place = () => line === null ? at : this.run.lastOf(line);
     if (this.isLoading) {
-      this.#loadInSlices(place);
+      this.#loadInSlices(place).catch(ifLacking(() => { if (loads === this.loads) this.#giveUp(); }));
     } else {
       this.#playWhole(true);
       this.goTo(place());
     }
+  }
+
+  /** There is no memory for the script: it has no hosts. */
+  #giveUp() {
+    this.sessions.release();
+    this.isOpen = false;
+    this.run = new Run(this.script, false);
+    this.#choosePairs();
+    this.#conclude(false, LACKING.script);
+    complain(LACKING.script);
+    this.goTo(0);
   }
 
   #playWhole(isShown) {
@@ -150,31 +180,38 @@ class Page {
   /** Goes to an event. Where the hosts are far from it, they come to it in slices, and the ladder is there at once. */
   goTo(event) {
     const at = this.at = Math.min(Math.max(event, 0), this.run.length), { sessions, loads } = this;
-    const isWanted = () => this.at === at && this.loads === loads, isNear = this.isOpen ? sessions.choose(at) : true;
-    this.isBehind = !isNear;
-    $("held").setAttribute("aria-busy", String(this.isBehind));
+    const isWanted = () => this.at === at && this.loads === loads;
     this.#showPlace();
-    if (isNear) {
-      if (this.isOpen) while (sessions.now.stepped < at) this.#step();
-      this.#showHeld();
-      if (at > AT_ONCE) sessions.park(at, isWanted);
-      return;
-    }
-    sessions.reach(sessions.now, at, isWanted).then(isThere => {
-      if (!isThere) return;
-      this.isBehind = false;
-      $("held").setAttribute("aria-busy", "false");
-      this.#showHeld();
-      sessions.park(at, isWanted);
-    });
+    orLacking(() => {
+      this.#setBehind(this.isOpen && !sessions.choose(at));
+      if (!this.isBehind) return this.#arrive(at, isWanted);
+      sessions.reach(sessions.now, at, isWanted).then(isThere => { if (isThere) this.#arrive(at, isWanted); })
+        .catch(ifLacking(() => { if (isWanted()) this.#lackHeld(); }));
+    }, () => this.#lackHeld());
+  }
+
+  /** The hosts are near an event: they come to it, and are shown. */
+  #arrive(at, isWanted) {
+    const { sessions } = this;
+    this.#setBehind(false);
+    if (this.isOpen) while (sessions.now.stepped < at) this.#step();
+    this.#showHeld();
+    if (at > AT_ONCE) sessions.park(at, isWanted).catch(ifLacking(() => {}));
+  }
+
+  #setBehind(isBehind) {
+    this.isBehind = isBehind;
+    $("held").setAttribute("aria-busy", String(isBehind));
   }
 
   #step() {
     const { session } = this;
     session.next();
-    if (this.isChecked && session.said().trimEnd() !== this.run.lines(session.stepped)) {
-      throw new Error(`event ${session.stepped} is told otherwise than in the whole script`);
-    }
+    const [said, wanted] = [session.said().trimEnd(), this.run.lines(session.stepped)];
+    if (!this.isChecked || said === wanted) return;
+    session.close();
+    if ([said, wanted].some(it => it.includes(OUT_OF_MEMORY))) throw new NoMemory();
+    throw new Error("an event is told otherwise than in the whole script");
   }
 
   play() {
@@ -224,6 +261,14 @@ class Page {
     this.#showHosts();
   }
 
+  /** There is no memory to know what the hosts hold. */
+  #lackHeld() {
+    this.#setBehind(false);
+    $("no-message").hidden = true;
+    for (const id of ["hosts", "ledgers", "transit", "bits"]) $(id).replaceChildren();
+    draw($("hosts"), markup`<p class="refused">${LACKING.event}</p>`);
+  }
+
   #showMessage() {
     const message = this.at ? this.session.messageOf(this.at) : null;
     $("no-message").hidden = Boolean(message);
@@ -233,15 +278,15 @@ class Page {
 
   #showHosts() {
     if (!this.isOpen || this.run.hosts.length < 2) {
-      for (const id of ["hosts", "ledgers", "transit"]) $(id).innerHTML = "";
+      for (const id of ["hosts", "ledgers", "transit"]) $(id).replaceChildren();
       return;
     }
     const { panels } = this, [one, other] = this.shownPair, { hosts } = this.run;
     const title = host => this.run.isMany ? `Host ${hosts[host].number}` : `Host ${hosts[host].name} (${hosts[host].number})`;
-    $("hosts").innerHTML = hostHtml(`${title(one)}, of ${hosts[other].name}`, panels.of(one, other)) + hostHtml(`${title(other)}, of ${hosts[one].name}`, panels.of(other, one));
+    draw($("hosts"), markup`${hostHtml(`${title(one)}, of ${hosts[other].name}`, panels.of(one, other))}${hostHtml(`${title(other)}, of ${hosts[one].name}`, panels.of(other, one))}`);
     const ledgers = [[one, other], [other, one]].flatMap(([host, peer]) => panels.ledgers(host, peer).map(it => ledgerHtml(title(host), it)));
     const none = this.run.isMany ? "Ledgers are read of scripts of two hosts." : "No connection is open at both ends.";
-    $("ledgers").innerHTML = ledgers.length ? legendHtml() + ledgers.join("") : `<p class="dim">${none}</p>`;
+    draw($("ledgers"), ledgers.length ? markup`${legendHtml()}${ledgers}` : markup`<p class="dim">${none}</p>`);
     this.#showTransit();
   }
 
@@ -252,16 +297,16 @@ class Page {
       const fate = this.session.transit(hosts[from].number, hosts[to].number, link);
       if (fate === "free") continue;
       const verbs = fate === "underway" ? ["deliver", "lose", "dead"] : ["answer"];
-      const buttons = verbs.map(verb => `<button data-line="${this.moveLine(verb, from, to, link)}">${verb}</button>`).join(" ");
-      rows.push(`<li>${hosts[from].name} → ${hosts[to].name}, link ${link}: <b>${fate}</b> ${buttons}</li>`);
+      const buttons = verbs.map(verb => markup`<button data-line="${this.moveLine(verb, from, to, link)}">${verb}</button> `);
+      rows.push(markup`<li>${hosts[from].name} → ${hosts[to].name}, link ${link}: <b>${fate}</b> ${buttons}</li>`);
     }
-    const outs = hosts.map(it => `<button data-line="${it.name} out">${it.name} out</button>`).join(" ");
-    $("transit").innerHTML = `${listHtml(rows, "nothing is in transit")}<p>The next message of a host: ${outs}</p>`;
+    const outs = hosts.map(it => markup`<button data-line="${it.name} out">${it.name} out</button> `);
+    draw($("transit"), markup`${listHtml(rows, "nothing is in transit")}<p>The next message of a host: ${outs}</p>`);
   }
 
   #choosePairs() {
     const { hosts } = this.run, pairs = hosts.flatMap((one, from) => hosts.slice(from + 1).map((other, each) => [from, from + 1 + each]));
-    $("pair").innerHTML = pairs.map(([one, other]) => `<option value="${one} ${other}">${hosts[one].name} and ${hosts[other].name}</option>`).join("");
+    draw($("pair"), markup`${pairs.map(([one, other]) => markup`<option value="${one} ${other}">${hosts[one].name} and ${hosts[other].name}</option>`)}`);
     $("pair-choice").hidden = pairs.length < 2;
     this.shownPair = pairs[0] ?? [0, 1];
   }
@@ -272,7 +317,7 @@ class Page {
     const words = !name ? "" : name === "BadLine" ? this.module.explain("wrong_line", this.script.line(0), this.#textOf(this.editor.fault))
       : name === "BadHosts" ? this.module.explain("wrong_first_line", this.script.line(0)) : this.module.explain("meaning", name);
     $("fault").hidden = !name;
-    $("fault").innerHTML = name ? `<b>${escaped(error.split("\n")[0])}</b><br>${escaped(words)}` : "";
+    draw($("fault"), name ? markup`<b>${error.split("\n")[0]}</b><br>${words}` : markup``);
     $("status").textContent = name ? "" : this.hasRefused ? "played; a call was refused" : "played; no call was refused";
   }
 
@@ -290,7 +335,7 @@ class Page {
     const { told, good } = checkExercise(exercise, lines, fault);
     $("exercise-title").textContent = exercise.title;
     $("exercise-text").textContent = exercise.text;
-    $("wants").innerHTML = told.map(it => `<li class="${it.good ? "met" : "unmet"}"><span aria-hidden="true">${it.good ? "✓" : "○"}</span> ${escaped(it.words)} <span class="sr">${it.good ? "done" : "not yet"}</span></li>`).join("");
+    draw($("wants"), markup`${told.map(it => markup`<li class="${it.good ? "met" : "unmet"}"><span aria-hidden="true">${it.good ? "✓" : "○"}</span> ${it.words} <span class="sr">${it.good ? "done" : "not yet"}</span></li>`)}`);
     $("verdict").textContent = good ? "Solved." : "";
     if (good) this.#markSolved(exercise);
   }
@@ -304,8 +349,10 @@ class Page {
   // ---- captures
 
   async take(file) {
-    const bytes = new Uint8Array(await file.arrayBuffer());
+    const bytes = await file.arrayBuffer().then(it => new Uint8Array(it), error => complain(`The file cannot be read: ${error.message}`));
+    if (!bytes) return;
     if (asText(bytes.subarray(0, 3)) === "NCP") this.capture.show(bytes, file.name);
+    else if (bytes.length > LONGEST_SCRIPT) complain(`The file is too long for a script: this page takes ${LONGEST_SCRIPT} bytes.`);
     else this.choose(null, asText(bytes));
   }
 
@@ -315,6 +362,12 @@ class Page {
     const link = Object.assign(document.createElement("a"), { href: URL.createObjectURL(new Blob([bytes], { type })), download: name });
     link.click();
     setTimeout(() => URL.revokeObjectURL(link.href), 1000);
+  }
+
+  saveCapture() {
+    const { bytes, error } = orLacking(() => this.module.call("record", this.script.bytes), () => ({ error: OUT_OF_MEMORY }));
+    if (error.includes(OUT_OF_MEMORY)) this.tell(LACKING.record);
+    else this.save(bytes, "run.ncp", "application/octet-stream");
   }
 
   saveSvg() {
@@ -335,16 +388,32 @@ class Page {
     this.tell("The link is in the address line, and copied where the browser lets it.");
   }
 
-  /** Shows what the address asks for: a script, or an example by its name, at an event. */
+  /** Shows what the address asks for, at an event; the first example, and why, if that cannot be shown. */
   open(hash) {
-    const asked = new URLSearchParams(hash.replace(/^#/, "")), at = asked.has("at") ? Number(asked.get("at")) : undefined;
-    const packed = asked.get("script"), example = this.examples[asked.get("example") ?? "one_connection"];
-    const exercise = this.exercises.find(it => it.name === asked.get("exercise"));
-    if (packed !== null) {
-      const text = packed.replace(/-/g, "+").replace(/_/g, "/");
-      this.choose(null, asText(unpacked(text)), at);
-    } else if (exercise) this.choose(exercise, exercise.start, at);
-    else this.choose(null, example ?? "", at);
+    const asked = new URLSearchParams(hash.replace(/^#/, "")), at = asked.has("at") ? Math.trunc(Number(asked.get("at"))) || 0 : undefined;
+    const { exercise = null, text, fault } = this.#asked(asked);
+    this.choose(exercise, text ?? this.examples[FIRST], at);
+    if (fault) complain(fault);
+  }
+
+  /** The text that an address asks for: a script, or an exercise or an example by its name. */
+  #asked(asked) {
+    if (asked.has("script")) return Page.#unpackedScript(asked.get("script"));
+    if (asked.has("exercise")) {
+      const exercise = this.exercises.find(it => it.name === asked.get("exercise"));
+      return exercise ? { exercise, text: exercise.start } : { fault: "The link asks for an exercise that is not here." };
+    }
+    const name = asked.get("example") ?? FIRST;
+    return Object.hasOwn(this.examples, name) ? { text: this.examples[name] } : { fault: "The link asks for an example that is not here." };
+  }
+
+  static #unpackedScript(packed) {
+    try {
+      // A plus sign in an address is read as a space.
+      return { text: asText(unpacked(packed.replace(/[- ]/g, "+").replace(/_/g, "/"))) };
+    } catch {
+      return { fault: "The script in the link cannot be read: a part of it may be missing." };
+    }
   }
 
   /** Shows a script, which may be an exercise, at whose end one goes on, or an example. */
@@ -362,9 +431,10 @@ class Page {
   }
 
   #fillChoices() {
-    const option = (value, words) => `<option value="${value}">${escaped(words)}</option>`;
-    $("choice").innerHTML = `<option value="">choose ..</option><optgroup label="Examples">${Object.keys(this.examples).map(it => option(`example ${it}`, it.replace(/_/g, " "))).join("")}</optgroup>`
-      + `<optgroup label="Exercises">${this.exercises.map((it, each) => option(`exercise ${it.name}`, `${each + 1}. ${it.title}`)).join("")}</optgroup>`;
+    const option = (value, words) => markup`<option value="${value}">${words}</option>`;
+    const examples = Object.keys(this.examples).map(it => option(`example ${it}`, it.replace(/_/g, " ")));
+    const exercises = this.exercises.map((it, each) => option(`exercise ${it.name}`, `${each + 1}. ${it.title}`));
+    draw($("choice"), markup`<option value="">choose ..</option><optgroup label="Examples">${examples}</optgroup><optgroup label="Exercises">${exercises}</optgroup>`);
   }
 
   #listen() {
@@ -379,12 +449,12 @@ class Page {
     };
     $("pair").onchange = () => {
       this.shownPair = $("pair").value.split(" ").map(Number);
-      this.#showHosts();
+      this.goTo(this.at);
     };
     $("transit").onclick = event => { if (event.target.dataset.line) this.insert(event.target.dataset.line); };
     $("save-svg").onclick = () => this.saveSvg();
     $("save-script").onclick = () => this.save(this.script.bytes, "run.script", "text/plain");
-    $("save-capture").onclick = () => this.save(this.module.call("record", this.script.bytes).bytes, "run.ncp", "application/octet-stream");
+    $("save-capture").onclick = () => this.saveCapture();
     $("save-link").onclick = () => this.copyLink();
     $("file").onchange = () => { if ($("file").files[0]) this.take($("file").files[0]); };
     addEventListener("hashchange", () => this.open(location.hash));
@@ -420,7 +490,6 @@ async function begin() {
 }
 
 begin().catch(error => {
-  $("fault").hidden = false;
-  $("fault").textContent = `The page cannot begin: ${error.message}`;
+  complain(`The page cannot begin: ${error.message}`);
   throw error;
 });

@@ -29,6 +29,28 @@ function unpacked(text) {
   return bytes;
 }
 
+/** The module had no memory for what it was asked, and has done nothing of it. */
+class NoMemory extends Error {
+  constructor() {
+    super("the module has no memory left");
+  }
+}
+
+/** Takes an error: if memory lacks it does something else, and any other error it throws on. */
+const ifLacking = otherwise => error => {
+  if (error instanceof NoMemory) return otherwise();
+  throw error;
+};
+
+/** Does an act, or something else if memory lacks. */
+function orLacking(act, otherwise) {
+  try {
+    return act();
+  } catch (error) {
+    return ifLacking(otherwise)(error);
+  }
+}
+
 class Module {
   static async load(code) {
     const { instance } = await WebAssembly.instantiate(code, {});
@@ -45,7 +67,7 @@ class Module {
   /** Room in the module's memory, by its address. */
   room(bytes) {
     const at = this.exports.web_alloc(BigInt(Math.max(bytes, 1)));
-    if (!at) throw new Error("the module has no memory left");
+    if (!at) throw new NoMemory();
     return Number(at);
   }
 
@@ -58,10 +80,19 @@ class Module {
     return new Uint8Array(this.exports.memory.buffer);
   }
 
-  put(bytes) {
-    const at = this.room(bytes.length);
+  /** Lets an act have rooms of these sizes, and frees them after it, whatever it throws. */
+  lending(sizes, act) {
+    const rooms = [];
+    try {
+      for (const it of sizes) rooms.push(this.room(it));
+      return act(...rooms);
+    } finally {
+      this.free(...rooms);
+    }
+  }
+
+  put(bytes, at) {
     this.memory.set(bytes, at);
-    return at;
   }
 
   read(at, length) {
@@ -82,36 +113,44 @@ class Module {
       else view.setUint32(at, fields[field], true);
       at += bytes;
     }
-    return BigInt(this.lent);
+    return this.lent;
   }
 
   /** The modes of a function, by their names: one is passed as it is, and more are lent. */
   modes(modes) {
-    return Object.keys(modes).length > 1 ? [this.lend("Modes", modes)] : Object.values(modes).map(Number);
+    return Object.keys(modes).length > 1 ? [this.lend("Modes", modes)] : Object.values(modes).map(Boolean);
+  }
+
+  /** What a function answers, one of ANSWER; the lack of memory is thrown. It is passed addresses, lengths and modes. */
+  answer(name, ...words) {
+    const status = this.exports[`ncp_web_${name}`](...words.map(it => typeof it === "boolean" ? Number(it) : BigInt(it)));
+    if (status === ANSWER.NO_MEMORY) throw new NoMemory();
+    return status;
   }
 
   /** Calls a function from bytes to bytes, some of which have modes, with more room where the bytes do not fit. */
   call(name, input, modes = {}, room = 4 * input.length + ROOM.event) {
-    for (;;) {
-      const from = this.put(input), out = this.room(room), [written, told] = [this.lengths, this.lengths + 8];
-      const status = this.exports[`ncp_web_${name}`](
-        ...this.modes(modes), BigInt(from), BigInt(input.length), BigInt(out), BigInt(room), BigInt(this.words), BigInt(ROOM.words), BigInt(this.lengths));
-      const bytes = status === ANSWER.NO_MEMORY ? new Uint8Array() : this.read(out, this.number(written));
-      const error = status === ANSWER.FAULT ? asText(this.read(this.words, this.number(told))) : "";
-      this.free(from, out);
-      if (!error.includes("WriteFailed")) return { status, bytes, error };
-      room *= 4;
+    for (;; room *= 4) {
+      const told = this.lending([input.length, room], (from, out) => this.#callAt(name, input, modes, from, out, room));
+      if (!told.error.includes("WriteFailed")) return told;
     }
+  }
+
+  #callAt(name, input, modes, from, out, room) {
+    this.put(input, from);
+    const status = this.answer(name, ...this.modes(modes), from, input.length, out, room, this.words, ROOM.words, this.lengths);
+    const error = status === ANSWER.FAULT ? asText(this.read(this.words, this.number(this.lengths + 8))) : "";
+    return { status, bytes: this.read(out, this.number(this.lengths)), error };
   }
 
   /** Words about some texts: `name` is one of the functions that explain. */
   explain(name, ...texts) {
-    const inputs = texts.map(asBytes), rooms = inputs.map(it => this.put(it));
-    const pairs = inputs.flatMap((it, each) => [BigInt(rooms[each]), BigInt(it.length)]);
-    const status = this.exports[`ncp_web_${name}`](...pairs, BigInt(this.words), BigInt(ROOM.words), BigInt(this.lengths));
-    const words = status === ANSWER.DONE ? asText(this.read(this.words, this.number(this.lengths))) : "";
-    this.free(...rooms);
-    return words;
+    const inputs = texts.map(asBytes);
+    return this.lending(inputs.map(it => it.length), (...rooms) => {
+      inputs.forEach((it, each) => this.put(it, rooms[each]));
+      const status = this.answer(name, ...inputs.flatMap((it, each) => [rooms[each], it.length]), this.words, ROOM.words, this.lengths);
+      return status === ANSWER.DONE ? asText(this.read(this.words, this.number(this.lengths))) : "";
+    });
   }
 
   /** The lines that `show` has of one message, without its number. */
@@ -141,13 +180,21 @@ class Session {
     this.goesOn = false;
   }
 
-  /** New hosts, as the first line of a script names them. Its bytes stand in the module at an address. */
+  /** There are no hosts: it is at no event. */
+  close() {
+    this.begin();
+    this.stepped = Infinity;
+    this.module.exports.ncp_web_close(BigInt(this.handle));
+  }
+
+  /** New hosts, as the first line of a script names them; whether it does. Its bytes stand in the module at an address. */
   open(script, at) {
+    this.close();
     this.script = script;
     this.from = at;
-    this.begin();
-    const [begin, end] = script.place(0);
-    return this.module.exports.ncp_web_open(BigInt(this.handle), BigInt(at + begin), BigInt(end - begin));
+    const [begin, end] = script.place(0), status = this.module.answer("open", this.handle, at + begin, end - begin);
+    this.stepped = 0;
+    return status === ANSWER.DONE;
   }
 
   get isAtEnd() {
@@ -156,11 +203,10 @@ class Session {
 
   /** Plays the next event, which is one more of the last line, or that of the next; its text is read by `said`. Whether it was played. */
   step() {
-    if (!this.goesOn) this.line++;
+    const line = this.goesOn ? this.line : this.line + 1, [begin, end] = this.script.place(line);
+    this.status = this.module.answer("step", this.handle, this.from + begin, end - begin, this.out, ROOM.event, this.module.lengths);
+    this.line = line;
     this.stepped++;
-    const [begin, end] = this.script.place(this.line);
-    this.status = this.module.exports.ncp_web_step(
-      BigInt(this.handle), BigInt(this.from + begin), BigInt(end - begin), BigInt(this.out), BigInt(ROOM.event), BigInt(this.module.lengths));
     this.goesOn = this.status === ANSWER.GOES_ON;
     return this.goesOn || this.status === ANSWER.DONE;
   }
@@ -176,10 +222,11 @@ class Session {
 
   /** What a line would be answered that reads a host, without its number; none where it is refused. */
   ask(line) {
-    const input = asBytes(line), at = this.module.put(input);
-    const status = this.module.exports.ncp_web_ask(
-      BigInt(this.handle), BigInt(at), BigInt(input.length), BigInt(this.out), BigInt(ROOM.event), BigInt(this.module.lengths));
-    this.module.free(at);
+    const input = asBytes(line);
+    const status = this.module.lending([input.length], at => {
+      this.module.put(input, at);
+      return this.module.answer("ask", this.handle, at, input.length, this.out, ROOM.event, this.module.lengths);
+    });
     return status === ANSWER.DONE ? this.said().trimEnd().replace(/^\d+ /, "") : null;
   }
 
@@ -187,8 +234,7 @@ class Session {
   waiting(host, peer) {
     const lines = [];
     for (let place = 0; ; place++) {
-      const status = this.module.exports.ncp_web_waiting(
-        BigInt(this.handle), this.module.lend("Queued", { host, peer, place }), BigInt(this.out), BigInt(ROOM.event), BigInt(this.module.lengths));
+      const status = this.module.answer("waiting", this.handle, this.module.lend("Queued", { host, peer, place }), this.out, ROOM.event, this.module.lengths);
       if (status !== ANSWER.DONE) return lines;
       lines.push(this.said().trim());
     }
@@ -196,14 +242,12 @@ class Session {
 
   /** The message that a host keeps for a peer on a link. */
   kept(host, peer, link) {
-    return this.message(this.module.exports.ncp_web_kept(
-      BigInt(this.handle), this.module.lend("LinkBetween", { host, peer, link }), BigInt(this.out), BigInt(ROOM.message), BigInt(this.module.lengths)));
+    return this.message(this.module.answer("kept", this.handle, this.module.lend("LinkBetween", { host, peer, link }), this.out, ROOM.message, this.module.lengths));
   }
 
   /** The message that went out or came at an event. */
   messageOf(number) {
-    return this.message(this.module.exports.ncp_web_message(
-      BigInt(this.handle), BigInt(number), BigInt(this.out), BigInt(ROOM.message), BigInt(this.module.lengths)));
+    return this.message(this.module.answer("message", this.handle, number, this.out, ROOM.message, this.module.lengths));
   }
 
   message(status) {
@@ -214,7 +258,7 @@ class Session {
 
   /** The ledger of a sender, in messages and bits; none where an end is not open. */
   ledger(host, local, remote) {
-    const status = this.module.exports.ncp_web_ledger(BigInt(this.handle), this.module.lend("Sender", { host, local, remote }), BigInt(this.out));
+    const status = this.module.answer("ledger", this.handle, this.module.lend("Sender", { host, local, remote }), this.out);
     if (status !== ANSWER.DONE) return null;
     const amount = place => ({ messages: this.module.number(this.out + 16 * place), bits: this.module.number(this.out + 16 * place + 8) });
     return { outstanding: amount(0), counters: amount(1), all: amount(2), text: amount(3), ret: amount(4) };
@@ -222,7 +266,7 @@ class Session {
 
   /** What became of the last message from a host to a peer on a link. */
   transit(host, peer, link) {
-    const status = this.module.exports.ncp_web_transit(BigInt(this.handle), this.module.lend("LinkBetween", { host, peer, link }), BigInt(this.out));
+    const status = this.module.answer("transit", this.handle, this.module.lend("LinkBetween", { host, peer, link }), this.out);
     return status === ANSWER.DONE ? FATES[this.module.memory[this.out]] : FATES[0];
   }
 }

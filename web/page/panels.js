@@ -68,24 +68,24 @@ const counted = (count, word) => `${count} ${word}${Number(count) === 1 ? "" : "
 function connectionHtml(it) {
   const flags = Object.entries(FLAG_WORDS).filter(([name]) => it[name] === "1").map(([, word]) => word).join(", ");
   const books = `allowed ${counted(it.messages, "message")}, ${counted(it.bits, "bit")}; ${it.end === "send" ? "waits" : "held"} ${counted(it.stored, "bit")}`;
-  return `<li><b>${it.end} ${it.local} → ${it.remote}</b> link ${it.link}, size ${it.size}<br><span class="dim">${flags}</span><br>${books}${it.interrupts !== "0" ? `; interrupts ${it.interrupts}` : ""}</li>`;
+  return markup`<li><b>${it.end} ${it.local} → ${it.remote}</b> link ${it.link}, size ${it.size}<br><span class="dim">${flags}</span><br>${books}${it.interrupts !== "0" ? `; interrupts ${it.interrupts}` : ""}</li>`;
 }
 
 function slotHtml(it) {
   const size = it.message ? `${counted(it.message.bits, "bit")} kept` : "nothing kept";
-  return `<li>link ${it.link}: ${size}, subnet: <b>${it.fate}</b></li>`;
+  return markup`<li>link ${it.link}: ${size}, subnet: <b>${it.fate}</b></li>`;
 }
 
-const listHtml = (items, none) => items.length ? `<ul>${items.join("")}</ul>` : `<p class="dim">${none}</p>`;
+const listHtml = (items, none) => items.length ? markup`<ul>${items}</ul>` : markup`<p class="dim">${none}</p>`;
 
 function hostHtml(name, held) {
   const counted = held.counts?.split(" ").filter(it => !it.endsWith("=0")).join(" ");
-  return `<section class="host-state" aria-label="${name}"><h3>${name}: <span class="phase">${escaped(held.phase ?? "")}</span></h3>`
-    + `<h4>Connections</h4>${listHtml(held.connections.map(connectionHtml), "none")}`
-    + `<h4>Commands that wait</h4>${listHtml(held.waiting.map(it => `<li>${escaped(it)}</li>`), "none")}`
-    + `<h4>Slots</h4>${listHtml(held.slots.map(slotHtml), "empty")}`
-    + (held.echoed !== "none" && held.echoed !== null ? `<p>echo answered: ${escaped(held.echoed)}</p>` : "")
-    + (counted ? `<p class="refused">counted: ${escaped(counted)}</p>` : "") + "</section>";
+  return markup`<section class="host-state" aria-label="${name}"><h3>${name}: <span class="phase">${held.phase ?? ""}</span></h3>
+    <h4>Connections</h4>${listHtml(held.connections.map(connectionHtml), "none")}
+    <h4>Commands that wait</h4>${listHtml(held.waiting.map(it => markup`<li>${it}</li>`), "none")}
+    <h4>Slots</h4>${listHtml(held.slots.map(slotHtml), "empty")}
+    ${held.echoed !== "none" && held.echoed !== null ? markup`<p>echo answered: ${held.echoed}</p>` : ""}
+    ${counted ? markup`<p class="refused">counted: ${counted}</p>` : ""}</section>`;
 }
 
 const PARTS = [["counters", "at the sender"], ["all", "ALL underway"], ["text", "text underway"], ["ret", "RET underway"]];
@@ -94,11 +94,11 @@ function ledgerHtml(name, it) {
   const bar = unit => {
     const whole = it.ledger.outstanding[unit];
     const parts = PARTS.filter(([part]) => it.ledger[part][unit]).map(([part, words]) =>
-      `<span class="part ${part}" style="flex:${it.ledger[part][unit]}" title="${words}">${it.ledger[part][unit]}</span>`);
+      markup`<span class="part ${part}" data-place="flex:${it.ledger[part][unit]}" title="${words}">${it.ledger[part][unit]}</span>`);
     const told = PARTS.map(([part, words]) => `${words} ${it.ledger[part][unit]}`).join(", ");
-    return `<div class="bar-row"><span>${unit}</span><div class="bar" role="img" aria-label="outstanding ${whole} ${unit}: ${told}">${parts.join("") || "<span class=\"part none\">0</span>"}</div><span>= ${whole}</span></div>`;
+    return markup`<div class="bar-row"><span>${unit}</span><div class="bar" role="img" aria-label="outstanding ${whole} ${unit}: ${told}">${parts.length ? parts : markup`<span class="part none">0</span>`}</div><span>= ${whole}</span></div>`;
   };
-  return `<section><h3>${name} ${it.local} → ${it.remote}, link ${it.link}</h3>${bar("messages")}${bar("bits")}</section>`;
+  return markup`<section><h3>${name} ${it.local} → ${it.remote}, link ${it.link}</h3>${bar("messages")}${bar("bits")}</section>`;
 }
 
-const legendHtml = () => `<p class="legend">${PARTS.map(([part, words]) => `<span><i class="part ${part}"></i> ${words}</span>`).join(" ")}</p>`;
+const legendHtml = () => markup`<p class="legend">${PARTS.map(([part, words]) => markup`<span><i class="part ${part}"></i> ${words}</span> `)}</p>`;

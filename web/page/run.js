@@ -3,9 +3,10 @@ const KINDS = ["call", "out", "deliver", "lose", "dead", "answer"];
 const MOVES = new Set(KINDS.slice(2));
 
 class Run {
-  constructor(script) {
+  /** A script has hosts if the module has opened it: what else its first line names is no host. */
+  constructor(script, isOpen) {
     this.script = script;
-    this.hosts = script.hosts();
+    this.hosts = isOpen ? script.hosts() : [];
     this.isMany = script.isMany;
     this.events = [];
     this.ends = [0];

@@ -15,19 +15,27 @@ class Sessions {
     this.address = null;
   }
 
-  /** Takes a script; whether its first line names hosts. */
+  /** Takes a script in the place of the one that it had; whether its first line names hosts. */
   hold(script) {
-    if (this.address !== null) this.module.free(this.address);
-    this.address = this.module.put(script.bytes);
+    this.release();
+    this.address = this.module.room(script.bytes.length);
+    this.module.put(script.bytes, this.address);
     this.script = script;
-    this.reader = null;
-    for (const it of this.all) it.stepped = Infinity;
-    [this.now] = this.all;
     return this.open(this.now);
   }
 
+  /** Gives back what it has of a script. */
+  release() {
+    const { address } = this;
+    this.address = null;
+    this.reader = null;
+    [this.now] = this.all;
+    if (address !== null) this.module.free(address);
+    for (const it of this.all) it.close();
+  }
+
   open(session) {
-    return session.open(this.script, this.address) === ANSWER.DONE;
+    return session.open(this.script, this.address);
   }
 
   /** A session that plays the script to its end, and is not read meanwhile. */
