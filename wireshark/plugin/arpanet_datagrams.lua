@@ -17,6 +17,8 @@ local datagrams = {}
 local HEAD, MAGIC = 12, "H316"
 local FINAL, READY = 1, 2
 local MOST_BYTES = 1024                                   -- 8,192 bits, the most of a message that is read
+local MOST_HOST = 255
+local SLACK = 15                                          -- bits after the text, up to a whole word
 local H, I, h, i = 0x48, 0x49, 0x68, 0x69                 -- directions of a packet
 
 local proto, f, e = nil, {}, {}
@@ -52,7 +54,9 @@ local ports
 
 local function read_preferences()
   hosts = {}
-  for place, host in tostring(proto.prefs.hosts):gmatch("([%d%.:]+)=(%d+)") do hosts[place] = tonumber(host) end
+  for place, host in tostring(proto.prefs.hosts):gmatch("([%d%.:]+)=(%d+)") do
+    if tonumber(host) <= MOST_HOST then hosts[place] = tonumber(host) end
+  end
   local udp = DissectorTable.get("udp.port")
   if ports and ports ~= "" then udp:remove(ports, proto) end
   ports = tostring(proto.prefs.ports)
@@ -75,43 +79,64 @@ local function side(pinfo, first)
   return h, 0, imps[sink] or false
 end
 
+local function flow_of(pinfo) return place(pinfo.src, pinfo.src_port) .. ">" .. place(pinfo.dst, pinfo.dst_port) end
+
+-- A frame may hold several datagrams, each at its offset.
+local function key_of(tvb, pinfo) return string.format("%d %d %s", pinfo.number, tvb:offset(), flow_of(pinfo)) end
+
+-- The next datagram begins a message.
+local function begin(flow) flow.parts, flow.outcomes, flow.bytes, flow.torn = {}, {}, 0, false end
+
+-- Words of a datagram. Those of a message that is too long are not kept.
+local function add_part(flow, words, outcome)
+  flow.bytes = flow.bytes + #words
+  if flow.bytes > MOST_BYTES then flow.parts, flow.outcomes = {}, {} end
+  flow.parts[#flow.parts + 1], flow.outcomes[#flow.outcomes + 1] = words, outcome
+end
+
+-- The words of a whole message.
+local function join(pinfo, flow, outcome)
+  for _, part in ipairs(flow.outcomes) do
+    if part.frame ~= pinfo.number then part.message_in = pinfo.number end
+  end
+  if flow.bytes > MOST_BYTES then outcome.long = true
+  elseif flow.bytes > 0 then
+    local bytes = table.concat(flow.parts)
+    local direction, host, known = side(pinfo, bytes:byte(1))
+    outcome.parts, outcome.unknown = flow.outcomes, not known
+    outcome.packet = string.char(direction, host, math.floor(#bytes * 8 / 256), #bytes * 8 % 256) .. bytes
+  end
+end
+
 -- What becomes of a datagram, found once, in the order of the capture.
 local function take(pinfo, sequence, flags, words)
-  local key = place(pinfo.src, pinfo.src_port) .. ">" .. place(pinfo.dst, pinfo.dst_port)
+  local key, outcome = flow_of(pinfo), { frame = pinfo.number }
   local flow = flows[key]
   if not flow then
-    flow = { parts = {}, frames = {}, next = sequence }
+    flow = { next = sequence }
+    begin(flow)
     flows[key] = flow
   end
-  local told = {}
-  if sequence == 0 and flow.next > 1 then                -- the sender began anew
-    flow.parts, flow.frames, flow.next, flow.torn = {}, {}, 0, false
+  if sequence == 0 and flow.next > 1 then                -- the sender begins with a new count
+    begin(flow)
+    flow.next = 0
   end
   if sequence < flow.next and flow.next - sequence < 2 ^ 31 then
-    told.again = true
-    return told
+    outcome.again = true
+    return outcome
   end
   if sequence ~= flow.next then
-    told.gap = true
-    flow.parts, flow.frames, flow.torn = {}, {}, true     -- where a message began is not known up to its end
+    outcome.gap = true
+    begin(flow)
+    flow.torn = true                                      -- where a message began is not known up to its end
   end
   flow.next = (sequence + 1) % 2 ^ 32
-  flow.parts[#flow.parts + 1], flow.frames[#flow.frames + 1] = words, pinfo.number
+  add_part(flow, words, outcome)
   if flags % 2 == FINAL then
-    local frames, bytes, torn = flow.frames, table.concat(flow.parts), flow.torn
-    flow.parts, flow.frames, flow.torn = {}, {}, false
-    if torn then return told end
-    for _, frame in ipairs(frames) do
-      if frame ~= pinfo.number then done[frame].message_in = pinfo.number end
-    end
-    if #bytes > MOST_BYTES then told.long = true
-    elseif #bytes > 0 then
-      local direction, host, known = side(pinfo, bytes:byte(1))
-      told.frames, told.unknown = frames, not known
-      told.packet = string.char(direction, host, math.floor(#bytes * 8 / 256), #bytes * 8 % 256) .. bytes
-    end
+    if not flow.torn then join(pinfo, flow, outcome) end
+    begin(flow)
   end
-  return told
+  return outcome
 end
 
 local function dissect(tvb, pinfo, root)
@@ -120,44 +145,45 @@ local function dissect(tvb, pinfo, root)
   pinfo.cols.protocol = "H316"
   local sequence, count, flags = tvb(4, 4):uint(), tvb(8, 2):uint(), tvb(10, 2):uint()
   local bytes = math.min(count * 2, len - HEAD)
-  local told = done[pinfo.number]
-  if not told then
-    told = take(pinfo, sequence, flags, tvb:raw(HEAD, bytes))
-    done[pinfo.number] = told
+  local key = key_of(tvb, pinfo)
+  local outcome = done[key]
+  if not outcome then
+    outcome = take(pinfo, sequence, flags, tvb:raw(HEAD, bytes))
+    done[key] = outcome
   end
   local tree = root:add(proto, tvb())
   tree:append_text(string.format(", sequence=%d words=%d flags=%d", sequence, count, flags))
   tree:add(f.magic, tvb(0, 4))
   local item = tree:add(f.sequence, tvb(4, 4))
-  if told.gap then item:add_proto_expert_info(e.gap) end
-  if told.again then item:add_proto_expert_info(e.again) end
+  if outcome.gap then item:add_proto_expert_info(e.gap) end
+  if outcome.again then item:add_proto_expert_info(e.again) end
   item = tree:add(f.count, tvb(8, 2))
   if count * 2 ~= len - HEAD then item:add_proto_expert_info(e.count) end
   local s = tree:add(f.flags, tvb(10, 2))
   s:add(f.final, tvb(10, 2))
   s:add(f.ready, tvb(10, 2))
   if bytes > 0 then tree:add(f.words, tvb(HEAD, bytes)) end
-  if told.message_in then tree:add(f.message_in, told.message_in):set_generated() end
-  if told.long then tree:add_proto_expert_info(e.long) end
+  if outcome.message_in then tree:add(f.message_in, outcome.message_in):set_generated() end
+  if outcome.long then tree:add_proto_expert_info(e.long) end
   pinfo.cols.info = string.format("sequence=%d words=%d", sequence, count)
     .. (flags % 2 == FINAL and " final" or "") .. (flags % 4 >= READY and " ready" or "")
-  if told.packet then
-    for _, frame in ipairs(told.frames) do
-      if frame ~= pinfo.number then tree:add(f.part, frame):set_generated() end
+  if outcome.packet then
+    for _, part in ipairs(outcome.parts) do
+      if part.frame ~= pinfo.number then tree:add(f.part, part.frame):set_generated() end
     end
-    if told.unknown then tree:add_proto_expert_info(e.side) end
-    local packet = ByteArray.new(told.packet, true):tvb("ARPANET message")
-    datagrams.of_words(function() Dissector.get("ncp1822"):call(packet, pinfo, root) end)
+    if outcome.unknown then tree:add_proto_expert_info(e.side) end
+    local packet = ByteArray.new(outcome.packet, true):tvb("ARPANET message")
+    datagrams.show(key, packet, pinfo, root)
   end
   return len
 end
 
--- `of_words` runs a function while messages may end with a whole word, and nothing is said of what stands behind the text.
 function datagrams.register(dissector)
-  function datagrams.of_words(run)
-    dissector.slack = 15
-    run()
-    dissector.slack = 0
+  function datagrams.show(key, packet, pinfo, root)
+    local imp = Dissector.get("ncp1822")
+    dissector.joined = { slack = SLACK, key = key }
+    imp:call(packet, pinfo, root)
+    dissector.joined = nil
   end
   forget()
   declare()

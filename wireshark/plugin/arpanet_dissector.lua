@@ -17,7 +17,7 @@ local PACKET_HEAD = 4                                     -- bytes in front of t
 local PREFIX = 9                                          -- bytes of leader and prefix in front of the text
 
 local imp, hhp                                            -- the two protocols
-local f, e, g, rules = {}, {}, {}, {}                     -- their fields, experts, fields, and experts of rules
+local f, e, g, experts = {}, {}, {}, {}                   -- their fields, experts, fields, and experts of rules
 local commands = {}                                       -- by opcode, the fields of a command's parts
 
 -- ---------------------------------------------------------------- fields
@@ -109,17 +109,18 @@ local function declare_hhp()
   g.reply_to = ProtoField.framenum("ahhp.reply_to", "Other half of", base.NONE, frametype.REQUEST)
   g.rule = ProtoField.string("ahhp.rule", "Rule that is broken", base.ASCII)
   g.finding = ProtoField.string("ahhp.finding", "Finding", base.ASCII, "At whose interface, who broke the rule, and how")
+  g.unjudged = ProtoField.string("ahhp.unjudged", "No longer judged", base.ASCII, "What is judged no longer from this message on")
   hhp.fields = g
 
-  local experts = {}
   for _, rule in ipairs(connections.RULES) do
     local name, class, says = rule[1], rule[2], rule[3]
     experts[name] = ProtoExpert.new("ahhp.rule." .. name, name .. ": " .. says, expert.group.PROTOCOL,
       class == "S" and expert.severity.ERROR or expert.severity.NOTE)
-    rules[name] = { class = class, expert = experts[name] }
   end
   e.err = ProtoExpert.new("ahhp.err_received", "ERR: the other host found an error", expert.group.RESPONSE_CODE, expert.severity.WARN)
   experts.err = e.err
+  e.unjudged = ProtoExpert.new("ahhp.judging_ends", "From here on not all is judged", expert.group.UNDECODED, expert.severity.WARN)
+  experts.unjudged = e.unjudged
   hhp.experts = experts
 
   hhp.prefs.part = Pref.bool("The capture begins in the middle", false,
@@ -151,13 +152,20 @@ end
 
 -- The findings about the command at this place of a message or, without a place, about none.
 local function add_findings(tree, note, place)
-  for _, found in ipairs(note.findings) do
-    local rule = rules[found.rule]
-    if found.item == place and (rule.class == "S" or hhp.prefs.profile) then
+  for _, found in ipairs(note.placed[place or "message"] or {}) do
+    if found.class == "S" or hhp.prefs.profile then
       local item = tree:add(g.finding, found.line):set_generated()
       item:add(g.rule, found.rule):set_generated()
-      item:add_proto_expert_info(rule.expert, found.line)
+      item:add_proto_expert_info(experts[found.rule], found.line)
     end
+  end
+end
+
+-- What is judged no longer. That what two hosts say rests is no warning: it is so until each reset of a capture's part.
+local function add_ends(tree, note)
+  for _, what in ipairs(note.ends) do
+    local item = tree:add(g.unjudged, connections.ENDS[what]):set_generated()
+    if what ~= "rests" then item:add_proto_expert_info(e.unjudged, connections.ENDS[what]) end
   end
 end
 
@@ -313,31 +321,43 @@ local function no_record(tvb, pinfo, tree)
   return tvb:len()
 end
 
--- Messages of datagrams end with a whole word of 16 bits: what they have behind the text is no finding.
-dissector.slack = 0
+-- A message that was joined of datagrams has a key of its own, for a frame may have several; and it ends with a whole word of
+-- 16 bits, so that many bits after the text are no finding. It is for the next message alone: whoever reads it takes it away
+-- at once, since where Wireshark ends a dissection nothing after that is run.
+dissector.joined = nil
+
+local function take_joined(pinfo)
+  local joined = dissector.joined or { key = pinfo.number }
+  dissector.joined = nil
+  return joined
+end
+
+-- The message, and what is known of it; nil where the packet is no whole record.
+local function read_packet(tvb, pinfo)
+  local joined = take_joined(pinfo)
+  local to_imp, at, bits, bytes = messages.unpack(tvb:raw(0, tvb:len()))
+  if to_imp == nil then return nil end
+  local m, watched = messages.read(to_imp, at, bits, bytes), connections.watched
+  m.slack = joined.slack
+  return m, watched.notes[joined.key] or connections.take(watched, pinfo.number, m, joined.key)
+end
 
 local function dissect(tvb, pinfo, root)
   local len = tvb:len()
   if len < PACKET_HEAD or not DIRECTIONS[tvb(0, 1):uint()] then
     return Dissector.get("data"):call(tvb, pinfo, root)   -- USER0 of somebody else
   end
+  local m, note = read_packet(tvb, pinfo)
   pinfo.cols.protocol = "1822"
   local tree = root:add(imp, tvb())
-  local to_imp, at, bits, bytes = messages.unpack(tvb:raw(0, len))
   tree:add(f.direction, tvb(0, 1))
   if tvb(0, 1):uint() < 0x60 then tree:add(f.at, tvb(1, 1)) end
   tree:add(f.bits, tvb(2, 2))
-  if to_imp == nil then return no_record(tvb, pinfo, tree) end
-
-  local m = messages.read(to_imp, at, bits, bytes)
-  m.slack = dissector.slack
-  local watched = connections.watched
-  local note = watched.notes[pinfo.number]
-  if not note then note = connections.take(watched, pinfo.number, m) end
+  if not m then return no_record(tvb, pinfo, tree) end
   tree:append_text(", " .. m.line)
   local info = { m.line }
   if m.short then
-    if #bytes > 0 then tree:add(f.short, tvb(PACKET_HEAD, #bytes)) end
+    if #m.bytes > 0 then tree:add(f.short, tvb(PACKET_HEAD, #m.bytes)) end
     add_findings(tree, note, nil)
     pinfo.cols.info = m.line
     return len
@@ -346,12 +366,13 @@ local function dissect(tvb, pinfo, root)
   add_leader(tree, message, m)
   add_hosts(tree, tvb, pinfo, m)
   add_links(tree, note)
+  add_ends(tree, note)
   if m.kind == 0 then
     pinfo.cols.protocol = "AHHP"
     dissect_regular(message, root, m, note)
     regular_info(m, info)
   else
-    if #bytes > 4 then tree:add(f.rest, message(4)) end
+    if #m.bytes > 4 then tree:add(f.rest, message(4)) end
     add_connection(tree, note.stream)
     add_findings(tree, note, nil)
   end

@@ -32,7 +32,7 @@ function windows.follow(number)
     local frames = {}
     for _, text in ipairs(life.texts) do frames[#frames + 1] = string.format("%d", text.frame) end
     parts[#parts + 1] = string.format("\nAt host %d, which %s, %d bits in %d texts%s\n", host,
-      life.sender == "H" and "sends" or "receives", bits, #life.texts,
+      life.sends and "sends" or "receives", bits, #life.texts,
       #frames > 0 and ": frames " .. table.concat(frames, ", ") or "")
     if bits > 0 then parts[#parts + 1] = dump(bytes) .. "\n" end
   end
@@ -46,7 +46,7 @@ function windows.list()
     local sent, got, first, last = "-", "-", nil, nil
     for _, life in pairs(stream.lives) do
       local amount = string.format("%d/%d", life.got.messages, life.got.bits)
-      if life.sender == "H" then sent = amount else got = amount end
+      if life.sends then sent = amount else got = amount end
       first = math.min(first or life.began, life.began)
       last = life.ended and math.max(last or life.ended, life.ended) or last
     end

@@ -1,27 +1,63 @@
--- alone.lua: the findings of a message file of version 2, or its connections, by plain Lua, without Wireshark:
---     lua alone.lua PLUGIN-FOLDER findings|connections|part FILE
--- `part` is `findings` of a capture that begins in the middle.
+-- alone.lua: what the plugin says of message files of version 2, by plain Lua, without Wireshark:
+--     lua alone.lua PLUGIN-FOLDER whole|part FILE..
+-- A finding stands after `S`, of the standard, or `P`, of this project; a line of the connections after `C`; a line `= FILE`
+-- after all of a file. `part` is of captures that begin in the middle. Where a record takes more instructions than it may,
+-- the line is `error` and why.
 
 package.path = arg[1] .. "/?.lua;" .. package.path
 local messages, connections = require("arpanet_messages"), require("arpanet_connections")
-local word, name = arg[2], arg[3]
-local file = assert(io.open(name, "rb"))
-local data = file:read("*a")
-file:close()
-assert(data:sub(1, 4) == "NCPJ")
 
-local watched = connections.new(word == "part")
-local at, n = 5, 0
-while at <= #data do
-  local bytes = math.ceil((data:byte(at + 2) * 256 + data:byte(at + 3)) / 8)
-  local to_imp, host, bits, s = messages.unpack(data:sub(at, at + 3 + bytes))
-  n = n + 1
-  local note = connections.take(watched, n, messages.read(to_imp, host, bits, s))
-  if word ~= "connections" then
-    for _, found in ipairs(note.findings) do print(string.format("%d %s", n, found.line)) end
-  end
-  at = at + 4 + bytes
+-- So many instructions of Lua for each record and each byte of it; in all records they are enough too for what was kept
+-- before and is forgotten at once, in a single one not.
+local FOR_RECORD, FOR_BYTE, FOR_KEPT = 2000, 400, 300000
+local STEP = 100
+
+local function read_file(name)
+  local file = assert(io.open(name, "rb"))
+  local data = file:read("*a")
+  file:close()
+  assert(data:sub(1, 4) == "NCPJ", "no message file of version 2")
+  return data
 end
-if word == "connections" then
-  for _, line in ipairs(connections.lines(watched)) do print(line) end
+
+-- Counts instructions, and ends what takes more than are left.
+local function counter()
+  local spent, most, all = 0, 0, 0
+  local function count()
+    spent = spent + STEP
+    if spent > most or spent > all then error(string.format("more than %d instructions", math.min(most, all)), 0) end
+  end
+  return function(run, bytes, ...)
+    all = all + FOR_RECORD + FOR_BYTE * bytes
+    most = spent + FOR_RECORD + FOR_BYTE * bytes + FOR_KEPT
+    debug.sethook(count, "", STEP)
+    local result = run(...)
+    debug.sethook()
+    return result
+  end
+end
+
+local function take(watched, number, packet)
+  local to_imp, host, bits, bytes = messages.unpack(packet)
+  return connections.take(watched, number, messages.read(to_imp, host, bits, bytes))
+end
+
+local function judge(part, data)
+  local watched, within = connections.new(part), counter()
+  local at, number = 5, 0
+  while at <= #data do
+    local bytes = 4 + math.ceil((data:byte(at + 2) * 256 + data:byte(at + 3)) / 8)
+    number = number + 1
+    local note = within(take, bytes, watched, number, data:sub(at, at + bytes - 1))
+    for _, found in ipairs(note.findings) do print(string.format("%s %d %s", found.class, number, found.line)) end
+    at = at + bytes
+  end
+  for _, line in ipairs(connections.lines(watched)) do print("C " .. line) end
+end
+
+for i = 3, #arg do
+  local ran, why = pcall(judge, arg[2] == "part", read_file(arg[i]))
+  debug.sethook()
+  if not ran then print("error " .. tostring(why)) end
+  print("= " .. arg[i])
 end

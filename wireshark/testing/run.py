@@ -15,6 +15,8 @@ EXAMPLES = os.path.join(os.path.dirname(TOP), "examples")
 FAULTS = ("BadHeader", "Truncated", "TooLong", "SpareNotZero", "BadDirection")
 LUAS = ("lua5.1", "lua5.2", "lua5.3", "lua5.4", "lua", "luajit")
 
+LINK_TYPE_PPP = 9
+
 NCP = None  # the program
 shark = None
 failures = []
@@ -227,7 +229,7 @@ def test_rules():
         if sorted(got) != sorted(wanted):
             wrong.append((wanted, got))
         seen.update(line.split()[3] for line in wanted)
-    with open(os.path.join(TOP, "plugin", "arpanet_connections.lua")) as file:
+    with open(os.path.join(TOP, "plugin", "arpanet_rules.lua")) as file:
         names = re.findall(r'^  \{ "([a-z-]+)", "[SP]"', file.read(), re.M)
     wrong += ["no capture breaks " + name for name in names if name not in seen]
     tell("%d captures that break the %d rules: their findings" % (len(cases), len(names)), wrong)
@@ -236,7 +238,7 @@ def test_rules():
             continue
         wrong = []
         for data, wanted in cases:
-            got = alone(lua, "findings", data)
+            got = alone(lua, data)
             if got != wanted:
                 wrong.append((wanted, got))
         for name in sorted(os.listdir(os.path.join(TOP, "plugin"))):
@@ -245,10 +247,10 @@ def test_rules():
         tell("the same by %s alone, which reads all files of the plugin" % lua, wrong)
 
 
-def alone(lua, word, data):
+def alone(lua, data):
     path = shark.path("alone.ncp", data)
-    done = subprocess.run([lua, os.path.join(TOP, "testing", "alone.lua"), os.path.join(TOP, "plugin"), word, path], capture_output=True, text=True)
-    return done.stdout.splitlines() + done.stderr.splitlines()
+    done = subprocess.run([lua, os.path.join(TOP, "testing", "alone.lua"), os.path.join(TOP, "plugin"), "whole", path], capture_output=True, text=True)
+    return [line[2:] for line in done.stdout.splitlines() if line[:2] in ("S ", "P ")] + done.stderr.splitlines()
 
 
 def recordings(scripts):
@@ -471,6 +473,43 @@ def test_torn():
     tell("datagrams missing, twice, with a wrong count, and without ports of hosts", wrong)
 
 
+def test_frames():
+    """A frame with two datagrams, and a host whose number is none."""
+    import datagrams
+
+    made = [datagrams.packet(*datagram) for datagram in datagrams.datagrams(read(os.path.join(EXAMPLES, "reset.ncp")), 30, 20000)]
+    path = shark.path("frames.pcapng", datagrams.pcapng([in_one_frame(made[:2]), in_one_frame(made[2:])], 0, LINK_TYPE_PPP))
+    asked = ("-T", "fields", "-E", "separator=|", "-e", "ncp1822.name", "-e", "ncp1822.at")
+    wrong = []
+    for hosts, wanted in (("20002=1 20004=2", ["regular,regular|1,2", "rfnm|1"]), ("20002=300 20004=2", ["regular,regular|2", "rfnm|"])):
+        for passes in ((), ("-2",)):
+            stdout, complaints, _ = shark.run("-r", path, *passes, "-o", "h316.hosts:" + hosts, *asked)
+            if stdout.splitlines() != wanted or complaints:
+                wrong.append((hosts, stdout, complaints))
+    tell("two datagrams in one frame, each a message of its own; a number of a host that is none", wrong)
+
+
+def in_one_frame(packets):
+    """IPv4 packets in one frame: PPP multiplexing (RFC 3153)."""
+    parts = [(0xC000 | len(packet) + 2).to_bytes(2, "big") + b"\0\x21" + packet for packet in packets]
+    return b"\xff\x03\0\x59" + b"".join(parts)
+
+
+def test_failing():
+    """A message of datagrams whose tree Wireshark ends leaves nothing: bits after the text of a record are found as ever."""
+    import datagrams
+
+    long = records.record("j", 72 + 880, bytes.fromhex("00020000000800") + b"\x6e\0" + bytes(110))
+    made = [datagrams.packet(*datagram) for datagram in datagrams.datagrams(b"NCPJ" + long, 300, 20000)]
+    record = records.record("j", 88, bytes.fromhex("0002000000080001000000"))
+    path = shark.path("failing.pcapng", datagrams.pcapng(made, 0) + datagrams.pcapng([record], 0, 147))
+    asked = ("-T", "fields", "-E", "separator=|", "-e", "_ws.expert.message", "-e", "ahhp.finding")
+    stdout, _, _ = shark.run("-o", "gui.max_tree_items:200", "-r", path, *asked)
+    ended, finding = (stdout.splitlines() + ["", ""])[:2]
+    fine = "more than 200 items" in ended and "extras flags=0 low=0 text=8 rest=8" in finding
+    tell("a message whose tree is ended, and a record after it", [] if fine else [stdout])
+
+
 def test_garbage(count):
     """Packets of any bytes, as records and as datagrams: none stops the dissector."""
     import random
@@ -540,6 +579,8 @@ def main():
     test_round_trips(recorded)
     test_datagrams(recorded)
     test_torn()
+    test_frames()
+    test_failing()
     test_garbage(2000)
     test_joined(20 if chosen.long else 4)
     test_left(20 if chosen.long else 6)

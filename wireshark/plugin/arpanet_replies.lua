@@ -1,0 +1,162 @@
+-- arpanet_replies.lua: replies in the order of what they answer, which are found by what they say; connections by their
+-- age; and queues. Nothing here walks over all that is kept: what is put in once is taken out once.
+
+local replies = {}
+
+-- ---------------------------------------------------------------- replies that are due
+
+-- A reply has `keys`, of which each names what may be said, and is `sure` where it has to come. `first` is the place of
+-- the oldest, `sure` that before which none is sure. What is kept by a key are places, in the order of all.
+function replies.new() return { first = 1, next = 1, sure = 1, count = 0, all = {}, by = {} } end
+
+function replies.push(list, reply)
+  local place = list.next
+  list.next, list.count, list.all[place] = place + 1, list.count + 1, reply
+  for _, key in ipairs(reply.keys) do
+    local same = list.by[key]
+    if not same then
+      same = { first = 1, last = 0, unsure = 0 }
+      list.by[key] = same
+    end
+    same.last = same.last + 1
+    same[same.last] = place
+  end
+end
+
+-- The place of the first reply that may be said so, or nil.
+local function place_of(list, key)
+  local same = list.by[key]
+  return same and same[same.first]
+end
+
+function replies.find(list, key)
+  local place = place_of(list, key)
+  return place and list.all[place]
+end
+
+-- Whether the reply at this place has to come. It need not, where what was said may have been meant for a later one.
+local function is_sure(list, place)
+  local reply = list.all[place]
+  if not reply or not reply.sure then return false end
+  for _, key in ipairs(reply.keys) do
+    if place <= list.by[key].unsure then return false end
+  end
+  return true
+end
+
+-- The place of the first reply that has to come. What is not sure never becomes so.
+local function sure_place(list)
+  list.sure = math.max(list.sure, list.first)
+  while list.sure < list.next and not is_sure(list, list.sure) do list.sure = list.sure + 1 end
+  return list.sure
+end
+
+function replies.first_sure(list) return list.all[sure_place(list)] end
+
+-- The first reply that has to come, and stands before the first that may be said so.
+function replies.skipped(list, key)
+  local place = sure_place(list)
+  return place < place_of(list, key) and list.all[place] or nil
+end
+
+-- Takes out the reply at a place, which is the first by each of its keys.
+local function take_out(list, place)
+  local reply = list.all[place]
+  if not reply then return end
+  list.all[place], list.count = nil, list.count - 1
+  for _, key in ipairs(reply.keys) do
+    local same = list.by[key]
+    same[same.first], same.first = nil, same.first + 1
+    if same.first > same.last then list.by[key] = nil end
+  end
+end
+
+-- A reply is given: takes out the first that may be said so, and all before it. Where that one need not come, none that may
+-- be said so has to.
+function replies.strike(list, key)
+  local place = place_of(list, key)
+  if not is_sure(list, place) then list.by[key].unsure = list.next - 1 end
+  for at = list.first, place do take_out(list, at) end
+  list.first = place + 1
+end
+
+-- Takes out all that may be said so, which have no other key.
+function replies.drop(list, key)
+  while list.by[key] do take_out(list, place_of(list, key)) end
+end
+
+-- ---------------------------------------------------------------- connections by age
+
+-- A heap: none is older than the one at half its place. Each knows its place.
+
+local function put(heap, place, life)
+  heap[place] = life
+  if life then life.place = place end
+end
+
+local function rise(heap, place)
+  local life = heap[place]
+  while place > 1 do
+    local parent = math.floor(place / 2)
+    if heap[parent].age < life.age then break end
+    put(heap, place, heap[parent])
+    place = parent
+  end
+  put(heap, place, life)
+end
+
+local function sink(heap, place)
+  local life = heap[place]
+  while heap[2 * place] do
+    local child = 2 * place
+    if heap[child + 1] and heap[child + 1].age < heap[child].age then child = child + 1 end
+    if life.age < heap[child].age then break end
+    put(heap, place, heap[child])
+    place = child
+  end
+  put(heap, place, life)
+end
+
+function replies.add_life(heap, life)
+  put(heap, #heap + 1, life)
+  rise(heap, #heap)
+end
+
+-- Takes out a connection, if it is there.
+function replies.remove_life(heap, life)
+  local place, last = life.place, #heap
+  if not place then return end
+  local moved = heap[last]
+  heap[last], life.place = nil, nil
+  if moved == life then return end
+  put(heap, place, moved)
+  rise(heap, place)
+  sink(heap, moved.place)
+end
+
+-- ---------------------------------------------------------------- queues
+
+function replies.queue() return { first = 1, last = 0 } end
+
+function replies.append(queue, one)
+  queue.last = queue.last + 1
+  queue[queue.last] = one
+end
+
+function replies.oldest(queue) return queue[queue.first] end
+
+function replies.newest(queue) return queue[queue.last] end
+
+function replies.take_oldest(queue)
+  local one = queue[queue.first]
+  if one then queue[queue.first], queue.first = nil, queue.first + 1 end
+  return one
+end
+
+function replies.take_newest(queue)
+  local one = queue[queue.last]
+  if queue.first <= queue.last then queue[queue.last], queue.last = nil, queue.last - 1 end
+  return one
+end
+
+return replies
