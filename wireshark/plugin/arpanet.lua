@@ -7,10 +7,11 @@
 local here = debug.getinfo(1, "S").source:match("^@?(.*[/\\])") or __DIR__ and __DIR__ .. "/" or "./"
 package.path = here .. "?.lua;" .. package.path
 
-local messages = require("arpanet_messages")
+local messages, rules = require("arpanet_messages"), require("arpanet_rules")
 local connections = require("arpanet_connections")
+connections.register(messages, require("arpanet_replies"), rules)
 local dissector = require("arpanet_dissector")
-dissector.register(messages, connections)
+dissector.register(messages, rules, connections)
 require("arpanet_files").register(messages)
 require("arpanet_datagrams").register(dissector)
 require("arpanet_windows").register(connections, dissector.hhp)

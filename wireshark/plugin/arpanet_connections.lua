@@ -9,9 +9,8 @@
 -- or to a reset. A connection is a life seen at one interface or at both. Of what is kept by a side, `true` is the host's
 -- and `false` the peer's.
 
-local messages, replies, rules = require("arpanet_messages"), require("arpanet_replies"), require("arpanet_rules")
-
-local connections = { RULES = rules.RULES, ENDS = rules.ENDS }
+local connections = {}
+local messages, replies, rules
 
 -- As many messages that are out and not answered, lives, lives that opened, and ALLs and RSTs that are to be answered, are
 -- kept at most; and as many sessions.
@@ -25,6 +24,11 @@ local LISTED = 8192
 local RFNM = 5
 
 -- ---------------------------------------------------------------- what is kept
+
+function connections.register(given_messages, given_replies, given_rules)
+  messages, replies, rules = given_messages, given_replies, given_rules
+  rules.register(replies)
+end
 
 -- `part`: the messages may begin in the middle. Then two hosts are in touch without a reset.
 function connections.new(part)

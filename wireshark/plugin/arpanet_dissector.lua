@@ -10,7 +10,7 @@
 -- What a message says is read by arpanet_messages.lua, what it belongs to by arpanet_connections.lua.
 
 local dissector = {}
-local messages, connections
+local messages, rules, connections
 
 local DIRECTIONS = { [0x48] = "to-imp", [0x49] = "from-imp", [0x68] = "to-imp", [0x69] = "from-imp" }
 local PACKET_HEAD = 4                                     -- bytes in front of the message
@@ -112,7 +112,7 @@ local function declare_hhp()
   g.unjudged = ProtoField.string("ahhp.unjudged", "No longer judged", base.ASCII, "What is judged no longer from this message on")
   hhp.fields = g
 
-  for _, rule in ipairs(connections.RULES) do
+  for _, rule in ipairs(rules.RULES) do
     local name, class, says = rule[1], rule[2], rule[3]
     experts[name] = ProtoExpert.new("ahhp.rule." .. name, name .. ": " .. says, expert.group.PROTOCOL,
       class == "S" and expert.severity.ERROR or expert.severity.NOTE)
@@ -164,8 +164,8 @@ end
 -- What is judged no longer. That what two hosts say rests is no warning: it is so until each reset of a capture's part.
 local function add_ends(tree, note)
   for _, what in ipairs(note.ends) do
-    local item = tree:add(g.unjudged, connections.ENDS[what]):set_generated()
-    if what ~= "rests" then item:add_proto_expert_info(e.unjudged, connections.ENDS[what]) end
+    local item = tree:add(g.unjudged, rules.ENDS[what]):set_generated()
+    if what ~= "rests" then item:add_proto_expert_info(e.unjudged, rules.ENDS[what]) end
   end
 end
 
@@ -383,8 +383,8 @@ end
 -- ---------------------------------------------------------------- in Wireshark
 
 -- Declares the two protocols, and takes packets of link type USER0.
-function dissector.register(given_messages, given_connections)
-  messages, connections = given_messages, given_connections
+function dissector.register(given_messages, given_rules, given_connections)
+  messages, rules, connections = given_messages, given_rules, given_connections
   declare_imp()
   declare_hhp()
   dissector.hhp = hhp

@@ -10,9 +10,8 @@
 -- first request to the later CLS. Where one acts on what was not seen, the view, the life or the link rests: it is not
 -- judged until a reset.
 
-local replies = require("arpanet_replies")
-
 local rules = {}
+local replies
 
 -- As many messages that are out, and as many lives, due replies and marks, are kept at most.
 local MOST = 4096
@@ -97,6 +96,8 @@ local function rest_of(one, other) return math.max(0, one - other) end
 local function is_senders(socket) return socket % 2 == 1 end
 
 -- ---------------------------------------------------------------- what is kept
+
+function rules.register(given_replies) replies = given_replies end
 
 -- `part`: the capture may begin in the middle. Then nothing is judged of a view but single messages until a reset clears it,
 -- nor of a link before a message goes out on it. Else both hosts are taken to be down at the beginning.

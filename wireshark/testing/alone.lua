@@ -6,6 +6,7 @@
 
 package.path = arg[1] .. "/?.lua;" .. package.path
 local messages, connections = require("arpanet_messages"), require("arpanet_connections")
+connections.register(messages, require("arpanet_replies"), require("arpanet_rules"))
 
 -- So many instructions of Lua for each record and each byte of it; in all records they are enough too for what was kept
 -- before and is forgotten at once, in a single one not.

@@ -7,6 +7,7 @@ import subprocess
 import sys
 import time
 
+import captures
 import records
 from shark import FROM_IMP, TO_IMP, TOP, Shark, by_record, info_of, lines_of
 
@@ -212,12 +213,16 @@ def test_round_trips(recorded):
 
 
 def test_rules():
-    """Captures that break each rule, with the findings that are wanted."""
+    """Captures that break each rule, with the findings that are wanted; and the examples with those of `ncp audit`."""
     cases, seen = [], set()
     for part in read(os.path.join(TOP, "testing", "rules.txt")).decode().split("\n\n"):
         lines = [line for line in part.splitlines() if line and not line.startswith("#")]
         if lines:
             cases.append((bytes.fromhex(lines[0]), lines[1:]))
+    for name in sorted(os.listdir(EXAMPLES)):
+        if name.endswith(".audit"):
+            path = os.path.join(EXAMPLES, name)
+            cases.append((read(path[: -len("audit")] + "ncp"), read(path).decode().splitlines()))
     wrong = []
     for data, wanted in cases:
         frames, _ = shark.frames(shark.path("rules.ncp", data))
@@ -241,10 +246,27 @@ def test_rules():
             got = alone(lua, data)
             if got != wanted:
                 wrong.append((wanted, got))
-        for name in sorted(os.listdir(os.path.join(TOP, "plugin"))):
-            done = subprocess.run([lua, "-e", "assert(loadfile(%r))" % os.path.join(TOP, "plugin", name)], capture_output=True, text=True)
+        for name in sorted(set(os.listdir(os.path.join(TOP, "plugin"))) - {"arpanet.lua"}):
+            done = subprocess.run([lua, os.path.join(TOP, "plugin", name)], cwd=shark.home, capture_output=True, text=True)
             wrong += [done.stderr] if done.returncode else []
-        tell("the same by %s alone, which reads all files of the plugin" % lua, wrong)
+        tell("the same by %s alone; each file of the plugin but the first does nothing by itself" % lua, wrong)
+
+
+def test_ends():
+    """The message from which on something is judged no longer: the first for which there is no room, or by which two hosts rest."""
+    early, out, asked = captures.Capture(), captures.Capture(), captures.Capture()
+    early.out(1, 2, 0, 8, captures.NOP)
+    for capture in (out, asked):
+        capture.begin()
+    for place in range(captures.MOST + 5):
+        out.out(1, 3 + place // 100, 100 + place % 100, 8, captures.NOP, answered=False)  # links that are not used
+        asked.out(1, 2, 0, 8, captures.str_(2 * place + 3, 2 * place + 2, 8))
+    wrong = []
+    for capture, number, words in ((early, 1, "until a reset"), (out, 3 + captures.MOST + 1, "links and resets"), (asked, 2 * (captures.MOST + 1) + 2, "what hosts say")):
+        stdout, _, _ = shark.run("-r", shark.path("ends.ncp", bytes(capture)), "-Y", "ahhp.unjudged", "-T", "fields", "-e", "frame.number", "-e", "ahhp.unjudged")
+        if len(stdout.splitlines()) != 1 or not stdout.startswith("%d\t" % number) or words not in stdout:
+            wrong.append((number, words, stdout))
+    tell("the message from which on two hosts rest, and that for which there is no room: what is judged no longer", wrong)
 
 
 def alone(lua, data):
@@ -572,6 +594,7 @@ def main():
             scripts.append((name, read(os.path.join(EXAMPLES, name))))
     recorded = recordings(scripts)
     test_rules()
+    test_ends()
     test_examples(recorded)
     test_labels()
     test_malformed()
