@@ -10,14 +10,15 @@ import unittest
 from unittest import mock
 
 TOP = os.path.dirname(os.path.dirname(os.path.dirname(os.path.abspath(__file__))))
-# It notes its last words, and does what FAULT says: the package `two` is not known, or nothing can be fetched.
+# It notes what it is to install, and fails as FAULT says.
 APT_GET = """#!/bin/sh
-for last; do :; done
+[ "$FAULT" != slow ] || sleep 60
 case " $* " in
-*" update "*) [ "$FAULT" != unreached ] || { echo "W: Failed to fetch http://127.0.0.1/Release"; exit 100; } ;;
+*" update "*) case "$FAULT" in unreached | partly) echo "W: Failed to fetch http://127.0.0.1/Release"; exit 100 ;; esac ;;
 *" install "*)
     echo "${*##*recommends }" >>"$ROOM/asked"
     [ "$FAULT" != broken ] || { echo "E: dpkg was interrupted"; exit 100; }
+    [ "$FAULT" != unreached ] || { echo "E: Unable to locate package of-one"; exit 100; }
     [ "$FAULT" != lost ] || { echo "E: Unable to fetch some archives"; exit 100; }
     case "$FAULT $*" in unknown*of-two*) echo "E: Unable to locate package of-two"; exit 100 ;; esac
     for name in one two; do case "$*" in *of-$name*) echo >"$ROOM/bin/$name"; chmod +x "$ROOM/bin/$name" ;; esac; done
@@ -33,6 +34,8 @@ def module():
     with mock.patch.object(sys, "dont_write_bytecode", True):
         loader.exec_module(found)
     found.WANTED = (("one", "of-one", "c"), ("two", "of-two", "page"))
+    if os.environ.get("FAULT") == "slow":
+        found.APT_GET = tuple("1" if it == f"{found.SECONDS}" else it for it in found.APT_GET)
     return found
 
 
@@ -73,9 +76,12 @@ class Needing(unittest.TestCase):
         self.assertEqual(self.asked(), ["of-two"])
 
     def test_no_registry(self):
-        for fault in "unreached", "lost":
+        for fault in "unreached", "lost", "slow":
             status, lines = self.need("--install", fault=fault)
             self.assertEqual((status, lines[-1]), (3, "tools/need: the registry of packages cannot be reached"), fault)
+
+    def test_a_registry_of_several_that_is_not_wanted(self):
+        self.assertEqual(self.need("--install", fault="partly")[0], 0)
 
     def test_a_package_that_is_not_known(self):
         status, lines = self.need("--install", fault="unknown")
