@@ -51,7 +51,7 @@ class Interrupted(ncp.Host):
 
     def _answer(self, name, *words):
         number = super()._answer(name, *words)
-        if name == "save" and words[1] == 0 and hasattr(self, "other"):
+        if name == "save" and words[1] == 0 and hasattr(self, "other") and not self.other.ident:
             self.other.start()
             self.other.join(0.2)
         return number
@@ -118,10 +118,11 @@ class Binding(unittest.TestCase):
         host = Interrupted(1, [2])
         host.receive(bytes.fromhex(RST))
         before = ncp.Host.save(host)
-        host.other = threading.Thread(target=host.ask_receive, args=(2, 2, 3))
+        host.other = threading.Thread(target=host.echo, args=(2, 65))
         self.assertEqual(host.save(), before)
         host.other.join()
-        self.assertTrue(host.state(2, 2, 3).asked)
+        self.assertEqual(host.waiting(2)[-1], b"\x09\x41")
+        self.assertGreater(len(host.save()), len(before))
 
     def test_nothing_grows_if_nobody_asks_for_events(self):
         host = up_with(2)
