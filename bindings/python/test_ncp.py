@@ -1,4 +1,4 @@
-"""The binding: refusals, what is told, captures and events, which library it loads; two_hosts.py prints what the example in C
+"""The binding: refusals, what is answered, captures and events, which library it loads; two_hosts.py prints what the example in C
 prints; and the examples of README.md are as they print."""
 import array
 import contextlib
@@ -138,12 +138,12 @@ class Binding(unittest.TestCase):
             host.receive(bytes.fromhex("000200000008000900" "03") + both)
         self.assertEqual(host.connections(2), [])
         self.assertLessEqual(len(host._known), 256)
-        # What is there is told of nevertheless, and what ended of late.
+        # What is there is an event nevertheless, and what ended of late.
         host.ask_receive(2, 2, 3, room=64)
         host.receive(bytes.fromhex("000200000008000a00" "02" "00000003" "00000002" "08"))
-        told = list(host.events())
-        self.assertIn(("opened", 2, 2, 3, None), told)
-        self.assertIn(("closed", 2, 1998, 1999, None), told)
+        given = list(host.events())
+        self.assertIn(("opened", 2, 2, 3, None), given)
+        self.assertIn(("closed", 2, 1998, 1999, None), given)
 
     def test_two_go_through_the_events_at_once(self):
         host = up_with(2)
@@ -153,8 +153,8 @@ class Binding(unittest.TestCase):
         # The peer refuses both.
         host.receive(bytes.fromhex("000200000008001200" "03" "00000003" "00000002" "03" "00000003" "00000004"))
         one, other = host.events(), host.events()
-        told = [next(one), next(other), *one, *other]
-        self.assertEqual(sorted(told), [("refused", 2, 2, 3, None), ("refused", 2, 4, 3, None)])
+        given = [next(one), next(other), *one, *other]
+        self.assertEqual(sorted(given), [("refused", 2, 2, 3, None), ("refused", 2, 4, 3, None)])
 
     def test_no_host_once_it_is_free(self):
         with ncp.Host(1, [2]) as host:
@@ -359,8 +359,8 @@ class Binding(unittest.TestCase):
         for name, struct in ncp._STRUCTS.items():
             lines += [f"{name} {ncp.ctypes.sizeof(struct)}"]
             lines += [f"{name}.{field} {getattr(struct, field).offset} {getattr(struct, field).size}" for field, _ in struct._fields_]
-        told = "a struct never changes within a soname: give the library a new one, and all bindings its structs"
-        self.assertEqual((TOP / "include/abi.txt").read_text(encoding="utf-8").splitlines(), lines, told)
+        why = "a struct never changes within a soname: give the library a new one, and all bindings its structs"
+        self.assertEqual((TOP / "include/abi.txt").read_text(encoding="utf-8").splitlines(), lines, why)
 
 
 class Loading(unittest.TestCase):
@@ -384,7 +384,7 @@ class Loading(unittest.TestCase):
         return made
 
     def said(self, folder, before="", library=None):
-        """What a program says that imports it, where a library of this version is installed."""
+        """What a program says that imports it, while a library of this version is installed."""
         env = {**os.environ, "LD_LIBRARY_PATH": str(self.installed), "NCP_LIBRARY": str(library or "")}
         code = f"{before}\ntry:\n    import ncp\n    print(ncp._ncp._name)\nexcept ImportError as error:\n    print(error)"
         ran = subprocess.run([sys.executable, "-B", "-c", code], cwd=self.room / folder, env=env, stdout=subprocess.PIPE, text=True, check=True)
@@ -394,7 +394,7 @@ class Loading(unittest.TestCase):
         planted = self.room / "prebuilt" / ncp.SONAME
         planted.parent.mkdir()
         planted.write_text("of anybody")
-        for folder in "any/where", "bindings/python":
+        for folder in "any/folder", "bindings/python":
             self.assertEqual(self.said(self.copied_to(folder)), ncp.SONAME)
 
     def test_in_the_repository_it_is_of_these_sources(self):
@@ -414,7 +414,7 @@ class Loading(unittest.TestCase):
 
     @unittest.skipUnless(shutil.which("cc"), "there is no C compiler")
     def test_another_library_is_refused(self):
-        folder = self.copied_to("any/where")
+        folder = self.copied_to("any/folder")
         version = 'const char *ncp_version(void) { return "%s"; }'
         sizes = "const unsigned *ncp_sizes(void) { static const unsigned all[] = {8, 8, 12, 4, 28, 12, 11, 28, 10, 0}; return all; }"
         for source, said in (
@@ -427,7 +427,7 @@ class Loading(unittest.TestCase):
 
     def test_a_python_without_a_global_lock_is_refused(self):
         before = "import sys; sys._is_gil_enabled = lambda: False"
-        self.assertEqual(self.said(self.copied_to("any/where"), before), "ncp needs a Python with a global lock, and this one runs without it")
+        self.assertEqual(self.said(self.copied_to("any/folder"), before), "ncp needs a Python with a global lock, and this one runs without it")
 
 
 def load_tests(_loader, tests, _pattern):

@@ -95,7 +95,7 @@ static inline void send_all(struct end *end)
     }
 }
 
-/* Waits for a datagram, of which there is room for one byte more than a message takes. Its length, or 0 where it comes from elsewhere. */
+/* Waits for a datagram, of which there is room for one byte more than a message takes. Its length, or 0 if it comes from elsewhere. */
 static inline size_t wait_for_one(struct end *end, uint8_t datagram[HEAD + NCP_LONGEST_MESSAGE + 1])
 {
     struct sockaddr_un from;
