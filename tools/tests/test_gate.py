@@ -81,7 +81,7 @@ class Gate(unittest.TestCase):
         status, said, last = self.gate()
         self.assertEqual((status, last), (0, "7 passed, 0 failed"), said)
         self.assertIn("rt ci\n", said)
-        self.assertIn("audit --changed at 0\n", said)
+        self.assertIn("audit --changed at ", said)
         self.assertIn("skipped: there is no include/compare", said)
 
     def test_all_steps_run_beside_the_gate(self):
@@ -111,6 +111,10 @@ class Gate(unittest.TestCase):
         self.assertEqual((status, last), (1, "7 passed, 1 failed"), said)
         self.assertIn("| test: FAILED: examples: all examples", said)
         self.assertEqual((self.asked("compare"), self.asked("try_habits")), (2, 1))
+
+    def test_a_step_that_is_not_there(self):
+        os.remove(f"{self.top}/examples/compare")
+        self.assertEqual(self.gate()[::2], (1, "7 passed, 1 failed"))
 
     def test_a_step_that_failed_for_want_of_a_processor(self):
         status, said, last = self.gate(FAILS_ONCE="compare")
