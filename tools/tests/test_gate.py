@@ -153,6 +153,19 @@ class Gate(unittest.TestCase):
         self.assertIn("test: the registry of packages could not be reached, so what is left out is no failure", lines[-4:])
         self.assertIn("test: left out: c: aarch64: left out, since its compiler is not there", lines[-4:])
 
+    def test_a_machine_without_packages(self):
+        """The rest is done, and what is skipped is said; in CI it fails, but where no package can be had."""
+        alone = f"{self.room.name}/alone"
+        os.mkdir(alone)
+        for name in "sh", "env", "grep", "nice":
+            os.symlink(shutil.which(name), f"{alone}/{name}")
+        for environment, status in ({}, 0), ({"CI": "true"}, 1), ({"CI": "true", "NCP_NO_REGISTRY": "yes"}, 0):
+            ended, said, _ = self.said(sys.executable, "test", "wireshark", "c", "docs", PATH=alone, **environment)
+            self.assertEqual(ended, status, said)
+            self.assertIn("test: left out: c: there is no C compiler\ntest: left out: wireshark: there is no tshark, or no sharkd\n", said)
+            self.assertIn("test: docs: passed in ", said)
+            self.assertEqual("the registry of packages could not be reached" in said, "NCP_NO_REGISTRY" in environment)
+
     def test_steps_by_their_words(self):
         status, said, _ = self.said(sys.executable, "test", "docs", "examples")
         self.assertEqual((status, self.asked("compare"), self.asked("index"), self.asked("try_habits")), (0, 1, 1, 0), said)
