@@ -18,7 +18,7 @@ pub fn headline_of_two_among_others()
     headline_over_any_subnet();
 }
 
-/// The headline of each two of any number of hosts, read off the notes of all.
+/// The same of two of any number of hosts, read off the notes of all.
 pub fn headline_of_two_of_many()
     ensures { (x y : Host) (ns : NumberedNotes) → IsHonestRunOfMany x y ns → Headline x.me y.me (as_notes (mutual_notes x.me y.me (notes_of_two x.me y.me ns))) }
 {

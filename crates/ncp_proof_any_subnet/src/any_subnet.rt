@@ -20,7 +20,7 @@ use ncp_proof_statement::histories::the_histories_are_of_the_notes_of_each_host;
 use ncp_proof_statement::moments::what_is_taken_begins_what_is_given;
 
 /// The headline over any honest subnet: all that the page says of a transcript of a `World` holds for the notes of two hosts,
-/// each made by itself.
+/// each made by itself; only that the subnet takes what goes out says nothing here.
 pub fn headline_over_any_subnet()
     ensures { (a b : ℕ) (ns : SidedNotes) → IsHonestRun a b ns → Headline a b (as_notes ns) }
 {

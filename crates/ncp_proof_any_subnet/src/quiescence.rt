@@ -12,8 +12,8 @@ use ncp_proof_settling::settled::where_nothing_can_happen_two_are_finished;
 use ncp_proof_statement::histories::the_histories_are_of_the_notes_of_each_host;
 
 /// If neither host has a message ready, each that was sent was answered, and none is held for a dead destination, the two are
-/// finished: no command is queued, nothing is owed or awaited, and if both are up each pair waits for a user, and all that was
-/// given was got but for what waits for allocation.
+/// finished: no command is queued, no RST or RRP is owed or awaited, and if both are up each pair waits for a user, and on the
+/// open ones all that was given was got but for what may not go.
 pub fn two_that_rest_are_finished_over_any_subnet()
     ensures { (a b : ℕ) (ns : SidedNotes) → IsHonestRun a b ns → IsSettled (seen_of a b ns) → AreFinishedBy a b ns }
 {

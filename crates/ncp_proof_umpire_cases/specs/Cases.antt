@@ -1,5 +1,5 @@
--- Captures of the interface of host 1, by the bytes of their messages: one that breaks no rule, and of each rule one that
--- breaks it. Opcodes and layouts are those of NIC 8246, leaders those of BBN Report 1822.
+-- Captures of the interface of host 1, by the bytes of their messages: one that breaks no rule, and of thirteen rules one each
+-- that breaks it. Opcodes and layouts are those of NIC 8246, leaders those of BBN Report 1822.
 use Rattle.std.specs.Prelude.{ℕ, Bool, List, [], ◌∷◌, ◌++◌}
 use Rattle.ncp_numbers.specs.Bytes.{bits_of_bytes}
 use Rattle.ncp_umpire.specs.declared.way.Way.{Way}
@@ -92,8 +92,8 @@ abbrev pub wrong_size : Capture
 wrong_size = sends (message 0 16 1 (12 ∷ 13 ∷ [])) ∷ []
 
 -- the flags of the leader are 1
-abbrev pub padded : Capture
-padded = sends (16 ∷ 2 ∷ 0 ∷ 0 ∷ 0 ∷ 8 ∷ 0 ∷ 1 ∷ 0 ∷ rst) ∷ []
+abbrev pub with_flags : Capture
+with_flags = sends (16 ∷ 2 ∷ 0 ∷ 0 ∷ 0 ∷ 8 ∷ 0 ∷ 1 ∷ 0 ∷ rst) ∷ []
 
 -- a second message on link 0 before the answer
 abbrev pub busy_link : Capture

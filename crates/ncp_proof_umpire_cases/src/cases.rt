@@ -4,7 +4,7 @@ ghost use Rattle.ncp_terms.specs.declared.command.Command.{Command};
 ghost use Rattle.ncp_umpire.specs.declared.finding.Rule.{Rule};
 ghost use Rattle.ncp_umpire.specs.Judged.{new_umpire, by_host};
 ghost use Rattle.ncp_proof_umpire_many.specs.Files.{findings_in};
-ghost use Rattle.ncp_proof_umpire_cases.specs.Cases.{opened, to_itself, wrong_type, wrong_link, wrong_size, padded, busy_link, other_message, bad_opcode, reset_while_busy, reset_before_reply, reply_omitted, echo_omitted, closed_while_busy};
+ghost use Rattle.ncp_proof_umpire_cases.specs.Cases.{opened, to_itself, wrong_type, wrong_link, wrong_size, with_flags, busy_link, other_message, bad_opcode, reset_while_busy, reset_before_reply, reply_omitted, echo_omitted, closed_while_busy};
 
 /// An audit finds nothing in a reset and a connection that is opened after it (`right`), and in each of the others that host 1
 /// broke the rule of its clause. An RST before an RRP that is owed also leaves that RRP out (`rrp_first`).
@@ -14,7 +14,7 @@ pub fn each_rule_is_found()
     ensures kind { findings_in (new_umpire false) wrong_type ≡ by_host 1 (Rule.Kind 5) ∷ [] }
     ensures wrong_link { findings_in (new_umpire false) wrong_link ≡ by_host 1 (Rule.WrongLink 1) ∷ [] }
     ensures wrong_size { findings_in (new_umpire false) wrong_size ≡ by_host 1 (Rule.WrongSize 16) ∷ [] }
-    ensures extras { findings_in (new_umpire false) padded ≡ by_host 1 (Rule.Extras 1 0 8 0) ∷ [] }
+    ensures extras { findings_in (new_umpire false) with_flags ≡ by_host 1 (Rule.Extras 1 0 8 0) ∷ [] }
     ensures occupied { findings_in (new_umpire false) busy_link ≡ by_host 1 (Rule.Occupied 0) ∷ [] }
     ensures changed { findings_in (new_umpire false) other_message ≡ by_host 1 (Rule.Changed 0) ∷ [] }
     ensures bad { findings_in (new_umpire false) bad_opcode ≡ by_host 1 (Rule.Bad (record { code = 1; bytes = 14 ∷ 0 ∷ 0 ∷ 0 ∷ 0 ∷ 0 ∷ 0 ∷ 0 ∷ 0 ∷ 0 ∷ [] })) ∷ [] }

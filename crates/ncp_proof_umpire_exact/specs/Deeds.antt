@@ -1,5 +1,5 @@
--- What the records of a capture say of the messages from one host to another on one link, and what an honest subnet and a
--- host that retransmits only what was not delivered make of them. No state of an umpire is named here.
+-- What the records of a capture say of the messages from one host to another on one link, and when that is faithful. No state
+-- of an umpire is named here.
 use Rattle.std.specs.Prelude.{ℕ, ◌==◌, ◌&&◌, Bool, true, false, List, [], ◌∷◌, if◌then◌else◌}
 use Rattle.ncp_transcript_two.specs.Honest.{MessageDeed, Sent, Comes, Taken, Refused, Other, Clear, HonestFrom, RepeatsFrom}
 use Rattle.ncp_umpire.specs.declared.event.Event.{Event}
@@ -35,7 +35,8 @@ abbrev pub deeds_recorded : ℕ → ℕ → ℕ → Capture → List MessageDeed
 deeds_recorded from to on [] = []
 deeds_recorded from to on (one ∷ more) = deed_recorded from to on one.0 one.2 (event_of one.1 one.0 one.2) ∷ deeds_recorded from to on more
 
--- An honest subnet carried them: each message was delivered once, unaltered but for the number in its leader, before its RFNM,
--- or was not delivered and had another answer. And the host sent again what was not delivered, unchanged, before anything else.
+-- An honest subnet carried them, one at a time: each message was delivered once, unaltered but for the number in its leader,
+-- before its RFNM, or was not delivered before another answer; the last may lack its answer. What was not delivered was sent
+-- next, unchanged.
 abbrev pub IsFaithful : ℕ → List MessageDeed → Type 0
 IsFaithful from deeds = HonestFrom from Clear deeds × RepeatsFrom [] true deeds

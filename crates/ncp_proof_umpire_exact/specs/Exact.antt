@@ -1,5 +1,5 @@
--- The rules of messages are exact: an audit finds nothing by them exactly if the subnet was honest and the host repeated only
--- what was not delivered.
+-- The rules of messages are exact: an audit finds nothing by them, and judges all, if and only if the records of each link are
+-- faithful.
 use Rattle.std.specs.Prelude.{◌≡◌, ◌<◌, ℕ, ◌==◌, ◌&&◌, ◌||◌, not, Bool, true, false, List, [], ◌∷◌, ◌++◌, if◌then◌else◌}
 use Rattle.ncp_transcript_two.specs.Honest.{sent_from, messages_coming, IsBeginningWithin}
 use Rattle.ncp_umpire.specs.declared.event.Event.{Event}

@@ -1,8 +1,8 @@
 //! The rules of messages are exact.
 ghost use Rattle.ncp_proof_umpire_exact.specs.Exact.{IsExact, IsExactOfAll, NoPhaseRests, WatchesAll, CleanIsInOrder};
 
-/// From one host to another: nothing is found by the rules of messages and all is judged, if and only if the subnet was honest
-/// and the host sent again what was not delivered, unchanged, before anything else. Whatever else the capture has.
+/// From one host to another: nothing is found by the rules of messages and all is judged, if and only if the records of each
+/// link are faithful (`IsFaithful`). The capture is whole, never has too many messages out, and may have whatever else.
 pub fn the_rules_of_messages_are_exact()
     ensures { IsExact }
 {}
@@ -17,13 +17,13 @@ pub fn all_is_watched()
     ensures { WatchesAll }
 {}
 
-/// If nothing is found, and all is judged, the messages on each link were delivered in the order in which they were sent, each
-/// once, and all but the last one at most.
+/// If nothing is found in such a capture, and all is judged, the messages on each link were delivered in the order in which
+/// they were sent, each once, and all but the last one at most.
 pub fn clean_is_in_order()
     ensures { CleanIsInOrder }
 {}
 
-/// If nothing is found, the phase of each host with each other is judged to the end, at each interface.
+/// If nothing is found in such a capture, the phase of each host with each other is judged to the end, at each interface.
 pub fn no_phase_rests()
     ensures { NoPhaseRests }
 {}

@@ -1,4 +1,4 @@
-//! A capture that these laws call clean, one that they do not, and one of which they say nothing.
+//! A capture that these laws call clean, one that they do not, and one that is not all judged.
 ghost use Rattle.std.specs.Prelude.{◌≡◌, ◌∷◌, [], true, false};
 ghost use Rattle.ncp_umpire.specs.declared.finding.Rule.{Rule};
 ghost use Rattle.ncp_umpire.specs.declared.finding.Unsent.TheVariants.{Twice};
