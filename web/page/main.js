@@ -1,9 +1,9 @@
 /** The page: a script is played by the module, and shown event by event. */
 const $ = id => document.getElementById(id);
-const WAIT_AFTER_TYPING = 150, LONGEST_PICTURE = 2000, LONGEST_AT_ONCE = 5000, LONGEST_SCRIPT = 1 << 24;
+const WAIT_AFTER_TYPING = 150, LONGEST_PICTURE = 2000, LONGEST_AT_ONCE = 5000, LONGEST_SCRIPT = 16e6;
 const FIRST = "one_connection", OUT_OF_MEMORY = "OutOfMemory";
 
-/** What is said where the module has no memory. */
+/** What is said if the module has no memory. */
 const LACKING = {
   script: "There is no memory left for this script. A shorter one may still be played.",
   event: "There is no memory left to show what the hosts hold at this event.",
@@ -352,7 +352,7 @@ class Page {
     const bytes = await file.arrayBuffer().then(it => new Uint8Array(it), error => complain(`The file cannot be read: ${error.message}`));
     if (!bytes) return;
     if (asText(bytes.subarray(0, 3)) === "NCP") this.capture.show(bytes, file.name);
-    else if (bytes.length > LONGEST_SCRIPT) complain(`The file is too long for a script: this page takes ${LONGEST_SCRIPT} bytes.`);
+    else if (bytes.length > LONGEST_SCRIPT) complain(`The file is too long for a script: this page takes ${LONGEST_SCRIPT / 1e6} MB at most.`);
     else this.choose(null, asText(bytes));
   }
 

@@ -91,6 +91,7 @@ class Module {
     }
   }
 
+  /** Puts bytes at an address. */
   put(bytes, at) {
     this.memory.set(bytes, at);
   }
@@ -131,8 +132,8 @@ class Module {
   /** Calls a function from bytes to bytes, some of which have modes, with more room where the bytes do not fit. */
   call(name, input, modes = {}, room = 4 * input.length + ROOM.event) {
     for (;; room *= 4) {
-      const told = this.lending([input.length, room], (from, out) => this.#callAt(name, input, modes, from, out, room));
-      if (!told.error.includes("WriteFailed")) return told;
+      const result = this.lending([input.length, room], (from, out) => this.#callAt(name, input, modes, from, out, room));
+      if (!result.error.includes("WriteFailed")) return result;
     }
   }
 
