@@ -119,7 +119,7 @@ local function declare_hhp()
   end
   e.err = ProtoExpert.new("ahhp.err_received", "ERR: the other host found an error", expert.group.RESPONSE_CODE, expert.severity.WARN)
   experts.err = e.err
-  e.unjudged = ProtoExpert.new("ahhp.judging_ends", "From here on not all is judged", expert.group.UNDECODED, expert.severity.WARN)
+  e.unjudged = ProtoExpert.new("ahhp.judging_ends", "From here on not all is judged", expert.group.UNDECODED, expert.severity.CHAT)
   experts.unjudged = e.unjudged
   hhp.experts = experts
 
@@ -161,11 +161,10 @@ local function add_findings(tree, note, place)
   end
 end
 
--- What is judged no longer. That what two hosts say rests is no warning: it is so until each reset of a capture's part.
+-- What is judged no longer from here on.
 local function add_ends(tree, note)
-  for _, what in ipairs(note.ends) do
-    local item = tree:add(g.unjudged, rules.ENDS[what]):set_generated()
-    if what ~= "rests" then item:add_proto_expert_info(e.unjudged, rules.ENDS[what]) end
+  for _, line in ipairs(note.ends) do
+    tree:add(g.unjudged, line):set_generated():add_proto_expert_info(e.unjudged, line)
   end
 end
 

@@ -75,12 +75,14 @@ rules.RULES = {
 local CLASSES = {}
 for _, rule in ipairs(rules.RULES) do CLASSES[rule[1]] = rule[2] end
 
--- What is judged no longer from a message on.
-rules.ENDS = {
-  links = "more than 4,096 messages are out: links and resets are judged no longer",
-  said = "more than 4,096 connections, due replies or unclear links, echoes or texts: what hosts say is judged no longer",
-  rests = "the host may have acted on what was not seen: what the two say is not judged until a reset",
-}
+-- What is judged no longer from a message on: up to the end, or up to a reset.
+local LINKS_END = "more than 4,096 messages are out: links and resets are judged no longer"
+local SAID_ENDS = "more than 4,096 connections, due replies or unclear links, echoes or texts: what hosts say is judged no longer"
+local CROWDED = "two messages are out on one link: what the subnet does between the two hosts is judged no longer"
+local RESTS = "what the two hosts say is not judged until a reset"
+local PAIR_RESTS = "the connection of the sockets %d,%d is not judged until a reset"
+local LINK_RESTS = "link %d, on which host %d receives, is not judged until a reset"
+local ECHOES_REST = "the echoes of host %d are not judged until a reset"
 
 local function hex(bytes)
   return (bytes:gsub(".", function(letter) return string.format("%02x", letter:byte()) end))
@@ -110,7 +112,7 @@ local function new_side(part, wait) return { began = part, wait = wait, asked = 
 local function new_view(part, at, peer)
   return {
     at = at, peer = peer, host = new_side(part, part and ANSWERED or EVEN), other = new_side(part, EVEN),
-    owes = false, first = false, spoilt = false, rests = false, crowded = false, told = not part, known = not part,
+    owes = false, first = false, spoilt = false, rests = false, crowded = false, judged = not part, known = not part,
     slots = {}, taken = 0, busy = 0,
   }
 end
@@ -160,8 +162,10 @@ local function find(step, rule, detail, blamed)
   step.findings[#step.findings + 1] = { rule = rule, class = CLASSES[rule], line = line, place = step.place }
 end
 
--- That what was judged is judged no longer.
-local function end_judging(step, what) step.ends[#step.ends + 1] = what end
+-- From here on something is judged no longer.
+local function end_judging(step, line, ...) step.ends[#step.ends + 1] = string.format(line, ...) end
+
+local function host_of(view, side) return side and view.at or view.peer end
 
 -- ---------------------------------------------------------------- links
 
@@ -225,15 +229,16 @@ local function goes_out(self, step)
   local same = again and same_bits(slot.message, message)
   if is_out(slot) then
     find(step, "occupied", string.format("link=%d", message.link))
+    if not view.crowded then end_judging(step, CROWDED) end
     view.crowded = true
   elseif again and not same then
     find(step, "changed", string.format("link=%d", message.link))
-    if not view.rests then end_judging(step, "rests") end
+    if not view.rests and view.judged then end_judging(step, RESTS) end
     view.rests = true
   end
   if not put_out(self, view, message) then
     self.links_end = true
-    end_judging(step, "links")
+    end_judging(step, LINKS_END)
   end
   return known and not same
 end
@@ -415,7 +420,8 @@ end
 
 -- Nothing is judged any more of a link on which this side receives.
 local function rest_link(self, step, side, link)
-  mark(self, step, step.view.books.resting[side], link)
+  local view = step.view
+  if mark(self, step, view.books.resting[side], link) then end_judging(step, LINK_RESTS, link, host_of(view, side)) end
   drop_returns(self, step, not side, link)
 end
 
@@ -425,9 +431,9 @@ local function rest_pair(self, step, here, there)
   local life = books.lives[pair_of(here, there)]
   if not life then
     life = new_life(here, there, 0)
-    life.rests = true
-    return add_life(self, step, life)
+    add_life(self, step, life)
   end
+  if not life.rests then end_judging(step, PAIR_RESTS, here, there) end
   life.rests = true
   replies.remove_life(books.leaving, life)
   if life.link then rest_link(self, step, not life.sends, life.link) end
@@ -629,8 +635,9 @@ local function echoed(self, step, item)
   local books, key = step.view.books, string.format("ERP %d", item.data)
   local due = judge_reply(step, key, "erp-unasked", item.line)
   if due then strike(self, step, key, due) end
-  if books.asks[not step.sent] then unmark(self, step, books.asks, not step.sent)
-  else mark(self, step, books.echoes, not step.sent) end
+  local asker = not step.sent
+  if books.asks[asker] then unmark(self, step, books.asks, asker)
+  elseif mark(self, step, books.echoes, asker) then end_judging(step, ECHOES_REST, host_of(step.view, asker)) end
 end
 
 -- An ERR with code 5 that shows no command, RTS to INS, is about a text.
@@ -660,7 +667,7 @@ local function say(self, step, act, item)
   if self.said_ends or not act then return end
   books_of(step.view)
   act(self, step, item)
-  if self.said_ends then end_judging(step, "said") end
+  if self.said_ends then end_judging(step, SAID_ENDS) end
 end
 
 -- ---------------------------------------------------------------- RST and RRP
@@ -684,7 +691,7 @@ end
 local function hears_reset(step)
   local view = step.view
   local zero = view.slots[0] or view.known
-  return view.told or zero and view.host.wait ~= ANSWERED
+  return view.judged or zero and view.host.wait ~= ANSWERED
 end
 
 -- An RST of the host that is waited for alone begins a session of which all is seen.
@@ -696,7 +703,7 @@ local function reset_by_host(self, step, unquiet)
   local waits = host.wait == WAITING
   view.spoilt = again or unquiet or view.spoilt and not waits
   view.rests = view.rests and not waits
-  view.told, view.known = true, true
+  view.judged, view.known = true, true
   if waits then clear_books(self, view) end
 end
 
@@ -705,7 +712,7 @@ local function reset_by_peer(self, step)
   local view = step.view
   local host, peer = view.host, view.other
   peer.began, peer.wait = true, math.min(WAITING, peer.wait + 1)
-  view.owes, view.first, view.told = true, busy_now(step) and true, true
+  view.owes, view.first, view.judged = true, busy_now(step) and true, true
   view.rests = host.wait == ANSWERED or peer.wait ~= WAITING or view.rests and host.asked ~= 0
   host.asked = host.asked + 1
   clear_books(self, view)
@@ -744,7 +751,7 @@ end
 
 local function answer_reset(_, step)
   local view, side = step.view, sender_of(step)
-  if not view.told then
+  if not view.judged then
     if not step.sent then view.host.wait = ANSWERED end
     return
   end
@@ -777,7 +784,7 @@ end
 -- Whether an item that is neither RST nor RRP, or a text, is judged by what was said before.
 local function reaches(step, name)
   local view = step.view
-  if not view.told then return false end
+  if not view.judged then return false end
   if is_early(step, name) then
     find_early(step, name)
     return false
@@ -792,7 +799,7 @@ local function take_item(self, step, item)
   if item.name == "RST" then reset(self, step)
   elseif item.name == "RRP" then answer_reset(self, step)
   elseif reaches(step, item.name) then say(self, step, SAID[item.name], item) end
-  if view.rests and not rested and view.told then end_judging(step, "rests") end
+  if view.rests and not rested and view.judged then end_judging(step, RESTS) end
 end
 
 -- ---------------------------------------------------------------- one text
@@ -834,7 +841,7 @@ local function take_a_text(self, step)
   if self.links_end then return end
   local rested = step.view.rests
   if reaches(step, "text") then say(self, step, take_text) end
-  if step.view.rests and not rested then end_judging(step, "rests") end
+  if step.view.rests and not rested then end_judging(step, RESTS) end
 end
 
 -- ---------------------------------------------------------------- what the host left out
@@ -855,7 +862,7 @@ end
 local function find_left_out(self, step)
   local view, books = step.view, step.view.books
   step.place = nil
-  if not view.told then
+  if not view.judged then
     view.host.wait = EVEN
     return
   end

@@ -1,7 +1,7 @@
 -- alone.lua: what the plugin says of message files of version 2, by plain Lua, without Wireshark:
 --     lua alone.lua PLUGIN-FOLDER whole|part FILE..
--- A finding stands after `S`, of the standard, or `P`, of this project; a line of the connections after `C`; a line `= FILE`
--- after all of a file. `part` is of captures that begin in the middle. Where a record takes more instructions than it may,
+-- A finding stands after `S`, of the standard, or `P`, of this project; what is judged no longer after `E`; a line of the
+-- connections after `C`; a line `= FILE` after all of a file. `part` is of captures that begin in the middle. Where a record takes more instructions than it may,
 -- the line is `error` and why.
 
 package.path = arg[1] .. "/?.lua;" .. package.path
@@ -51,6 +51,7 @@ local function judge(part, data)
     number = number + 1
     local note = within(take, bytes, watched, number, data:sub(at, at + bytes - 1))
     for _, found in ipairs(note.findings) do print(string.format("%s %d %s", found.class, number, found.line)) end
+    for _, line in ipairs(note.ends) do print(string.format("E %d %s", number, line)) end
     at = at + bytes
   end
   for _, line in ipairs(connections.lines(watched)) do print("C " .. line) end

@@ -253,7 +253,7 @@ def test_rules():
 
 
 def test_ends():
-    """The message from which on something is judged no longer: the first for which there is no room, or by which two hosts rest."""
+    """The message from which on something is judged no longer: two hosts, a link, and all for which there is no room."""
     early, out, asked = captures.Capture(), captures.Capture(), captures.Capture()
     early.out(1, 2, 0, 8, captures.NOP)
     for capture in (out, asked):
@@ -262,11 +262,17 @@ def test_ends():
         out.out(1, 3 + place // 100, 100 + place % 100, 8, captures.NOP, answered=False)  # links that are not used
         asked.out(1, 2, 0, 8, captures.str_(2 * place + 3, 2 * place + 2, 8))
     wrong = []
-    for capture, number, words in ((early, 1, "until a reset"), (out, 3 + captures.MOST + 1, "links and resets"), (asked, 2 * (captures.MOST + 1) + 2, "what hosts say")):
-        stdout, _, _ = shark.run("-r", shark.path("ends.ncp", bytes(capture)), "-Y", "ahhp.unjudged", "-T", "fields", "-e", "frame.number", "-e", "ahhp.unjudged")
+    wanted = (
+        (bytes(early), 1, "what the two hosts say is not judged until a reset"),
+        (bytes(out), 3 + captures.MOST + 1, "links and resets are judged no longer"),
+        (bytes(asked), 2 * (captures.MOST + 1) + 2, "what hosts say is judged no longer"),
+        (read(os.path.join(EXAMPLES, "texts.ncp")), 19, "link 3, on which host 2 receives, is not judged until a reset"),
+    )
+    for data, number, words in wanted:
+        stdout, _, _ = shark.run("-r", shark.path("ends.ncp", data), "-Y", "ahhp.unjudged", "-T", "fields", "-e", "frame.number", "-e", "ahhp.unjudged")
         if len(stdout.splitlines()) != 1 or not stdout.startswith("%d\t" % number) or words not in stdout:
             wrong.append((number, words, stdout))
-    tell("the message from which on two hosts rest, and that for which there is no room: what is judged no longer", wrong)
+    tell("the messages from which on two hosts, a link and all are judged no longer", wrong)
 
 
 def alone(lua, data):
