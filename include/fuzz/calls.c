@@ -114,7 +114,7 @@ static void look_at(const struct ncp_arrived *arrived)
 
 static void receive(void)
 {
-    uint8_t room[2 * NCP_LONGEST_MESSAGE];
+    uint8_t room[2 * NCP_LONGEST_MESSAGE] = {0};
     size_t len = a_message(room);
     if (one_in(4)) len = spoil(room, len, sizeof room - 16);
     if (one_in(64)) len = (size_t)pick(sizeof room);
@@ -132,16 +132,16 @@ static void receive(void)
     free(bytes);
 }
 
-/* A buffer for what is told, mostly long enough. */
+/* A buffer for an answer, mostly long enough. */
 static size_t a_room(size_t enough)
 {
     return one_in(8) ? (size_t)pick(enough + 2) : enough + (size_t)pick(3);
 }
 
-/* What a function wrote: bits with zeros behind them, or nothing if it refused. */
-static void look_at_bits(uint32_t code, const uint8_t *out, size_t len, const size_t *told)
+/* What a function wrote: bits with zeros after them, or nothing if it refused. */
+static void look_at_bits(uint32_t code, const uint8_t *out, size_t len, const size_t *size)
 {
-    const size_t bits = *told;
+    const size_t bits = *size;
     if (code != NCP_DONE) {
         HOLDS(bits == MARK);
         for (size_t place = 0; place < len; place++) HOLDS(out[place] == MARK);
@@ -228,7 +228,7 @@ static void ask(uint8_t peer, uint32_t local, uint32_t remote)
     else fitting(peer, local, remote);
 }
 
-/* What is told of a host, which asks for no more than a look. */
+/* What a host says of itself, which changes nothing. */
 static void read_out(uint8_t peer, uint32_t local, uint32_t remote)
 {
     struct ncp_connection it;

@@ -1,4 +1,4 @@
-/* Chance with a seed, what is spoiled by it, and how a finding is told: with the seed and the input that make it again. */
+/* Chance with a seed, what is spoiled by it, and how a finding is printed: with the seed and the input that make it again. */
 #ifndef DICE_H
 #define DICE_H
 
