@@ -109,6 +109,63 @@ class Library(Scripts):
         self.assertEqual(words.split(" -"), [f"-I{blank}/include", f"L{blank}/lib", "lncp \n"])
 
 
+# A compiler, a linker and an archiver that only make what they are to make, and a toolchain that notes what it is asked.
+MAKER = """#!/bin/sh
+case $1 in rcsD) touch "$2" ;; esac
+while [ $# -gt 0 ]; do [ "$1" != -o ] || touch "$2"; shift; done
+"""
+NOTING = """#!/bin/sh
+echo "$*" >>"$ROOM/asked"
+case $1 in version) echo "$KIT" ;; doc) echo "$ROOM/kit/START" ;; esac
+"""
+
+
+class Making(Scripts):
+    """include/library where the proved archive is kept."""
+
+    def setUp(self):
+        super().setUp()
+        self.copy("include/library", "tools/toolchain")
+        write(f"{self.top}/tools/sources", "#!/bin/sh\necho sum\n", 0o755)
+        write(f"{self.top}/crates/ncp_embed/out/x86-64/libncp_embed.a", "")
+        write(f"{self.top}/crates/ncp_embed/out/x86-64/of", "sum rattle-kit-0 logic 0\n")
+        for name in "gcc", "ld", "objcopy", "ar":
+            write(f"{self.room.name}/bin/{name}", MAKER, 0o755)
+        write(f"{self.room.name}/bin/rt", NOTING, 0o755)
+
+    def library(self, kit):
+        return subprocess.run(["include/library", f"{self.room.name}/made"], cwd=self.top, stdout=subprocess.PIPE, stderr=subprocess.STDOUT, text=True,
+                              env={**os.environ, "PATH": f"{self.room.name}/bin:{os.environ['PATH']}", "ROOM": self.room.name, "KIT": kit})
+
+    def test_a_link_to_a_folder_of_an_older_library(self):
+        os.makedirs(f"{self.room.name}/made/older")
+        os.symlink("older", f"{self.room.name}/made/libncp.so")
+        ran = self.library("rattle-kit-0 logic 0")
+        self.assertEqual((ran.returncode, os.listdir(f"{self.room.name}/made/older")), (0, []), ran.stdout)
+
+    def test_another_program_is_called_rt(self):
+        ran = self.library("rt 4.4.4")
+        self.assertEqual((ran.returncode, ran.stdout), (2, "include/library: rt, the toolchain, is not on the path\n"))
+        self.assertEqual(read(f"{self.room.name}/asked"), "version\n")
+
+
+class AnotherRt(Scripts):
+    """Another program is called rt: it is asked for its version, and for nothing else."""
+
+    def test_what_wants_the_toolchain(self):
+        self.copy("tools/prove", "tools/build.py", "tools/once.py", "tools/toolchain", "web/build")
+        write(f"{self.top}/tools/sources", "#!/bin/sh\necho sum\n", 0o755)
+        write(f"{self.top}/crates.txt", "ncp:\n")
+        write(f"{self.top}/crates/ncp/src/main.rt", "")
+        write(f"{self.room.name}/bin/rt", NOTING, 0o755)
+        write(f"{self.room.name}/bin/wasm-opt", "#!/bin/sh\n", 0o755)
+        for words in ["tools/prove", "ncp"], ["web/build", "--module", "made"]:
+            ran = subprocess.run(words, cwd=self.top, stdout=subprocess.PIPE, stderr=subprocess.STDOUT, text=True,
+                                 env={**os.environ, "PATH": f"{self.room.name}/bin:{os.environ['PATH']}", "ROOM": self.room.name, "KIT": "rt 4.4.4"})
+            self.assertEqual((ran.returncode, ran.stdout), (1, f"{words[0]}: rt, the toolchain, is not on the path\n"))
+        self.assertEqual(read(f"{self.room.name}/asked"), "version\nversion\n")
+
+
 class Plugin(Scripts):
     def setUp(self):
         super().setUp()
