@@ -1,3 +1,4 @@
+/* SPDX-License-Identifier: MIT */
 /* The toolchain's three functions over malloc, realloc and free, for a target for which the toolchain has none. Each
  * block is aligned as malloc aligns it, which is enough for all that the library asks for (docs/EMBEDDING.md); a block of
  * no bytes is asked for as one of its alignment. Where there is no memory, a byte that nothing reads is pointed to. */

@@ -1,3 +1,4 @@
+/* SPDX-License-Identifier: MIT */
 /* The functions of ncp.h: each looks for null pointers, and calls the one of the proved library that is named as it.
  * include/library joins both in one archive, out of which no name of the library is seen. */
 #include "ncp.h"

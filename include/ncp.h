@@ -1,3 +1,4 @@
+/* SPDX-License-Identifier: MIT */
 /* A host of the ARPANET with its one to eight peers, and a subnet between hosts, as an emulator links them: C99 and C++.
  *
  * Link libncp.a or libncp.so, which stand in prebuilt/, or are made by include/library and put in place by

@@ -1,3 +1,4 @@
+/* SPDX-License-Identifier: MIT */
 /* Message files of version 2 (docs/FORMATS.md): what crossed the interfaces of hosts and their IMPs, as `ncp show`,
  * `ncp check` and Wireshark read it. For C99 and C++; what it needs of the C library is fwrite.
  *

@@ -1,3 +1,4 @@
+/* SPDX-License-Identifier: MIT */
 /* What happens with a peer, event by event, over the functions of ncp.h: C99 and C++.
  *
  *     static struct ncp_watch watch;

@@ -1,3 +1,4 @@
+# SPDX-License-Identifier: MIT
 """The binding: refusals, what is answered, captures and events, which library it loads; two_hosts.py prints what the example in C
 prints; and the examples of README.md are as they print."""
 import array

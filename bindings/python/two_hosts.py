@@ -1,4 +1,5 @@
 #!/usr/bin/env python3
+# SPDX-License-Identifier: MIT
 """examples/embed/two_hosts.c in Python: what it prints is the same, and stands in examples/embed/two_hosts.txt."""
 import ncp
 

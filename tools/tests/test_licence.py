@@ -1,5 +1,6 @@
 """THIRD-PARTY.md names the crates of the toolchain that each prebuilt file stands on, as crates.txt has them; and where the
 toolchain is there, each copyright line of their licences."""
+import glob
 import os
 import re
 import shutil
@@ -10,6 +11,9 @@ TOP = os.path.dirname(os.path.dirname(os.path.dirname(os.path.abspath(__file__))
 # The prebuilt files by the crate that each is built of, and what a crate of the toolchain uses beside the standard library.
 BUILT_OF = {"ncp": "ncp", "libncp": "ncp_embed", "ncp.wasm": "ncp_web"}
 BELOW = {"clap": ["strsim"]}
+# What others copy into their own work, and so names its licence in its first two lines.
+COPIED = ("include/*.h", "include/*.c", "bindings/python/*.py", "bindings/rust/*/build.rs", "bindings/rust/*/src/*.rs", "bindings/rust/*/examples/*.rs",
+          "bindings/rust/*/tests/*.rs", "wireshark/plugin/*.lua", "web/page/*")
 
 
 def read(*path):
@@ -47,6 +51,13 @@ def sources():
 class Licences(unittest.TestCase):
     def test_the_licence(self):
         self.assertTrue(read(TOP, "LICENSE").startswith("MIT License\n\nCopyright (c) 2026 the Yaszkevo authors\n"))
+
+    def test_what_is_copied_names_it(self):
+        for pattern in COPIED:
+            paths = glob.glob(os.path.join(TOP, pattern))
+            self.assertTrue(paths, pattern)
+            for path in paths:
+                self.assertIn("SPDX-License-Identifier: MIT", "".join(read(path).splitlines()[:2]), path)
 
     def test_each_crate_that_is_compiled_in_is_named(self):
         wanted = {}

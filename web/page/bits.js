@@ -1,3 +1,4 @@
+// SPDX-License-Identifier: MIT
 /** A message in bits, by the fields of a leader (BBN 1822) and of the text behind it (NIC 8246). */
 const LEADER = [["flags", 4], ["type", 4], ["host", 8], ["link", 8], ["low field", 8]];
 const PREFIX = [["M1", 8], ["size", 8], ["count", 16], ["M2", 8]];

@@ -1,3 +1,4 @@
+// SPDX-License-Identifier: MIT
 /** A capture: which rules its messages break, what was said on its connections, whether it is sound, and what it holds. */
 const LONGEST_LIST = 1000;
 const NO_ROOM = { status: ANSWER.NO_MEMORY, bytes: new Uint8Array(), error: "There is no memory left for a capture of this length." };

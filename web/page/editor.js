@@ -1,3 +1,4 @@
+// SPDX-License-Identifier: MIT
 /**
  * The script as it is typed. A long one is not all in the box: of its lines some hundreds are, and others where one
  * scrolls to the end of these.

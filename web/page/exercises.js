@@ -1,3 +1,4 @@
+// SPDX-License-Identifier: MIT
 /**
  * Whether a run is the answer to an exercise. Its wants go through the lines of the events: `order` has patterns of events
  * that follow one another, `never` what no event is like, `last` what the last is like, and `between` what stands not

@@ -1,3 +1,4 @@
+// SPDX-License-Identifier: MIT
 /** The ladder: a line for each host, time downwards, a row for each event. Only the rows that are seen are drawn. */
 // Below the last row is room for the signs of a message that is underway.
 const ROW = 28, BELOW = 2, MARGIN = 24, OVERSCAN = 8;

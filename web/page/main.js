@@ -1,3 +1,4 @@
+// SPDX-License-Identifier: MIT
 /** The page: a script is played by the module, and shown event by event. */
 const $ = id => document.getElementById(id);
 const WAIT_AFTER_TYPING = 150, LONGEST_PICTURE = 2000, LONGEST_AT_ONCE = 5000, LONGEST_SCRIPT = 16e6;

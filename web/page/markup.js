@@ -1,3 +1,4 @@
+// SPDX-License-Identifier: MIT
 /**
  * Markup. Each value that stands in a template is escaped, unless it is markup itself. So no text of a script, of a file, of
  * a link or of the module becomes a tag: this file alone puts markup into the page.

@@ -1,3 +1,4 @@
+// SPDX-License-Identifier: MIT
 /**
  * The module, which is made of the proved crate `ncp_web`. Bytes go in, and bytes come out: nothing here knows the
  * protocol, and no line is written here.

@@ -1,3 +1,4 @@
+// SPDX-License-Identifier: MIT
 /** What hosts hold: each word is an answer of the module. */
 const FLAG_WORDS = { asked: "asked", heard: "heard", opened: "opened", leaving: "leaving", left: "left", cls: "CLS came" };
 

@@ -1,3 +1,4 @@
+// SPDX-License-Identifier: MIT
 /** The lines that the module wrote of a script, event by event, and the messages that they tell of. */
 const KINDS = ["call", "out", "deliver", "lose", "dead", "answer"];
 const MOVES = new Set(KINDS.slice(2));

@@ -1,3 +1,4 @@
+// SPDX-License-Identifier: MIT
 const SETTLE = "settle";
 
 /** A script as bytes: which of its lines are played, and where each stands. */

@@ -1,3 +1,4 @@
+// SPDX-License-Identifier: MIT
 /**
  * Sessions of one script, each at an event of its own. A session goes only forwards: to go back, another one that is not
  * there yet is played on, or one is opened anew. What takes long is played in slices, between which the page answers.

@@ -1,3 +1,4 @@
+-- SPDX-License-Identifier: MIT
 -- arpanet.lua: Wireshark and tshark read messages of the ARPANET of 1972: message files, the Host/IMP interface (BBN
 -- Report 1822), the Host/Host Protocol (NIC 8246), and the datagrams of a simulated host interface.
 --

@@ -1,3 +1,4 @@
+-- SPDX-License-Identifier: MIT
 -- arpanet_connections.lua: which connection each message belongs to, what answers what, and what was said on a connection,
 -- as `ncp follow` finds it; which rules a message breaks, by arpanet_rules.lua.
 --

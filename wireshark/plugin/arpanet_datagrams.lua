@@ -1,3 +1,4 @@
+-- SPDX-License-Identifier: MIT
 -- arpanet_datagrams.lua: datagrams (UDP) between the host interfaces of a simulated IMP and its host, joined to messages.
 --
 -- A datagram, numbers most significant byte first:

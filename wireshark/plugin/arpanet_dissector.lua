@@ -1,3 +1,4 @@
+-- SPDX-License-Identifier: MIT
 -- arpanet_dissector.lua: ARPANET Host/IMP messages (BBN Report 1822) and the Host/Host Protocol (NIC 8246) for Wireshark.
 --
 -- A packet, link type USER0 (147), is a record of a message file of version 2:

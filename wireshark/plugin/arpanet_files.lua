@@ -1,3 +1,4 @@
+-- SPDX-License-Identifier: MIT
 -- arpanet_files.lua: Wireshark and tshark open message files (NCPH, NCPI, NCPJ) as they are, and write them.
 --
 -- The packets are those of arpanet_dissector.lua (link type USER0). A message file has no time stamps, so the packets

@@ -1,3 +1,4 @@
+-- SPDX-License-Identifier: MIT
 -- arpanet_messages.lua: what a message between a host and its IMP says, by BBN Report 1822 and NIC 8246, as plain tables.
 --
 -- Nothing here knows Wireshark: it is Lua 5.1 to 5.4 over strings. Neither bit operators nor a bit library are used.

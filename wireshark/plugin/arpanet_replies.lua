@@ -1,3 +1,4 @@
+-- SPDX-License-Identifier: MIT
 -- arpanet_replies.lua: replies in the order of what they answer, which are found by what they say; connections by their
 -- age; and queues. Nothing here walks over all that is kept: what is put in once is taken out once.
 

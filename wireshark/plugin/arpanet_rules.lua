@@ -1,3 +1,4 @@
+-- SPDX-License-Identifier: MIT
 -- arpanet_rules.lua: which rules the messages of a capture break, and who broke them, as `ncp audit` finds it.
 --
 -- One pass over the messages in their order, with no look ahead. Nothing here knows Wireshark: Lua 5.1 to 5.4. It says what

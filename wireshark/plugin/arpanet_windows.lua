@@ -1,3 +1,4 @@
+-- SPDX-License-Identifier: MIT
 -- arpanet_windows.lua: the connections of a capture, and the text of one, in windows of Wireshark and as lines of tshark.
 --
 -- In Wireshark: the menu Tools, ARPANET. In tshark: `-o ahhp.list:TRUE` writes behind all packets the connections that

@@ -1,3 +1,4 @@
+// SPDX-License-Identifier: MIT
 //! Where the library is: in the folder of `NCP_LIB_DIR`, if it is set, in prebuilt/ if this stands in the repository, or where the linker
 //! looks. That of the repository has to be built from its sources.
 use std::env::var;

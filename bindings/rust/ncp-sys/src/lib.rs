@@ -1,3 +1,4 @@
+// SPDX-License-Identifier: MIT
 //! `include/ncp.h`, function by function: that header says what each does, and what its caller has to uphold.
 #![no_std]
 #![allow(non_camel_case_types)]

@@ -1,3 +1,4 @@
+// SPDX-License-Identifier: MIT
 //! `examples/embed/two_hosts.c` in Rust: what it prints is the same, and stands in `examples/embed/two_hosts.txt`.
 use ncp::{At, Host, Refusal, BUFFER};
 

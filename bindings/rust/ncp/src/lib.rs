@@ -1,3 +1,4 @@
+// SPDX-License-Identifier: MIT
 //! A host of the ARPANET with its one to eight peers, and a subnet between hosts, over the proved library of `include/ncp.h`.
 //!
 //! That header says what each call does and refuses, and in which order; `docs/EMBEDDING.md` how a host is driven: what comes

@@ -1,3 +1,4 @@
+// SPDX-License-Identifier: MIT
 //! Whether the library that was linked is the one that this crate is for.
 use core::ffi::CStr;
 use core::fmt;

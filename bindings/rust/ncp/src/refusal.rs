@@ -1,3 +1,4 @@
+// SPDX-License-Identifier: MIT
 //! `Refusal`.
 use core::fmt;
 use ncp_sys as sys;

@@ -1,3 +1,4 @@
+// SPDX-License-Identifier: MIT
 //! `Subnet`.
 use crate::refusal::{done, found};
 use crate::{front, library, Bits, Buffer, Refusal};

@@ -1,3 +1,4 @@
+// SPDX-License-Identifier: MIT
 //! Refusals by their names, what arrived and what is told, and a host that goes to another thread.
 use ncp::{Arrived, At, Bits, Changes, Connection, Host, Refusal, Subnet, What, BUFFER};
 
