@@ -1,3 +1,4 @@
+// SPDX-License-Identifier: MIT
 //! The structs here are those of `include/abi.txt`.
 use ncp_sys::{SIZES, STRUCTS};
 
