@@ -293,10 +293,8 @@ local function reset(self, step)
   end
 end
 
--- The RRP that the host waits for clears once more what was asked meanwhile.
 local function answer_reset(self, step)
   local session, sent = step.session, step.sent
-  if not sent and session.waits[true] then clear(self, step, "rrp-came") end
   session.began[sent], session.waits[not sent] = true, false
   local first = replies.take_oldest(session.resets[not sent])
   if first then self.asked = self.asked - 1 end

@@ -641,10 +641,8 @@ local function echoed(self, step, item)
   elseif mark(self, step, books.echoes, asker) then end_judging(step, ECHOES_REST, host_of(step.view, asker)) end
 end
 
--- An ERR with code 5 that shows no command, RTS to INS, is about a text.
 local function complain(self, step, item)
-  local first = tonumber(item.data:sub(1, 2), 16)
-  local admitted = item.code == 5 and (first < 1 or first > 8) and step.view.books.admits[step.sent][item.data]
+  local admitted = item.code == 5 and step.view.books.admits[step.sent][item.data]
   if admitted then
     step.answered[step.place] = admitted
     return

@@ -11,6 +11,7 @@ RFNM, DEAD, INCOMPLETE = 5, 7, 9
 MOST = 4096  # of what is kept
 ROOMY, LONGEST = 108, 1000  # bytes of a control text
 RST, RRP, NOP = b"\x0c", b"\x0d", b"\0"
+ANSWER = "RFNM for a text on link 3"
 
 
 def socket(number):
@@ -373,11 +374,11 @@ def flood_cls(dice, n):
 
 def flood_left(dice, n):
     """The peer closes what it asked for, and the host answers by nothing, or by a CLS for each."""
-    asked = [(False, [str_(2 * i + 101, 2 * i + 100, 8) for i in range(n)]), (False, [cls(2 * i + 101, 2 * i + 100) for i in range(n)])]
-    order = list(range(n))
-    if dice.random() < 0.5:
-        dice.shuffle(order)
-    return asked + [(True, [NOP] * dice.randrange(50)), (True, [cls(2 * i + 100, 2 * i + 101) for i in order])]
+    asked, left, leaving = [dice.sample(range(n), n) if dice.random() < 0.6 else range(n) for _ in range(3)]
+    return [
+        (False, [str_(2 * i + 101, 2 * i + 100, 8) for i in asked]), (False, [cls(2 * i + 101, 2 * i + 100) for i in left]),
+        (True, [NOP] * dice.randrange(50)), (True, [cls(2 * i + 100, 2 * i + 101) for i in leaving]),
+    ]
 
 
 def flood_open_close(dice, n):
@@ -389,13 +390,13 @@ def flood_open_close(dice, n):
 
 
 def flood_all(dice, n):
-    """ALLs of messages alone, or of bits, and texts that take them."""
-    more = dice.choice([(1, 0), (0, 8), (1, 8)])
-    return [(True, [all_(2, *more)] * n)] + [(False, (2, 8, b"a"))] * min(n, 1000) + [(False, [ret(2, 1, 8)] * min(n, 1000))]
+    """ALLs of messages alone, of bits alone, or of both, and texts that take them."""
+    more = [all_(2, *dice.choice([(1, 0), (0, 48), (1, 48)])) for _ in range(n)]
+    return [(True, more)] + [(False, (2, 8, b"abcdef"))] * min(n, 1000) + [(False, [ret(2, 1, 8)] * min(n, 1000))]
 
 
 def flood_gvb_ret(dice, n):
-    return [(True, [gvb(2, 1, 1)] * n), (False, [ret(2, 0, 0)] * n)]
+    return [(True, [gvb(2, 1, 1)] * n), (False, [ret(2, 0, 0)] * n), (True, [gvb(2, 1, 1)]), (False, [ret(2, 9, 99)])]
 
 
 def flood_gvb_rest(dice, n):
@@ -406,8 +407,8 @@ def flood_texts(dice, n):
     """Texts of no connection: an ERR may come about each."""
     n = min(n, MOST + 50)
     sent = dice.random() < 0.5
-    texts = [(sent, (9, 8, bytes([i // 256, i % 256]))) for i in range(n)]
-    shown = regular(1 if sent else 2, 9, 8, b"\0\1")[1]
+    texts = [(sent, (9, 8, bytes([i % 256]) * (1 + i // 256))) for i in range(n)]
+    shown = regular(1 if sent else 2, 9, 8, b"\1\1")[1]
     return texts + [(not sent, [err(5, shown), err(5, shown)])]
 
 
@@ -430,19 +431,27 @@ def flood_any(dice, n):
 
 def say_flood(capture, said, most):
     for sent, what in said:
-        if isinstance(what, tuple):
+        if what is ANSWER:
+            capture.answer(1, 2, 3)
+        elif isinstance(what, tuple):
             link, size, text = what
-            (capture.out if sent else capture.come)(1, 2, link, size, text)
+            capture.out(1, 2, link, size, text, answered=link != 3) if sent else capture.come(1, 2, link, size, text)
         elif isinstance(what, bytes):
             (capture.out if sent else capture.come)(1, 2, 0, 8, what)
         else:
             capture.say(sent, what, most)
 
 
-def flood_of_links(dice, count):
+def flood_returns(dice, n):
+    """GVBs while a text is out, and while none is: the RET is not sure, or it is."""
+    text, asked, answer, reply = (True, (3, 8, b"a")), (False, [gvb(3, 1, 1)]), (True, ANSWER), (True, [ret(3, 0, 0)])
+    turns = ([text, asked, answer, asked, reply], [asked, reply], [text, asked, answer, reply], [asked, asked, reply])
+    return [(False, [all_(3, 60000, 60000)])] + [one for _ in range(min(n, 300)) for one in dice.choice(turns)] + [asked, (True, [NOP])]
+
+
+def flood_links(dice, count):
     """Messages to many hosts on many links, none of them answered; and then some answers."""
     capture = Capture()
-    capture.begin()
     outs = [(host, link) for host in range(3, 250) for link in range(256)]
     dice.shuffle(outs)
     for host, link in outs[:count]:
@@ -454,26 +463,33 @@ def flood_of_links(dice, count):
 
 FLOODS = [value for name, value in sorted(globals().items()) if name.startswith("flood_")]
 
-# Those by which Wireshark once stood still, with so many commands.
-HOSTILE = [(flood_eco_erp, 5000), (flood_eco_other_erp, 5000), (flood_str, 5000), (flood_rst, 5000), (flood_eco_erp, 20000), (flood_eco_other_erp, 20000)]
+# First those by which Wireshark once stood still, with so many commands; then those for which there is just room, and one
+# more: links, lives, replies and marks.
+FIRST = [
+    (flood_eco_erp, 5000), (flood_eco_other_erp, 5000), (flood_str, 5000), (flood_rst, 5000), (flood_eco_erp, 20000), (flood_eco_other_erp, 20000),
+    (flood_links, MOST), (flood_links, MOST + 1), (flood_str, MOST - 2), (flood_str, MOST - 1), (flood_eco_erp, MOST), (flood_eco_erp, MOST + 1),
+    (flood_texts, MOST - 1), (flood_texts, MOST),
+]
 
 
 def a_flood(seed, which):
     """A flood, mostly up to a limit or a little beyond it; and a talk after it, by which is seen what is still judged."""
     dice = random.Random(seed)
-    n, most = dice.choice([300, 1000, MOST - 2, MOST - 1, MOST, MOST + 1, MOST + 2, 5000]), dice.choice([12, ROOMY, 120, LONGEST])
-    flood = FLOODS[(which - len(HOSTILE)) % len(FLOODS)]
-    if which < len(HOSTILE):
-        (flood, n), most = HOSTILE[which], ROOMY
-    if flood is flood_of_links:
-        capture = flood_of_links(dice, n)
+    turn = (which - len(FIRST)) // len(FLOODS)
+    n, most = dice.choice([300, 1000] + [MOST - 2, MOST - 1, MOST, MOST + 1, MOST + 2, 5000] * (turn > 0)), dice.choice([12, ROOMY, 120, LONGEST])
+    flood = FLOODS[(which - len(FIRST)) % len(FLOODS)]
+    if which < len(FIRST):
+        (flood, n), most = FIRST[which], ROOMY
+    capture = Capture()
+    capture.begin()
+    connect(capture, 2)
+    capture.say(False, [rts(6, 7, 3)])
+    capture.say(True, [str_(7, 6, 8)])
+    said = flood(dice, n)
+    if isinstance(said, Capture):
+        capture.parts += said.parts[1:]
     else:
-        capture = Capture()
-        capture.begin()
-        connect(capture, 2)
-        capture.say(False, [rts(6, 7, 3)])
-        capture.say(True, [str_(7, 6, 8)])
-        say_flood(capture, flood(dice, n), most)
+        say_flood(capture, said, most)
     return bytes(capture) + bytes(Dialogue(dice.getrandbits(40)))[4:]
 
 
