@@ -22,6 +22,7 @@ echo rt 4.4.4
 # Each step says its name and how nice it is, and fails where FAILS has its name, or where FAILS_ONCE has it the first time.
 STEP = """#!/bin/sh
 name=${0##*/}
+case $0 in */fuzz/run) name=random ;; esac
 echo "$name $* at $(nice)"
 case " $LEAVES_OUT " in *" $name "*) echo "aarch64: left out, since its compiler is not there" ;; esac
 grep -q "^$name" "$ROOM/asked" 2>/dev/null && FAILS_ONCE=
@@ -29,8 +30,8 @@ echo "$name $*" >>"$ROOM/asked"
 case " $FAILS $FAILS_ONCE " in *" $name "*) exit 1 ;; esac
 """
 STEPS = ("ncp", "tools/try_launcher", "examples/compare", "tools/try_habits", "examples/embed/run", "bindings/test", "tools/index", "tools/words", "wireshark/test",
-         "web/build", "web/test", "tools/prebuild", "tools/audit", "tools/prove")
-COMMANDS = ("cc", "tshark", "sharkd", "lua5.2")
+         "wireshark/fuzz", "include/fuzz/run", "web/build", "web/test", "tools/prebuild", "tools/audit", "tools/prove")
+COMMANDS = ("cc", "clang", "valgrind", "tshark", "sharkd", "lua5.2")
 NONE = """import unittest
 
 
@@ -91,7 +92,7 @@ class Gate(unittest.TestCase):
             self.assertIn(f"| $ {'examples/' if line.startswith('embed') else ''}{line}", said)
         self.assertIn("| test --shots", said)
         self.assertIn("at 19\n", said)
-        for name in "try_launcher", "compare", "try_habits", "run", "index", "words", "build":
+        for name in "try_launcher", "compare", "try_habits", "run", "random", "fuzz", "index", "words", "build":
             self.assertEqual(self.asked(name), 1, said)
         self.assertNotIn("unproved", said)
 

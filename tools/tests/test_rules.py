@@ -7,7 +7,7 @@ CRATES = Path(__file__).resolve().parents[2] / "crates"
 # The crates whose laws are about what an audit finds; others have laws about the words of a rule.
 ABOUT_FINDINGS = ("ncp_umpire", "ncp_proof_umpire")
 FUNCTION = re.compile(r"^pub fn (\w+)\(\)\n((?:    ensures .*\n)+)\{\}", re.M)
-CLAUSE = re.compile(r"    ensures (\w+)? ?\{ (.*) \}")
+CLAUSE = re.compile(r"    ensures (?:\w+ )?\{ (.*) \}")
 # A rule that is found: one of a list of findings or of rules, or the only one.
 FOUND = re.compile(r"≡ .*\b[Rr]ule\.(\w+)")
 EACH = re.compile(r"\b[Rr]ule\.(\w+)")
@@ -21,15 +21,15 @@ def rules():
 
 
 def cases(crates=CRATES):
-    """Of each rule the clauses by which a law finds it, as FUNCTION.CLAUSE."""
+    """Of each rule the laws that find it."""
     found = {}
     for folder in sorted(it for it in crates.iterdir() if it.name.startswith(ABOUT_FINDINGS)):
         for file in sorted(folder.glob("src/*.rt")):
             for law, clauses in FUNCTION.findall(file.read_text(encoding="utf-8")):
-                for clause, said in CLAUSE.findall(clauses):
+                for said in CLAUSE.findall(clauses):
                     if FOUND.search(said):
                         for rule in EACH.findall(said.partition("≡ ")[2]):
-                            found.setdefault(rule, []).append(f"{law}.{clause}")
+                            found.setdefault(rule, {})[law] = None
     return found
 
 
