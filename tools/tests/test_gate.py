@@ -88,11 +88,10 @@ class Gate(unittest.TestCase):
     def test_all_steps_run_beside_the_gate(self):
         _, said, _ = self.gate()
         self.assertIn("\nside by side\n", said)
-        for line in "embed/run --prebuilt", "bindings/test", "wireshark/test", "web/test --shots":
+        for line in "embed/run --prebuilt", "bindings/test", "wireshark/test", "wireshark/fuzz":
             self.assertIn(f"| $ {'examples/' if line.startswith('embed') else ''}{line}", said)
-        self.assertIn("| test --shots", said)
         self.assertIn("at 19\n", said)
-        for name in "try_launcher", "compare", "try_habits", "run", "random", "fuzz", "index", "words", "build":
+        for name in "try_launcher", "compare", "try_habits", "run", "random", "fuzz", "index", "words":
             self.assertEqual(self.asked(name), 1, said)
         self.assertNotIn("unproved", said)
 
