@@ -14,12 +14,12 @@ HERE = os.path.dirname(os.path.abspath(__file__))
 TOP = os.path.dirname(HERE)
 # A call, the crate whose tests make it, and these tests. A test sees what stands where it is refused memory, and prints it.
 CALLS = [
-    ("BitStore::with_room", "ncp_test_files", ["refused::with_room"]),
+    ("BitStore::with_room", "ncp_test_conn", ["refused::with_room"]),
     ("Slots::new", "ncp_test_host", ["refused::slots_new"]),
     ("run_link", "ncp_test_host", ["refused::running_a_link"]),
-    ("Table::new", "ncp_test_files", ["refused::table_new"]),
-    ("Table::copy", "ncp_test_files", ["refused::table_copy"]),
-    ("Table::stored", "ncp_test_files", ["refused::table_stored"]),
+    ("Table::new", "ncp_test_conn", ["refused::table_new"]),
+    ("Table::copy", "ncp_test_conn", ["refused::table_copy"]),
+    ("Table::stored", "ncp_test_conn", ["refused::table_stored"]),
     ("order", "ncp_test_files", ["refused::reading_an_order"]),
     ("Host::new", "ncp_test_host", ["refused::host_new"]),
     ("Host::copy", "ncp_test_host", ["refused::host_copy"]),
@@ -42,7 +42,7 @@ CALLS = [
     ("Many::run", "ncp_test_world", ["refused::many::many_run"]),
     ("play_host", "ncp_test_play", ["refused::playing_one_host"]),
     ("play_world", "ncp_test_play", ["world::refused::playing_two_hosts", "world::refused::playing_many_hosts"]),
-    ("record_world", "ncp_test_play", ["world::recorded::refused::recording"]),
+    ("record_world", "ncp_test_play", ["world::refused::recorder::recording"]),
 ]
 TOLD = "refused: "  # in front of what a test prints
 PASSED = "test result: ok"

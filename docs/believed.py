@@ -3,7 +3,8 @@
 table, and says whether docs/MODEL.md lists these and no others.
 
 A definition rests on those that its own lines name. Names that are bound in a line count too where a definition has the
-same name, so the list may be too long, never too short. Comments and blank lines are not counted."""
+same name, so the list may be too long, never too short; a module with parameters counts whole. Comments and blank lines are
+not counted."""
 import functools
 import os
 import re
@@ -15,19 +16,24 @@ HEADLINE = ("ncp_statement/specs/Statement.antt", "Headline")
 # What the whole may have beside the plain types of notes.
 MOST_LINES = 400
 
-USE = re.compile(r"^(?:unfoldable )?(?:pub )?use Rattle\.(\w+)\.specs\.([\w.]+?)(?:\.\{([^}]*)\})?(?: as (\w+))?$", re.M)
-HEAD = re.compile(r"^(?:(?:pub|abbrev|unfoldable|opaque|data|record) )+(?=[\w'-])")
+USE = re.compile(r"^ *(?:(?:ghost|unfoldable|pub) )*use Rattle\.(\w+)\.((?:specs|proofs)\.[\w.]+?)(?:\.\{([^}]*)\})?(?: as (\w+))?;?$", re.M)
+HEAD = re.compile(r"^(?:(?:pub|abbrev|unfoldable|opaque|data|record) )+(?=[\w'◌-])")
 NAME = re.compile(r"[^\s:({]+")
 WORD = re.compile(r"(?<![\w.'-])(?:(\w+)\.)?([\w'-]+)")
 CONSTRUCTOR = re.compile(r"\s+(?:pub )?(\w+) :")
 DATA = re.compile(r"^(?:pub )?data ")
+# A definition in a module of parameters, which is taken with the whole module.
+INSIDE = re.compile(r"  (?:(?:pub|abbrev|unfoldable|opaque|data|record) )+([^\s:({]+)")
 
 
 def path_of(crate, module):
     """The file of a module of definitions, or of the plain data that is declared in the code, if it is this repository's."""
-    first, *rest = module.split(".")
-    path = f"{crate}/src/{rest[0]}.rt" if first == "declared" else f"{crate}/specs/{first}.antt"
-    return path if os.path.exists(os.path.join(CRATES, path)) else None
+    folder, first, *rest = module.split(".")
+    if first in ("declared", "contracts"):
+        paths = [f"{crate}/src/{'/'.join(rest[:end])}.rt" for end in range(len(rest), 0, -1)]
+    else:
+        paths = [f"{crate}/{folder}/{first}.antt"]
+    return next((it for it in paths if os.path.exists(os.path.join(CRATES, it))), None)
 
 
 def text_of(path):
@@ -46,9 +52,9 @@ class File:
             if used and names:
                 for name in names.split(","):
                     old, _, new = name.strip().partition(" as ")
-                    self.names[new or old] = (used, old)
-            elif used and alias:
-                self.modules[alias] = used
+                    self.names.setdefault(new or old, []).append((used, old))
+            elif used:
+                self.modules[alias or module.split(".")[-1]] = used
         if path.endswith(".antt"):
             self.read(text)
 
@@ -56,8 +62,14 @@ class File:
         at = None
         for line in text.split("\n"):
             line = line.split("--")[0].rstrip()
-            head = HEAD.match(line)
-            if head:
+            head, inside = HEAD.match(line), INSIDE.match(line)
+            if line.startswith("module "):
+                at = line
+                self.lines.setdefault(at, []).append(line)
+            elif inside and at in self.lines and at.startswith("module "):
+                self.makers[inside.group(1)] = at
+                self.lines[at].append(line)
+            elif head:
                 at = NAME.match(line, head.end()).group()
                 self.lines[at] = [line]
             elif line.startswith(("use ", "pub use ", "unfoldable pub use ")):
@@ -72,32 +84,40 @@ class File:
 file_at = functools.cache(File)
 
 
-def meant(path, name):
-    """The definition that a name stands for in a file; of plain data that is declared in the code, its file alone."""
-    if path.endswith(".rt"):
-        return (path, "")
+def known(path, name):
+    """The definitions that a name of a file can stand for, which is one but where parts of a file of code have imports of their own."""
     file = file_at(path)
     if name in file.lines:
-        return (path, name)
+        return [(path, name)]
     if name in file.makers:
-        return (path, file.makers[name])
-    return meant(*file.names[name]) if name in file.names else None
+        return [(path, file.makers[name])]
+    return [it for used, old in file.names.get(name, ()) for it in meant(used, old)]
+
+
+def meant(path, name):
+    """What another file takes of this one by a name: a definition, or of code, which declares plain data, the file alone."""
+    return [(path, "")] if path.endswith(".rt") else known(path, name)
+
+
+def cited(path, text):
+    """What a text cites by the names of a file."""
+    file = file_at(path)
+    for module, word in WORD.findall(text):
+        yield from meant(file.modules[module], word) if module in file.modules else known(path, module or word)
+    for name in [*file.names, *file.lines]:
+        if "◌" in name and all(sign in text for sign in name.split("◌")):
+            yield from known(path, name)
 
 
 def named_by(path, name):
-    file = file_at(path)
-    for module, word in WORD.findall("\n".join(file.lines[name])):
-        if not module:
-            yield meant(path, word)
-        elif module in file.modules:
-            yield meant(file.modules[module], word)
+    return cited(path, "\n".join(file_at(path).lines[name]))
 
 
 def rests_on(start):
     found, todo = set(), [start]
     while todo:
         one = todo.pop()
-        if one and one not in found:
+        if one not in found:
             found.add(one)
             todo += named_by(*one) if one[1] else []
     return found
@@ -131,4 +151,5 @@ def main():
     sys.exit(rests != said or total > MOST_LINES)
 
 
-main()
+if __name__ == "__main__":
+    main()

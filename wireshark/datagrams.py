@@ -55,13 +55,18 @@ def block(kind, body):
     return struct.pack("<II", kind, len(body) + 12) + body + struct.pack("<I", len(body) + 12)
 
 
-def pcapng(packets, begin, link_type=LINK_TYPE_IPV4):
-    """A capture of these packets, the first `begin` seconds after the beginning of 1970."""
-    parts = [block(0x0A0D0D0A, struct.pack("<IHHq", 0x1A2B3C4D, 1, 0, -1)), block(1, struct.pack("<HHI", link_type, 0, 0))]
+def blocks(packets, begin, link_type=LINK_TYPE_IPV4):
+    """The blocks of a capture of these packets, the first `begin` seconds after the beginning of 1970."""
+    yield block(0x0A0D0D0A, struct.pack("<IHHq", 0x1A2B3C4D, 1, 0, -1))
+    yield block(1, struct.pack("<HHI", link_type, 0, 0))
     for i, data in enumerate(packets):
         micros = begin * 1_000_000 + i * 10_000
-        parts.append(block(6, struct.pack("<IIIII", 0, micros >> 32, micros & 0xFFFFFFFF, len(data), len(data)) + data))
-    return b"".join(parts)
+        yield block(6, struct.pack("<IIIII", 0, micros >> 32, micros & 0xFFFFFFFF, len(data), len(data)) + data)
+
+
+def pcapng(packets, begin, link_type=LINK_TYPE_IPV4):
+    """A capture of these packets."""
+    return b"".join(blocks(packets, begin, link_type))
 
 
 def main():

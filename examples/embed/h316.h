@@ -1,8 +1,9 @@
 /* The line between a host and its IMP as the host interface of the H316 simulator has it, as far as that is known here
  * (README.md): a datagram is `H316`, a sequence number, a count of words and flags, and then the words of 16 bits, all with
  * the most significant byte first. A message is one datagram or more, the last of which has the flag LAST, and its last word
- * is filled up with zeros. Sequence numbers begin with 1, and after the last of 32 bits comes 0. A datagram that is no such thing,
- * or whose number is no next one, is counted and dropped; one that comes from elsewhere does not reach a socket that is connected. */
+ * is filled up with zeros. Sequence numbers begin with 0 (another program may begin with 1), and after the last of 32 bits comes 0.
+ * A datagram that is no such thing, or whose number is no next one, is counted and dropped; one that comes from elsewhere does not
+ * reach a socket that is connected. */
 #ifndef H316_H
 #define H316_H
 
@@ -29,8 +30,10 @@ enum { GOING_DOWN = NCP_TYPE_GOING_DOWN, NOP = NCP_TYPE_NOP, INTERFACE_RESET = N
 
 struct line {
     int socket;
-    uint32_t sent, came;                  /* the last sequence numbers that were sent, and taken */
+    uint32_t next;                        /* the sequence number of the next datagram that is sent */
+    uint32_t came;                        /* the last one that was taken */
     uint32_t seen;                        /* and that came, whatever became of it */
+    bool has_begun;                       /* whether one was taken */
     size_t dropped;                       /* datagrams that were of no use */
     uint8_t message[NCP_LONGEST_MESSAGE]; /* what has come of a message */
     size_t len;
@@ -88,7 +91,7 @@ static inline void send_part(struct line *line, uint16_t flags, const uint8_t *b
 {
     uint8_t datagram[HEAD + 2 * WORDS_A_PART] = {'H', '3', '1', '6'};
     size_t words = (len + 1) / 2;
-    put(datagram + NAME, ++line->sent, 4);
+    put(datagram + NAME, line->next++, 4);
     put(datagram + 8, (uint32_t)words, 2);
     put(datagram + 10, flags, 2);
     if (len > 0) memcpy(datagram + HEAD, bytes, len);
@@ -121,14 +124,14 @@ static inline bool is_there(const struct line *line)
     return poll(&ready, 1, 0) > 0;
 }
 
-/* Whether a sequence number may come next: any at first, then up to AHEAD more than the last one that was taken, or 1, since the other
- * end may begin again. Any other is old or wrong, and taken only if it follows the last one that came: so no single one shuts the line. */
+/* Whether a sequence number may come next: any at first, then up to AHEAD more than the last one that was taken, or 0 or 1, since the
+ * other end may begin again. Any other is old or wrong, and taken only if it follows the last one that came: so no single one shuts the line. */
 static inline bool is_next(struct line *line, uint32_t sequence)
 {
     const uint32_t more = sequence - line->came;
     const bool follows = sequence == line->seen + 1;
     line->seen = sequence;
-    return more != 0 && (line->came == 0 || more <= AHEAD || sequence == 1 || follows);
+    return !line->has_begun || (more != 0 && (more <= AHEAD || sequence <= 1 || follows));
 }
 
 /* Waits for a datagram, but not for ever. If it ends a message, the bits of that are answered, with what fills up its last word; else 0. */
@@ -146,7 +149,7 @@ static inline size_t take_part(struct line *line)
     if (!is_next(line, sequence)) return 0;
     line->dropped--;
     if (sequence != line->came + 1) line->len = 0; /* a part is missing, so what came before is of no use */
-    line->came = sequence;
+    line->came = sequence, line->has_begun = true;
     line->is_ready = (flags & READY) != 0;
     if (bytes > sizeof line->message - line->len) bytes = sizeof line->message - line->len; /* padding, or no message of a host */
     memcpy(line->message + line->len, datagram + HEAD, bytes);

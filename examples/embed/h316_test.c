@@ -23,12 +23,23 @@ static size_t send_raw(const uint8_t *bytes, size_t len)
 static size_t send_word(uint32_t sequence, uint16_t flags)
 {
     static const uint8_t word[] = {4, 0};
-    one.sent = sequence - 1;
+    one.next = sequence;
     send_part(&one, flags, word, sizeof word);
     return take_part(&other);
 }
 #define TAKEN(sequence) is(16, (uint32_t)send_word(sequence, READY | LAST), __LINE__)
 #define DROPPED(sequence) is(0, (uint32_t)send_word(sequence, READY | LAST), __LINE__)
+
+/* The first datagram of a line has the number 0, and is taken. */
+static void begins_with_0(void)
+{
+    send_leader(&one, NOP);
+    is(32, (uint32_t)take_part(&other), __LINE__);
+    is(0, other.came, __LINE__);
+    send_leader(&one, NOP);
+    is(32, (uint32_t)take_part(&other), __LINE__);
+    is(1, other.came, __LINE__);
+}
 
 static void other_forms(void)
 {
@@ -65,6 +76,10 @@ static void sequences(void)
     TAKEN(1); /* it begins again */
     DROPPED(1);
     TAKEN(2);
+    TAKEN(0); /* and again, with 0 */
+    DROPPED(0);
+    TAKEN(1), TAKEN(2), TAKEN(3);
+    DROPPED(2);
     other.came = 0xfffffffd;
     TAKEN(0xfffffffe), TAKEN(0xffffffff), TAKEN(0), TAKEN(1), TAKEN(2);
 }
@@ -86,7 +101,7 @@ static void strangers(const char *elsewhere, const char *there)
     struct line stranger;
     const size_t dropped = other.dropped;
     attach(&stranger, elsewhere, there);
-    stranger.sent = other.came;
+    stranger.next = other.came + 1;
     send_leader(&stranger, INTERFACE_RESET);
     is(0, is_there(&other), __LINE__);
     TAKEN(other.came + 1);
@@ -102,6 +117,8 @@ int main(int argc, char **argv)
     }
     attach(&one, argv[1], argv[2]);
     attach(&other, argv[2], argv[1]);
+    begins_with_0();
+    other.has_begun = false;
     TAKEN(70000); /* any is the first */
     TAKEN(1);
     other_forms();

@@ -22,7 +22,7 @@ echo rt 4.4.4
 # Each step says its name and how nice it is, and fails where FAILS has its name, or where FAILS_ONCE has it the first time.
 STEP = """#!/bin/sh
 name=${0##*/}
-case $0 in */fuzz/run) name=random ;; esac
+case $0 in */fuzz/run) name=random ;; */web/test) name=page ;; esac
 echo "$name $* at $(nice)"
 case " $LEAVES_OUT " in *" $name "*) echo "aarch64: left out, since its compiler is not there" ;; esac
 grep -q "^$name" "$ROOM/asked" 2>/dev/null && FAILS_ONCE=
@@ -30,7 +30,7 @@ echo "$name $*" >>"$ROOM/asked"
 case " $FAILS $FAILS_ONCE " in *" $name "*) exit 1 ;; esac
 """
 STEPS = ("ncp", "tools/try_launcher", "examples/compare", "tools/try_habits", "examples/embed/run", "bindings/test", "tools/index", "tools/words", "wireshark/test",
-         "wireshark/fuzz", "include/fuzz/run", "web/build", "web/test", "tools/prebuild", "tools/audit", "tools/prove")
+         "wireshark/fuzz", "include/fuzz/run", "web/build", "web/test", "web/test_arrivals", "tools/prebuild", "tools/mutants", "tools/prove")
 COMMANDS = ("cc", "clang", "valgrind", "tshark", "sharkd", "lua5.2")
 NONE = """import unittest
 
@@ -82,16 +82,16 @@ class Gate(unittest.TestCase):
         status, said, last = self.gate()
         self.assertEqual((status, last), (0, "7 passed, 0 failed"), said)
         self.assertIn("rt ci\n", said)
-        self.assertIn("audit --changed at ", said)
+        self.assertIn("mutants --changed --at-most 4 at ", said)
         self.assertIn("skipped: there is no include/compare", said)
 
     def test_all_steps_run_beside_the_gate(self):
         _, said, _ = self.gate()
         self.assertIn("\nside by side\n", said)
-        for line in "embed/run --prebuilt", "bindings/test", "wireshark/test", "wireshark/fuzz":
+        for line in "embed/run --prebuilt", "bindings/test", "wireshark/test", "wireshark/fuzz", "web/test":
             self.assertIn(f"| $ {'examples/' if line.startswith('embed') else ''}{line}", said)
         self.assertIn("at 19\n", said)
-        for name in "try_launcher", "compare", "try_habits", "run", "random", "fuzz", "index", "words":
+        for name in "try_launcher", "compare", "try_habits", "run", "random", "fuzz", "index", "words", "page":
             self.assertEqual(self.asked(name), 1, said)
         self.assertNotIn("unproved", said)
 
@@ -102,9 +102,17 @@ class Gate(unittest.TestCase):
         self.assertEqual(self.gate(VERDICT="", STATUS="2")[::2], (1, "0 passed, 1 failed"))
 
     def test_a_step_after_the_gate_that_fails(self):
-        status, said, last = self.gate(FAILS="audit")
+        status, said, last = self.gate(FAILS="mutants")
         self.assertEqual((status, last), (1, "7 passed, 1 failed"), said)
-        self.assertIn("FAILED: audit: tools/audit --changed", said)
+        self.assertIn("FAILED: mutants: tools/mutants --changed", said)
+
+    def test_many_changed_crates_are_no_failure(self):
+        self.write(f"{self.top}/include/compare", STEP)
+        said_by_tool = "mutants: 9 edits of 5 crates, which are more than 4, and none is tried: run `tools/mutants --changed`, and commit mutants/"
+        self.write(f"{self.top}/tools/mutants", f"#!/bin/sh\n[ \"$*\" = '--changed --at-most 4' ] && echo '{said_by_tool}'\n")
+        status, said, last = self.gate(CI="true")
+        self.assertEqual((status, last), (0, "7 passed, 0 failed"), said)
+        self.assertIn(f"\n{said_by_tool}\ntest: mutants: passed in ", said)
 
     def test_a_step_beside_the_gate_that_fails(self):
         status, said, last = self.gate(FAILS="compare")

@@ -75,10 +75,11 @@ class Indexing(unittest.TestCase):
         self.addCleanup(self.room.cleanup)
         for name, text in (("crates.txt", "low:\nncp_test_low: low\n"), ("crates/low/src/lib.rt", LIB), ("crates/low/src/keeping.rt", KEEPING),
                            ("crates/low/src/hidden.rt", HIDDEN), ("crates/ncp_test_low/src/lib.rt", TESTS), ("crates/low/must-fail/keeps_one.edit", EDIT),
-                           ("audit/low/drops_to_one.edit", PRIVATE), ("docs/PROVED.md", PAGE)):
+                           ("mutants/low.edits", f"edit: drops_to_one\n{PRIVATE}"), ("docs/PROVED.md", PAGE)):
             self.write(name, text)
         os.mkdir(f"{self.room.name}/tools")
-        shutil.copy(f"{TOP}/tools/index", f"{self.room.name}/tools")
+        for name in "index", "edits.py":
+            shutil.copy(f"{TOP}/tools/{name}", f"{self.room.name}/tools")
 
     def write(self, name, text):
         path = f"{self.room.name}/{name}"
@@ -97,7 +98,7 @@ class Indexing(unittest.TestCase):
         self.assertEqual(self.index().returncode, 0)
         page = self.page()
         self.assertIn(ROW, page)
-        self.assertIn("`Kept::drop` (`audit/drops_to_one`)", page)
+        self.assertIn("`Kept::drop` (`drops_to_one`)", page)
         self.assertNotIn("unseen", page)
         self.assertTrue(page.endswith("By hand.\n"))
 

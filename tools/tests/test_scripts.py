@@ -149,6 +149,42 @@ class Making(Scripts):
         self.assertEqual(read(f"{self.room.name}/asked"), "version\n")
 
 
+class Program(Scripts):
+    """tools/program: the program that the launcher would run."""
+
+    def setUp(self):
+        super().setUp()
+        self.copy("tools/program")
+        self.put("ncp", 0)
+        self.put("prebuilt/ncp", 0)
+        self.put("tools/prebuild", 0)
+
+    def put(self, name, status):
+        write(f"{self.top}/{name}", f"#!/bin/sh\nexit {status}\n", 0o755)
+
+    def program(self):
+        return self.said("tools/program", NCP="").removesuffix("\n").removeprefix(f"{os.path.realpath(self.top)}/")
+
+    def test_what_is_prebuilt_of_these_sources(self):
+        self.assertEqual(self.program(), "prebuilt/ncp")
+
+    def test_what_was_built_here(self):
+        """What is prebuilt is of other sources, or for another machine."""
+        for name in "tools/prebuild", "prebuilt/ncp":
+            self.put(name, 1)
+            self.assertEqual(self.program(), "crates/ncp/out/ncp")
+            self.put(name, 0)
+
+    def test_another_build(self):
+        self.put("ncp", 1)
+        self.assertEqual(self.said("tools/program", NCP="/any/program"), "/any/program\n")
+
+    def test_no_program(self):
+        self.put("ncp", 2)
+        ran = subprocess.run(["tools/program"], cwd=self.top, env={**os.environ, "NCP": ""}, stdout=subprocess.PIPE, text=True)
+        self.assertEqual((ran.returncode, ran.stdout), (2, ""))
+
+
 class AnotherRt(Scripts):
     """Another program is called rt: it is asked for its version, and for nothing else."""
 

@@ -35,7 +35,7 @@ class Capture {
     const { status, bytes, error } = this.#read("audit", { part: $("is-part").checked, standard: $("is-standard").checked });
     const findings = asText(bytes).split("\n").slice(0, -1).map(line => ({ line, record: line.split(" ")[0] }));
     const count = findings.length ? counted(findings.length, "finding") : "No rule is seen to be broken";
-    draw($("findings"), markup`${Capture.outcome(status, count, error)}${this.#list(findings, "What these rules ask for", it => Capture.namesIn(it.line))}`);
+    draw($("findings"), markup`${Capture.outcome(status, count, error)}${this.#list(findings, "What these rules require", it => Capture.namesIn(it.line))}`);
     return findings.map(it => it.record);
   }
 
@@ -48,9 +48,9 @@ class Capture {
     });
     const connections = told.filter(it => it.opened), others = told.filter(it => !it.opened);
     const count = connections.length ? counted(connections.length, "connection") : "No connection was opened";
-    const list = this.#list(connections.map(it => ({ line: it.line, text: it.text + Capture.letters(it), record: it.opened, by: it.by })), "How these have ended", it => [it.by]);
+    const list = this.#list(connections.map(it => ({ line: it.line, text: it.text + Capture.letters(it), record: it.opened, by: it.by })), "How they ended", it => [it.by]);
     const lines = others.slice(0, LONGEST_LIST).map(it => it.line).join("\n");
-    draw($("connections"), markup`${Capture.outcome(status, count, error)}${list}${others.length ? markup`<h4>Texts of no connection</h4><pre>${lines}</pre>${Capture.omitted(others)}` : ""}`);
+    draw($("connections"), markup`${Capture.outcome(status, count, error)}${list}${others.length ? markup`<h4>Texts on no connection</h4><pre>${lines}</pre>${Capture.omitted(others)}` : ""}`);
     return connections.map(it => it.opened);
   }
 

@@ -1,9 +1,11 @@
 // SPDX-License-Identifier: MIT
 /**
- * The script as it is typed. A long one is not all in the box: of its lines some hundreds are, and others where one
- * scrolls to the end of these.
+ * The script as it is typed. A long one is not all in the box: of its lines some hundreds are, and others once one
+ * scrolls to the end of these. A line that is wider than the box is wrapped.
  */
-const LINE = 20, LONGEST_WHOLE = 2000, SHOWN = 600;
+const ROW_HEIGHT = 20, LONGEST_WHOLE = 2000, SHOWN = 600;
+// A line of so many plain letters takes one row however narrow the box is.
+const LETTERS_OF_A_ROW = 20;
 
 class Editor {
   /** `on` has what is done where the text is changed, and where a line is chosen. */
@@ -17,6 +19,8 @@ class Editor {
     this.now = 1;
     this.fault = null;
     this.isQuiet = false;
+    this.ruler = box.parentElement.appendChild(Object.assign(document.createElement("div"), { className: "ruler" }));
+    this.wrapped = { text: null, width: 0, rows: [0, 1] };
     box.addEventListener("input", () => { if (!this.isQuiet) on.change(); });
     box.addEventListener("scroll", () => this.#scrolled());
     // Where a fault goes, or a bar to scroll by, there is room for more lines.
@@ -26,6 +30,42 @@ class Editor {
 
   get isWhole() {
     return this.count === this.lines.length;
+  }
+
+  /** How many rows are above each line in the box, and how many there are in all. */
+  get rows() {
+    const { value: text, clientWidth: width } = this.box, { wrapped } = this;
+    if (text !== wrapped.text || width !== wrapped.width) this.wrapped = { text, width, rows: this.#wrap(text.split("\n"), width) };
+    return this.wrapped.rows;
+  }
+
+  /** Wraps lines, of which the long ones are measured in a block as wide as the box. */
+  #wrap(lines, width) {
+    const { paddingLeft, paddingRight } = getComputedStyle(this.box), rows = [0];
+    const long = [...new Set(lines.filter(it => it.length > LETTERS_OF_A_ROW || /[^ -~]/.test(it)))];
+    this.ruler.style.width = `${width - parseFloat(paddingLeft) - parseFloat(paddingRight)}px`;
+    this.ruler.replaceChildren(...long.map(it => Object.assign(document.createElement("div"), { textContent: it })));
+    const counts = new Map(long.map((it, each) => [it, Math.max(1, Math.round(this.ruler.children[each].offsetHeight / ROW_HEIGHT))]));
+    this.ruler.replaceChildren();
+    for (const line of lines) rows.push(rows.at(-1) + (counts.get(line) ?? 1));
+    return rows;
+  }
+
+  /** How far below the top of the text a line begins, which is in the box; one after the last begins where that ends. */
+  #topOf(number) {
+    const { rows } = this;
+    return rows[Math.min(Math.max(number - this.first, 0), rows.length - 1)] * ROW_HEIGHT;
+  }
+
+  /** The line in the box that is so far below the top of the text. */
+  #lineAt(height) {
+    const { rows } = this;
+    let [low, high] = [0, rows.length - 2];
+    while (low < high) {
+      const middle = (low + high + 1) >> 1;
+      if (rows[middle] * ROW_HEIGHT <= height) low = middle; else high = middle - 1;
+    }
+    return this.first + low;
   }
 
   /** The whole text, with what is typed. */
@@ -52,7 +92,7 @@ class Editor {
   /** Another text, as if it were typed where it can be, so that the browser can undo it. */
   replace(text) {
     const { box } = this, { activeElement } = document;
-    if (!this.isWhole || text.length > LONGEST_WHOLE * LINE) return this.show(text);
+    if (!this.isWhole || text.length > LONGEST_WHOLE * LETTERS_OF_A_ROW) return this.show(text);
     this.isQuiet = true;
     box.focus({ preventScroll: true });
     box.select();
@@ -66,8 +106,8 @@ class Editor {
     this.now = number;
     if (document.activeElement !== this.box) {
       if (!this.isWhole && (number < this.first || number >= this.first + this.count)) this.#move(number - SHOWN / 2);
-      const top = (number - this.first) * LINE, { scrollTop, clientHeight } = this.box;
-      if (top < scrollTop || top + 2 * LINE > scrollTop + clientHeight) this.box.scrollTop = Math.max(0, top - clientHeight / 2);
+      const [top, bottom] = [number, number + 1].map(it => this.#topOf(it)), { scrollTop, clientHeight } = this.box;
+      if (top < scrollTop || bottom + ROW_HEIGHT > scrollTop + clientHeight) this.box.scrollTop = Math.max(0, top - clientHeight / 2);
     }
     this.draw();
   }
@@ -78,22 +118,31 @@ class Editor {
   }
 
   #scrolled() {
-    const { scrollTop, clientHeight, scrollHeight } = this.box, was = this.first;
+    const { scrollTop, clientHeight, scrollHeight } = this.box, was = this.first, line = this.#lineAt(scrollTop), below = scrollTop - this.#topOf(line);
     const isTyped = !this.isWhole && this.box.value.split("\n").length !== this.count;
     if (!this.isWhole && !isTyped) {
-      if (scrollTop < LINE && this.first > 1) this.#move(this.first - SHOWN / 2);
-      else if (scrollTop + clientHeight > scrollHeight - LINE && this.first + this.count <= this.lines.length) this.#move(this.first + SHOWN / 2);
-      if (this.first !== was) this.box.scrollTop = scrollTop + (was - this.first) * LINE;
+      if (scrollTop < ROW_HEIGHT && this.first > 1) this.#move(this.first - SHOWN / 2);
+      else if (scrollTop + clientHeight > scrollHeight - ROW_HEIGHT && this.first + this.count <= this.lines.length) this.#move(this.first + SHOWN / 2);
+      if (this.first !== was) this.box.scrollTop = this.#topOf(line) + below;
     }
     this.draw();
   }
 
   /** The numbers of the lines in sight, and the mark. */
   draw() {
-    const { scrollTop, clientHeight } = this.box, above = Math.floor(scrollTop / LINE), first = this.first + above;
-    const count = Math.max(0, Math.min(Math.ceil(clientHeight / LINE) + 1, this.lines.length - first + 1));
-    this.numbers.style.transform = `translateY(${-(scrollTop % LINE)}px)`;
-    draw(this.numbers, markup`${Array.from({ length: count }, (_, each) => markup`<span class="${first + each === this.fault ? "refused" : ""}">${first + each}</span>`)}`);
-    this.nowLine.style.transform = `translateY(${(this.now - this.first) * LINE - scrollTop}px)`;
+    const { scrollTop, clientHeight } = this.box, first = this.#lineAt(scrollTop), last = this.#lineAt(scrollTop + clientHeight);
+    const numbers = Array.from({ length: last - first + 1 }, (_, each) => this.#numberHtml(first + each));
+    this.numbers.style.transform = `translateY(${this.#topOf(first) - scrollTop}px)`;
+    draw(this.numbers, markup`${numbers}`);
+    this.nowLine.style.height = `${this.#heightOf(this.now)}px`;
+    this.nowLine.style.transform = `translateY(${this.#topOf(this.now) - scrollTop}px)`;
+  }
+
+  #heightOf(number) {
+    return this.#topOf(number + 1) - this.#topOf(number);
+  }
+
+  #numberHtml(number) {
+    return markup`<span class="${number === this.fault ? "refused" : ""}" data-place="height:${this.#heightOf(number)}px">${number}</span>`;
   }
 }

@@ -11,6 +11,12 @@ const LACKING = {
   record: "There is no memory left to record this script.",
 };
 
+// How files of network packets begin, as hexadecimal digits: pcap with microseconds or nanoseconds, in either order of bytes.
+const PACKETS = { a1b2c3d4: "pcap", d4c3b2a1: "pcap", a1b23c4d: "pcap", "4d3cb2a1": "pcap", "0a0d0d0a": "pcapng" };
+
+/** What kind of file of network packets these bytes begin, if they begin one. */
+const packetsIn = bytes => PACKETS[Array.from(bytes.subarray(0, 4), it => it.toString(16).padStart(2, "0")).join("")];
+
 /** Says why something cannot be shown. */
 function complain(words) {
   $("fault").hidden = false;
@@ -243,8 +249,15 @@ class Page {
     this.ladder.show(run, at);
     $("slider").value = at;
     $("now").textContent = at ? run.lines(at) : this.isOpen ? "No event has happened: the hosts are new." : "There are no hosts yet.";
+    this.#showRemark(this.script.remarkAt(run.lineOf(at)));
     this.#showButtons();
     this.editor.mark(this.script.numberOf(run.lineOf(at)));
+  }
+
+  /** What the script says of an event, if it says anything. */
+  #showRemark(words) {
+    $("remark").hidden = !words;
+    $("remark").textContent = words;
   }
 
   #showButtons() {
@@ -284,9 +297,9 @@ class Page {
     }
     const { panels } = this, [one, other] = this.shownPair, { hosts } = this.run;
     const title = host => this.run.isMany ? `Host ${hosts[host].number}` : `Host ${hosts[host].name} (${hosts[host].number})`;
-    draw($("hosts"), markup`${hostHtml(`${title(one)}, of ${hosts[other].name}`, panels.of(one, other))}${hostHtml(`${title(other)}, of ${hosts[one].name}`, panels.of(other, one))}`);
+    draw($("hosts"), markup`${hostHtml(`${title(one)}, toward ${hosts[other].name}`, panels.of(one, other))}${hostHtml(`${title(other)}, toward ${hosts[one].name}`, panels.of(other, one))}`);
     const ledgers = [[one, other], [other, one]].flatMap(([host, peer]) => panels.ledgers(host, peer).map(it => ledgerHtml(title(host), it)));
-    const none = this.run.isMany ? "Ledgers are read of scripts of two hosts." : "No connection is open at both ends.";
+    const none = this.run.isMany ? "Ledgers are shown for scripts of two hosts." : "No connection is open at both ends.";
     draw($("ledgers"), ledgers.length ? markup`${legendHtml()}${ledgers}` : markup`<p class="dim">${none}</p>`);
     this.#showTransit();
   }
@@ -319,7 +332,7 @@ class Page {
       : name === "BadHosts" ? this.module.explain("wrong_first_line", this.script.line(0)) : this.module.explain("meaning", name);
     $("fault").hidden = !name;
     draw($("fault"), name ? markup`<b>${error.split("\n")[0]}</b><br>${words}` : markup``);
-    $("status").textContent = name ? "" : this.hasRefused ? "played; a call was refused" : "played; no call was refused";
+    $("status").textContent = name ? "" : this.hasRefused ? "Script ran; a call was refused." : "Script ran; no call was refused.";
   }
 
   #textOf(number) {
@@ -347,13 +360,20 @@ class Page {
     document.querySelector(`#choice [value="exercise ${name}"]`).textContent = `✓ ${number}. ${title}`;
   }
 
-  // ---- captures
+  // ---- files
 
+  /** Shows a capture, or plays a script. A file that is neither is not read: it may be longer than memory. */
   async take(file) {
-    const bytes = await file.arrayBuffer().then(it => new Uint8Array(it), error => complain(`The file cannot be read: ${error.message}`));
+    const read = part => part.arrayBuffer().then(it => new Uint8Array(it), error => complain(`The file cannot be read: ${error.message}`));
+    const prefix = await read(file.slice(0, 4));
+    if (!prefix) return;
+    const packets = packetsIn(prefix);
+    if (packets) return complain(`${file.name} is a ${packets} file, a capture of network packets: Wireshark opens it. This page opens scripts and message files (.ncp).`);
+    const isCapture = asText(prefix.subarray(0, 3)) === "NCP";
+    if (!isCapture && file.size > LONGEST_SCRIPT) return complain(`The file is too long for a script: this page takes ${LONGEST_SCRIPT / 1e6} MB at most.`);
+    const bytes = await read(file);
     if (!bytes) return;
-    if (asText(bytes.subarray(0, 3)) === "NCP") this.capture.show(bytes, file.name);
-    else if (bytes.length > LONGEST_SCRIPT) complain(`The file is too long for a script: this page takes ${LONGEST_SCRIPT / 1e6} MB at most.`);
+    if (isCapture) this.capture.show(bytes, file.name);
     else this.choose(null, asText(bytes));
   }
 

@@ -68,7 +68,7 @@ const counted = (count, word) => `${count} ${word}${Number(count) === 1 ? "" : "
 
 function connectionHtml(it) {
   const flags = Object.entries(FLAG_WORDS).filter(([name]) => it[name] === "1").map(([, word]) => word).join(", ");
-  const books = `allowed ${counted(it.messages, "message")}, ${counted(it.bits, "bit")}; ${it.end === "send" ? "waits" : "held"} ${counted(it.stored, "bit")}`;
+  const books = `allowed ${counted(it.messages, "message")}, ${counted(it.bits, "bit")}; ${it.end === "send" ? "queued" : "held"} ${counted(it.stored, "bit")}`;
   return markup`<li><b>${it.end} ${it.local} → ${it.remote}</b> link ${it.link}, size ${it.size}<br><span class="dim">${flags}</span><br>${books}${it.interrupts !== "0" ? `; interrupts ${it.interrupts}` : ""}</li>`;
 }
 
@@ -83,7 +83,7 @@ function hostHtml(name, held) {
   const counted = held.counts?.split(" ").filter(it => !it.endsWith("=0")).join(" ");
   return markup`<section class="host-state" aria-label="${name}"><h3>${name}: <span class="phase">${held.phase ?? ""}</span></h3>
     <h4>Connections</h4>${listHtml(held.connections.map(connectionHtml), "none")}
-    <h4>Commands that wait</h4>${listHtml(held.waiting.map(it => markup`<li>${it}</li>`), "none")}
+    <h4>Queued commands</h4>${listHtml(held.waiting.map(it => markup`<li>${it}</li>`), "none")}
     <h4>Slots</h4>${listHtml(held.slots.map(slotHtml), "empty")}
     ${held.echoed !== "none" && held.echoed !== null ? markup`<p>echo answered: ${held.echoed}</p>` : ""}
     ${counted ? markup`<p class="refused">counted: ${counted}</p>` : ""}</section>`;

@@ -9,12 +9,14 @@ class Script {
     this.begins = [];
     this.ends = [];
     this.numbers = [];
+    this.remarks = [];
     this.count = 1;
     this.#find();
   }
 
   #find() {
     const LF = 10, CR = 13, HASH = 35, { bytes } = this;
+    let remark = null, isRemark = false;
     for (let begin = 0; begin <= bytes.length; this.count++) {
       let end = bytes.indexOf(LF, begin);
       if (end < 0) end = bytes.length;
@@ -23,7 +25,10 @@ class Script {
         this.begins.push(begin);
         this.ends.push(last);
         this.numbers.push(this.count);
+        this.remarks.push(remark);
       }
+      if (bytes[begin] === HASH) remark = isRemark ? { begin: remark.begin, end: last } : { begin, end: last };
+      isRemark = bytes[begin] === HASH;
       begin = end + 1;
     }
     this.count--;
@@ -42,6 +47,12 @@ class Script {
   /** The words of a line. */
   line(line) {
     return asText(this.bytes.subarray(...this.place(line)));
+  }
+
+  /** The remark that stands in front of a line, or of the lines before it: all its lines as one. */
+  remarkAt(line) {
+    const { begin, end } = this.remarks[line] ?? { begin: 0, end: 0 };
+    return asText(this.bytes.subarray(begin, end)).replace(/^# ?/gm, "").replace(/\s+/g, " ").trim();
   }
 
   /** Whether a line asks for all that can happen without a call: it has events, and then a line of its own. */

@@ -3,15 +3,16 @@
 --
 -- A datagram, numbers most significant byte first:
 --     magic      4 bytes   "H316"
---     sequence   4 bytes   one more with each datagram of its sender
+--     sequence   4 bytes   one more with each datagram of its sender, from 0 or 1 on
 --     count      2 bytes   the number of words that follow
 --     flags      2 bytes   1: the last words of a message; 2: the sender is ready
 --     words      2 bytes each
--- A message is the words of the datagrams up to one whose flag 1 is set. So its bits are a multiple of 16.
+-- A message is the words of the datagrams up to one whose flag 1 is set. So its bits are a multiple of 16. A datagram that
+-- the snap length cut, or whose count is not that of its words, is as one that is lost.
 --
 -- A datagram does not say who is the host. The preference "Ports of hosts" does: 20011=1 20021=2, or with an address in
--- front 10.0.0.1:20011=1, names the ports of the hosts' side. Without it the first answer of an IMP tells which side that
--- is, and the host's number stays unknown.
+-- front 10.0.0.1:20011=1, names the ports of the hosts' side; then messages between other ports, such as those of lines
+-- between IMPs, are not shown. Without it the first answer of an IMP tells which side that is, and the host's number stays unknown.
 
 local datagrams = {}
 
@@ -19,7 +20,13 @@ local HEAD, MAGIC = 12, "H316"
 local FINAL, READY = 1, 2
 local MOST_BYTES = 1024                                   -- 8,192 bits, the most of a message that is read
 local MOST_HOST = 255
-local SLACK = 15                                          -- bits after the text, up to a whole word
+local SLACK = 52                                          -- bits after the text: up to a word of 36, and the IMP's own up to one of 16
+local FIRST = 1                                           -- a sender begins with 0 or 1
+local RECENT = 16                                         -- so many of the last datagrams of a sender are known again
+local FIRST_LINK, LAST_LINK = 2, 71
+local LEADER, PREFIX = 4, 9                               -- bytes of a leader, and of a leader with the prefix
+local REGULAR, NOP, RFNM, DEAD, INCOMPLETE, RESET = 0, 4, 5, 7, 9, 10
+local BY_AN_IMP = { [RFNM] = true, [DEAD] = true, [INCOMPLETE] = true, [RESET] = true }
 local H, I, h, i = 0x48, 0x49, 0x68, 0x69                 -- directions of a packet
 
 local proto, f, e = nil, {}, {}
@@ -40,9 +47,12 @@ local function declare()
   f.message_in = ProtoField.framenum("h316.message_in", "Message ends in", base.NONE)
   f.part = ProtoField.framenum("h316.part", "Part of the message", base.NONE)
   proto.fields = f
-  e.gap = ProtoExpert.new("h316.gap", "Datagrams are missing before this one: nothing is joined up to the end of its message", expert.group.SEQUENCE, expert.severity.WARN)
+  e.gap = ProtoExpert.new("h316.gap", "Datagrams are missing before this one: joined is only what is whole without them", expert.group.SEQUENCE, expert.severity.WARN)
   e.again = ProtoExpert.new("h316.again", "An earlier sequence number: not joined to a message", expert.group.SEQUENCE, expert.severity.WARN)
-  e.count = ProtoExpert.new("h316.wrong_count", "The count is not that of the words that follow", expert.group.MALFORMED, expert.severity.WARN)
+  e.count = ProtoExpert.new("h316.wrong_count", "The count is not that of the words that follow: not joined to a message", expert.group.MALFORMED, expert.severity.WARN)
+  e.cut = ProtoExpert.new("h316.cut", "The snap length cut this datagram: not joined to a message", expert.group.MALFORMED, expert.severity.WARN)
+  e.swapped = ProtoExpert.new("h316.swapped", "Only an IMP sends this: is the host at the other port? The preference `Ports of hosts` says where hosts are",
+    expert.group.UNDECODED, expert.severity.WARN)
   e.long = ProtoExpert.new("h316.too_long", "A message of more than 8,192 bits", expert.group.MALFORMED, expert.severity.WARN)
   e.side = ProtoExpert.new("h316.side", "Which side is the host is not known: taken to go to the IMP. The preference `Ports of hosts` says it",
     expert.group.UNDECODED, expert.severity.NOTE)
@@ -68,14 +78,14 @@ local function place(address, port) return string.format("%s:%d", tostring(addre
 
 local function host_at(address, port) return hosts[place(address, port)] or hosts[string.format("%d", port)] end
 
--- Direction and host of a message whose first byte is this.
-local function side(pinfo, first)
+-- Direction and host of a message of this type; nothing if hosts are named, but none at its ports.
+local function side(pinfo, kind)
   local from, to = host_at(pinfo.src, pinfo.src_port), host_at(pinfo.dst, pinfo.dst_port)
   if from then return H, from, true end
   if to then return I, to, true end
+  if next(hosts) then return end
   local source, sink = place(pinfo.src, pinfo.src_port), place(pinfo.dst, pinfo.dst_port)
-  local kind = first and first % 16
-  if not imps[source] and not imps[sink] and (kind == 5 or kind == 7 or kind == 9) then imps[source] = true end
+  if not imps[source] and not imps[sink] and BY_AN_IMP[kind] then imps[source] = true end
   if imps[source] then return i, 0, true end
   return h, 0, imps[sink] or false
 end
@@ -95,35 +105,78 @@ local function add_part(flow, words, outcome)
   flow.parts[#flow.parts + 1], flow.outcomes[#flow.outcomes + 1] = words, outcome
 end
 
--- The words of a whole message.
+-- Whether words look like a message from its leader to its end, of or to one of these hosts: after a loss nothing else tells, and
+-- the end of a text may look much like it.
+local function is_whole(words, known)
+  local kind, host, link, low, m1, size, high_count, low_count, m2 = words:byte(1, PREFIX)
+  if #words == LEADER and kind ~= REGULAR then
+    if kind == NOP or kind == RESET then return host == 0 and link == 0 and low == 0 end
+    return BY_AN_IMP[kind] and known[host] and low == 0
+  end
+  if #words < PREFIX or kind ~= REGULAR or not known[host] or low ~= 0 or m1 ~= 0 or m2 ~= 0 then return false end
+  local rest = #words * 8 - PREFIX * 8 - size * (high_count * 256 + low_count)
+  if rest < 0 or rest > SLACK then return false end
+  if link == 0 then return size == 8 end
+  return link >= FIRST_LINK and link <= LAST_LINK and size > 0
+end
+
+-- The words of a message, if none is missing.
 local function join(pinfo, flow, outcome)
+  if flow.bytes == 0 then return end
+  local bytes = table.concat(flow.parts)
+  local is_long = flow.bytes > MOST_BYTES
+  if flow.torn and (is_long or not is_whole(bytes, flow.known)) then return end
+  if #bytes > 1 then flow.known[bytes:byte(2)] = true end
   for _, part in ipairs(flow.outcomes) do
     if part.frame ~= pinfo.number then part.message_in = pinfo.number end
   end
-  if flow.bytes > MOST_BYTES then outcome.long = true
-  elseif flow.bytes > 0 then
-    local bytes = table.concat(flow.parts)
-    local direction, host, known = side(pinfo, bytes:byte(1))
-    outcome.parts, outcome.unknown = flow.outcomes, not known
-    outcome.packet = string.char(direction, host, math.floor(#bytes * 8 / 256), #bytes * 8 % 256) .. bytes
+  outcome.long = is_long
+  if is_long then return end
+  local kind = bytes:byte(1) % 16
+  local direction, host, known = side(pinfo, kind)
+  if not direction then return end
+  outcome.parts, outcome.unknown, outcome.swapped = flow.outcomes, not known, direction == H and BY_AN_IMP[kind]
+  outcome.packet = string.char(direction, host, math.floor(#bytes * 8 / 256), #bytes * 8 % 256) .. bytes
+end
+
+-- A run of sequence numbers, of which this is the first that is seen: if it is not 0, a message may have begun before.
+local function run(flow, sequence)
+  begin(flow)
+  flow.next, flow.torn = sequence, sequence > 0
+  flow.recent, flow.taken = {}, 0
+  if sequence <= FIRST then flow.first = sequence end
+end
+
+local function is_recent(flow, seen)
+  for _, other in pairs(flow.recent) do
+    if other == seen then return true end
   end
+  return false
+end
+
+-- Whether a sender begins again: with the number that it began with, or, if that was lost, with two lower ones in order; a
+-- datagram that comes twice is no beginning.
+local function begins_again(flow, sequence, seen)
+  if sequence == flow.next then return false end
+  if sequence <= flow.first then return seen ~= flow.recent[flow.taken % RECENT] end
+  return sequence == flow.stray and not is_recent(flow, seen)
 end
 
 -- What becomes of a datagram, found once, in the order of the capture.
 local function take(pinfo, sequence, flags, words)
-  local key, outcome = flow_of(pinfo), { frame = pinfo.number }
+  local key, outcome, seen = flow_of(pinfo), { frame = pinfo.number }, sequence .. " " .. words
   local flow = flows[key]
   if not flow then
-    flow = { next = sequence }
-    begin(flow)
+    flow = { first = FIRST, known = {} }                  -- hosts that are named, and those of leaders
+    for _, host in pairs(hosts) do flow.known[host] = true end
+    run(flow, sequence)
     flows[key] = flow
-  end
-  if sequence == 0 and flow.next > 1 then                -- the sender begins with a new count
-    begin(flow)
-    flow.next = 0
+  elseif begins_again(flow, sequence, seen) then
+    run(flow, sequence)
   end
   if sequence < flow.next and flow.next - sequence < 2 ^ 31 then
     outcome.again = true
+    flow.stray = sequence + 1
     return outcome
   end
   if sequence ~= flow.next then
@@ -131,10 +184,11 @@ local function take(pinfo, sequence, flags, words)
     begin(flow)
     flow.torn = true                                      -- where a message began is not known up to its end
   end
-  flow.next = (sequence + 1) % 2 ^ 32
+  flow.next, flow.stray, flow.taken = (sequence + 1) % 2 ^ 32, nil, flow.taken + 1
+  flow.recent[flow.taken % RECENT] = seen
   add_part(flow, words, outcome)
   if flags % 2 == FINAL then
-    if not flow.torn then join(pinfo, flow, outcome) end
+    join(pinfo, flow, outcome)
     begin(flow)
   end
   return outcome
@@ -146,10 +200,11 @@ local function dissect(tvb, pinfo, root)
   pinfo.cols.protocol = "H316"
   local sequence, count, flags = tvb(4, 4):uint(), tvb(8, 2):uint(), tvb(10, 2):uint()
   local bytes = math.min(count * 2, len - HEAD)
+  local is_cut = len < tvb:reported_len()
   local key = key_of(tvb, pinfo)
   local outcome = done[key]
   if not outcome then
-    outcome = take(pinfo, sequence, flags, tvb:raw(HEAD, bytes))
+    outcome = (is_cut or count * 2 ~= len - HEAD) and { frame = pinfo.number } or take(pinfo, sequence, flags, tvb:raw(HEAD, bytes))
     done[key] = outcome
   end
   local tree = root:add(proto, tvb())
@@ -159,7 +214,8 @@ local function dissect(tvb, pinfo, root)
   if outcome.gap then item:add_proto_expert_info(e.gap) end
   if outcome.again then item:add_proto_expert_info(e.again) end
   item = tree:add(f.count, tvb(8, 2))
-  if count * 2 ~= len - HEAD then item:add_proto_expert_info(e.count) end
+  if is_cut then item:add_proto_expert_info(e.cut)
+  elseif count * 2 ~= len - HEAD then item:add_proto_expert_info(e.count) end
   local s = tree:add(f.flags, tvb(10, 2))
   s:add(f.final, tvb(10, 2))
   s:add(f.ready, tvb(10, 2))
@@ -173,6 +229,7 @@ local function dissect(tvb, pinfo, root)
       if part.frame ~= pinfo.number then tree:add(f.part, part.frame):set_generated() end
     end
     if outcome.unknown then tree:add_proto_expert_info(e.side) end
+    if outcome.swapped then tree:add_proto_expert_info(e.swapped) end
     local packet = ByteArray.new(outcome.packet, true):tvb("ARPANET message")
     datagrams.show(key, packet, pinfo, root)
   end

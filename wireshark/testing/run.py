@@ -1,6 +1,9 @@
 #!/usr/bin/env python3
 """The tests of the dissector. `wireshark/test` calls it, with the program's path; `--long` tries more of each."""
 import argparse
+import glob
+import importlib.machinery
+import importlib.util
 import os
 import re
 import subprocess
@@ -9,10 +12,11 @@ import time
 
 import captures
 import records
-from shark import FROM_IMP, TO_IMP, TOP, Shark, by_record, info_of, lines_of
+from shark import AUDITS, FROM_IMP, TO_IMP, TOP, Shark, by_record, info_of, lines_of
 
 sys.path.insert(0, TOP)
 EXAMPLES = os.path.join(os.path.dirname(TOP), "examples")
+CASES = os.path.join(os.path.dirname(TOP), "crates", "ncp_test_cases", "data")
 FAULTS = ("BadHeader", "Truncated", "TooLong", "SpareNotZero", "BadDirection")
 LUAS = ("lua5.1", "lua5.2", "lua5.3", "lua5.4", "lua", "luajit")
 
@@ -22,6 +26,17 @@ NCP = None  # the program
 shark = None
 failures = []
 began = time.time()
+
+
+def reader_of_cases():
+    """examples/cases, which reads files of cases."""
+    loader = importlib.machinery.SourceFileLoader("cases", os.path.join(EXAMPLES, "cases"))
+    module = importlib.util.module_from_spec(importlib.util.spec_from_loader("cases", loader))
+    loader.exec_module(module)
+    return module
+
+
+case_files = reader_of_cases()
 
 
 def tell(what, wrong):
@@ -212,40 +227,73 @@ def test_round_trips(recorded):
     tell("%d files written by tshark, %d of them by way of pcapng too: the same bytes" % (len(files), by_pcapng), wrong)
 
 
+def case_captures():
+    """The captures that the gate's cases audit and follow: the words, the capture, and the lines. A faulty file is none, and
+    texts as bytes or as letters are the program's alone."""
+    for path in sorted(glob.glob(os.path.join(CASES, "audit_*.cases")) + glob.glob(os.path.join(CASES, "follow_*.cases"))):
+        for case in case_files.cases_in(path):
+            if not case.errors and not {"--bytes", "--letters"} & set(case.words):
+                yield " ".join(case.words), bytes(case.input), case.output.decode().splitlines()
+
+
+def example_captures():
+    """The examples that break rules, with their findings."""
+    for path in sorted(glob.glob(os.path.join(EXAMPLES, "*.audit"))):
+        yield "audit", read(path[: -len("audit")] + "ncp"), read(path).decode().splitlines()
+
+
+def audited_by_sharkd(captured):
+    """The captures that are audited, with the findings in Wireshark's list of experts: of one message in any order."""
+    for words, settings in AUDITS.items():
+        chosen = [(data, wanted) for asked, data, wanted in captured if asked == words]
+        paths = [shark.path("rules%d.ncp" % i, data) for i, (data, _) in enumerate(chosen)]
+        for (_, wanted), got in zip(chosen, shark.findings(paths, *settings)):
+            yield words, sorted(wanted), sorted(got)
+
+
+def audited_by_tshark(captured):
+    """The same by a field of the messages."""
+    for words, data, wanted in captured:
+        stdout = shark.run("-r", shark.path("rules.ncp", data), "-T", "fields", "-E", "aggregator=;", "-e", "frame.number", "-e", "ahhp.finding")[0]
+        frames = [line.split("\t") for line in stdout.splitlines()]
+        yield words, sorted(wanted), sorted("%s %s" % (number, it) for number, found in frames for it in found.split(";") if it)
+
+
+def followed_by_tshark(captured):
+    """The captures that are followed, with the lines of the connections."""
+    for words, data, wanted in captured:
+        if words.startswith("follow"):
+            part = "TRUE" if "--part" in words else "FALSE"
+            path = shark.path("follow.ncp", data)
+            listed = shark.run("-r", path, "-o", "ahhp.list:TRUE", "-o", "ahhp.part:" + part, "-Y", "frame.number == 0")[0]
+            yield words, wanted, [line for line in listed.splitlines() if re.match(r"(\d+|-) at=|  text bits=", line)]
+
+
+def found_by_lua(lua, words, data):
+    """The same by the plugin alone."""
+    kinds = ("C ",) if "follow" in words else ("S ",) if "--standard" in words else ("S ", "P ")
+    path = shark.path("alone.ncp", data)
+    alone = [lua, os.path.join(TOP, "testing", "alone.lua"), os.path.join(TOP, "plugin"), "part" if "--part" in words else "whole", path]
+    done = subprocess.run(alone, capture_output=True, text=True)
+    return [line[2:] for line in done.stdout.splitlines() if line[:2] in kinds] + done.stderr.splitlines()
+
+
 def test_rules():
-    """Captures that break each rule, with the findings that are wanted; and the examples with those of `ncp audit`."""
-    cases, seen = [], set()
-    for part in read(os.path.join(TOP, "testing", "rules.txt")).decode().split("\n\n"):
-        lines = [line for line in part.splitlines() if line and not line.startswith("#")]
-        if lines:
-            cases.append((bytes.fromhex(lines[0]), lines[1:]))
-    for name in sorted(os.listdir(EXAMPLES)):
-        if name.endswith(".audit"):
-            path = os.path.join(EXAMPLES, name)
-            cases.append((read(path[: -len("audit")] + "ncp"), read(path).decode().splitlines()))
-    wrong = []
-    for data, wanted in cases:
-        frames, _ = shark.frames(shark.path("rules.ncp", data))
-        got = []
-        for frame in frames:
-            # The findings of one message stand in its tree in the order of the commands.
-            got += ["%s %s" % (frame["frame.number"], line) for line in frame["ahhp.finding"].split(",at=") if line]
-        got = [re.sub(r"^(\d+) (?!at=)", r"\1 at=", line) for line in got]
-        if sorted(got) != sorted(wanted):
-            wrong.append((wanted, got))
-        seen.update(line.split()[3] for line in wanted)
+    """Captures that break each rule, with the findings that are wanted; connections; and the examples with those of `ncp audit`."""
+    examples = list(example_captures())
+    captured = [*case_captures(), *examples]
+    compared = [*audited_by_sharkd(captured), *audited_by_tshark(examples), *followed_by_tshark(captured)]
+    wrong = [it for it in compared if it[1] != it[2]]
+    seen = {line.split()[3] for words, _, wanted in captured if "audit" in words for line in wanted}
     with open(os.path.join(TOP, "plugin", "arpanet_rules.lua")) as file:
         names = re.findall(r'^  \{ "([a-z-]+)", "[SP]"', file.read(), re.M)
     wrong += ["no capture breaks " + name for name in names if name not in seen]
-    tell("%d captures that break the %d rules: their findings" % (len(cases), len(names)), wrong)
+    tell("%d captures that break the %d rules, or are followed: their findings and connections" % (len(captured), len(names)), wrong)
     for lua in LUAS:
         if subprocess.run(["sh", "-c", "command -v " + lua], capture_output=True).returncode:
             continue
-        wrong = []
-        for data, wanted in cases:
-            got = alone(lua, data)
-            if got != wanted:
-                wrong.append((wanted, got))
+        got = [(words, wanted, found_by_lua(lua, words, data)) for words, data, wanted in captured]
+        wrong = [it for it in got if it[1] != it[2]]
         for name in sorted(set(os.listdir(os.path.join(TOP, "plugin"))) - {"arpanet.lua"}):
             done = subprocess.run([lua, os.path.join(TOP, "plugin", name)], cwd=shark.home, capture_output=True, text=True)
             wrong += [done.stderr] if done.returncode else []
@@ -273,12 +321,6 @@ def test_ends():
         if len(stdout.splitlines()) != 1 or not stdout.startswith("%d\t" % number) or words not in stdout:
             wrong.append((number, words, stdout))
     tell("the messages from which on two hosts, a link and all are judged no longer", wrong)
-
-
-def alone(lua, data):
-    path = shark.path("alone.ncp", data)
-    done = subprocess.run([lua, os.path.join(TOP, "testing", "alone.lua"), os.path.join(TOP, "plugin"), "whole", path], capture_output=True, text=True)
-    return [line[2:] for line in done.stdout.splitlines() if line[:2] in ("S ", "P ")] + done.stderr.splitlines()
 
 
 def recordings(scripts):
@@ -509,7 +551,7 @@ def test_frames():
     path = shark.path("frames.pcapng", datagrams.pcapng([in_one_frame(made[:2]), in_one_frame(made[2:])], 0, LINK_TYPE_PPP))
     asked = ("-T", "fields", "-E", "separator=|", "-e", "ncp1822.name", "-e", "ncp1822.at")
     wrong = []
-    for hosts, wanted in (("20002=1 20004=2", ["regular,regular|1,2", "rfnm|1"]), ("20002=300 20004=2", ["regular,regular|2", "rfnm|"])):
+    for hosts, wanted in (("20002=1 20004=2", ["regular,regular|1,2", "rfnm|1"]), ("20002=300 20004=2", ["regular|2", "|"])):
         for passes in ((), ("-2",)):
             stdout, complaints, _ = shark.run("-r", path, *passes, "-o", "h316.hosts:" + hosts, *asked)
             if stdout.splitlines() != wanted or complaints:

@@ -35,6 +35,9 @@ FIELDS += ["ahhp.text.late", "h316.sequence", "h316.message_in"]
 for command, words in COMMANDS:
     FIELDS += ["ahhp.%s.%s" % (command.lower(), word) for _, word in words]
 
+# The settings of Wireshark for an audit: the rules of this project too, and of a capture that begins in the middle.
+AUDITS = {"audit": ("TRUE", "FALSE"), "audit --standard": ("FALSE", "FALSE"), "audit --part": ("TRUE", "TRUE")}
+
 
 class Shark:
     """A home with the plugin and the profiles, where tshark and sharkd look for them."""
@@ -84,6 +87,20 @@ class Shark:
             elif line.startswith(" ncp: "):
                 faults[at] = line[1:]
         return [(frames.get(i, []), faults.get(i)) for i in range(len(paths))]
+
+    def findings(self, paths, profile, part):
+        """The findings in Wireshark's list of experts of each file, by one run of sharkd."""
+        asked = [("setconf", {"name": "ahhp.profile", "value": profile}), ("setconf", {"name": "ahhp.part", "value": part})]
+        for path in paths:
+            asked += [("load", {"file": path}), ("tap", {"tap0": "expert"})]
+        lines = [json.dumps({"jsonrpc": "2.0", "id": i + 1, "method": method, "params": params}) for i, (method, params) in enumerate(asked)]
+        done = subprocess.run(["sharkd", "-"], input="\n".join(lines) + "\n", env=self.environment, capture_output=True, text=True, check=False)
+        found = []
+        for line in done.stdout.splitlines():
+            result = json.loads(line).get("result", {}) if line.startswith("{") else {}
+            if "taps" in result:
+                found.append([f"{one['f']} {one['m']}" for one in result["taps"][0]["details"] if one["m"].startswith("at=")])
+        return found + [["(no answer of sharkd)"]] * (len(paths) - len(found))
 
 
 def lines_of(frame):

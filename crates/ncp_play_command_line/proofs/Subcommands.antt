@@ -26,6 +26,12 @@ is_with result program app shape is told =
     IfOk-weaker result (λ command. app_of command ≡ with_subcommand (app_of program) shape) (λ command. app_of command ≡ with_subcommand app shape) (λ command e. e ∙ ap (λ a. with_subcommand a shape) is) told
 
 -- a command with one more argument, which is not global
+pub with_argument : (result : Result Command AllocError) (command : Command) (arg : Arg) (app : App) (rule : Rule) → arg.global ≡ false → rule_of arg ≡ rule → app_of command ≡ app → IfOk result (AddsArg command arg)
+    → IfOk result (λ new. app_of new ≡ with_rule app rule)
+with_argument result command arg app rule local is known told =
+    IfOk-weaker result (AddsArg command arg) (λ new. app_of new ≡ with_rule app rule) (λ new adds. adds.shape local ∙ ap (with_rule (app_of command)) is ∙ ap (λ a. with_rule a rule) known) told
+
+-- and its shape
 pub has_argument : (result : Result Command AllocError) (command : Command) (arg : Arg) (app : App) (rule : Rule) → arg.global ≡ false → rule_of arg ≡ rule → app_of command ≡ app → IfOk result (AddsArg command arg)
     → IfOk result (λ new. shape_of new ≡ (with_rule app rule).top)
 has_argument result command arg app rule local is known told =

@@ -53,9 +53,16 @@ bytes_asked = record (new_rule (codes "bytes")) {
   parser = Some (Signed (pos 1) (pos 4096));
 }
 
--- `follow`, with `--part`, `--bytes`, and a file
+-- `follow`, with what may be asked of its lines, and of the bytes of a text
+abbrev pub following_lines : App
+following_lines = with_rule (with_rule (new_app (codes "follow")) (flag_asked (codes "part"))) (flag_asked (codes "letters"))
+
+abbrev pub following_bytes : App
+following_bytes = with_rule (with_rule following_lines bytes_asked) (flag_asked (codes "raw"))
+
+-- `follow`, with `--part`, `--letters`, `--bytes`, `--raw`, and a file
 abbrev pub following : Shape
-following = (with_rule (with_rule (with_rule (new_app (codes "follow")) (flag_asked (codes "part"))) bytes_asked) file_named).top
+following = (with_rule following_bytes file_named).top
 
 -- `explain`, with a name
 abbrev pub explaining : Shape
@@ -110,7 +117,7 @@ order_named name given =
     if bytes_eq name (codes "check") then Check
     else if bytes_eq name (codes "convert") then Convert (number_given given)
     else if bytes_eq name (codes "audit") then Audit (flag_in (codes "part") given) (flag_in (codes "standard") given)
-    else if bytes_eq name (codes "follow") then Follow (flag_in (codes "part") given) (bytes_in given)
+    else if bytes_eq name (codes "follow") then Follow (flag_in (codes "part") given) (flag_in (codes "letters") given) (bytes_in given) (flag_in (codes "raw") given)
     else if bytes_eq name (codes "host") then Host
     else if bytes_eq name (codes "world") then World
     else if bytes_eq name (codes "record") then Record

@@ -1,6 +1,6 @@
 //! The command line of the program `ncp`.
 ghost use Rattle.std.specs.Prelude.{◌≡◌, IfOk, IsOkAnd, map, option_map, false};
-ghost use Rattle.ncp_play_command_line.specs.CommandLine.{auditing, bare_program, bytes_asked, bytes_in, converting, explaining, flag_asked, following, flag_in, order_named, number_given, of_files, of_players, of_readers, of_recorders, order_in, order_of, program, reading, file_named, word_in, word_given};
+ghost use Rattle.ncp_play_command_line.specs.CommandLine.{auditing, bare_program, bytes_asked, bytes_in, converting, explaining, flag_asked, following, flag_in, order_named, number_given, of_files, of_players, of_readers, of_recorders, order_in, order_of, program, reading, file_named, following_bytes, following_lines, word_in, word_given};
 ghost use Rattle.clap.specs.Faults.{fault_of};
 ghost use Rattle.clap.specs.Kinds.{FailsBy};
 ghost use Rattle.clap.specs.Simple.{app_of, new_app, shape_of, subcommand_rows_of, with_subcommand};
@@ -48,7 +48,11 @@ const PART: &str = "part";
 
 const STANDARD: &str = "standard";
 
+const LETTERS: &str = "letters";
+
 const BYTES: &str = "bytes";
+
+const RAW: &str = "raw";
 
 /// The greatest number of `--bytes`: that of the last connection that `follow` tells of.
 pub const MOST_CONNECTIONS: u16 = 4096;
@@ -92,7 +96,9 @@ fn order_named(name: &str, given: &ArgMatches) -> Order
         },
         _ if name == FOLLOW => Order::Follow {
             part: flag_in(given, PART),
+            letters: flag_in(given, LETTERS),
             bytes: bytes_in(given),
+            raw: flag_in(given, RAW),
         },
         _ if name == HOST => Order::Host,
         _ if name == WORLD => Order::World,
@@ -216,16 +222,35 @@ fn bytes<'a>(alloc: Global) -> Arg<'a>
         .help("Write the text of connection N as bytes, and nothing else")
 }
 
-// `follow`, with what may be asked of it.
+// `follow`, with what may be asked of its lines.
+fn following_lines<'a>(alloc: Global) -> Result<Command<'a>, AllocError>
+    ensures app { IfOk result (λ command. app_of command ≡ following_lines) }
+    ensures local { IfOk result (λ command. (fields_of command).has_globals ≡ false) }
+{
+    let about = "Says what was said on each connection of a message file";
+    let letters = "Print each text of 8-bit bytes as letters too";
+    bare(alloc, FOLLOW, about, FOLLOWED)
+        .arg(flag(alloc, PART, PART_HELP))?
+        .arg(flag(alloc, LETTERS, letters))
+}
+
+// And with what may be asked of the bytes of a text.
+fn following_bytes<'a>(alloc: Global) -> Result<Command<'a>, AllocError>
+    ensures app { IfOk result (λ command. app_of command ≡ following_bytes) }
+    ensures local { IfOk result (λ command. (fields_of command).has_globals ≡ false) }
+{
+    let raw = "Write the bytes of --bytes to a terminal too, which may act on them";
+    following_lines(alloc)?
+        .arg(bytes(alloc))?
+        .arg(flag(alloc, RAW, raw))
+}
+
+// And with the file that it reads.
 fn following<'a>(alloc: Global) -> Result<Command<'a>, AllocError>
     ensures shape { IfOk result (λ command. shape_of command ≡ following) }
     ensures local { IfOk result (λ command. (fields_of command).has_globals ≡ false) }
 {
-    let about = "Says what was said on each connection of a message file";
-    bare(alloc, FOLLOW, about, FOLLOWED)
-        .arg(flag(alloc, PART, PART_HELP))?
-        .arg(bytes(alloc))?
-        .arg(file(alloc))
+    following_bytes(alloc)?.arg(file(alloc))
 }
 
 // `explain`, with the name that it wants.
@@ -234,9 +259,10 @@ fn explaining<'a>(alloc: Global) -> Result<Command<'a>, AllocError>
     ensures local { IfOk result (λ command. (fields_of command).has_globals ≡ false) }
 {
     let name = Arg::new(alloc, WORD).value_name("NAME").required(true).help(
-        "The name of a fault, of a refusal or of a rule, as the program prints it",
+        "The name of a fault, of a refusal or of a rule, or a word of a line, as the program prints it",
     );
-    let about = "Says what the name of a fault, of a refusal or of a rule means";
+    let about =
+        "Says what the name of a fault, of a refusal or of a rule means, or a word of a line";
     bare(alloc, EXPLAIN, about, EXPLAINED).arg(name)
 }
 

@@ -8,11 +8,11 @@ Example:
 
 Statuses:
   0  all is good
-  1  'check' or 'audit' says no, or a call of a script was refused, or 'explain' does not know a name
+  1  'check' or 'audit' says no, or a call of a script was refused, or 'explain' does not know a name, or 'follow' a number
   2  a fault, which is told on standard error
 
 The formats of files, scripts and lines stand in docs/FORMATS.md and in ncp(1).
-'ncp explain NAME' says what a fault, a refusal or a rule means.";
+'ncp explain NAME' says what a fault, a refusal, a rule or a word of a line means.";
 
 /// Of `show`.
 pub(crate) const SHOWN: &str =
@@ -72,8 +72,10 @@ pub(crate) const FOLLOWED: &str =
 seen, the other, the sockets, the link, the records that opened and ended it, and then its text. 'ncp explain
 WHY' says what stands behind by=. A line with - counts the texts of no connection. The file is one of version 2.
 
-Of a text the first 8192 bits are shown, of a file the first 4096 connections. '--bytes N' writes the whole text
-of connection N, eight bits a byte and zeros behind the last, and no line; where there is none it writes nothing.
+Of a text the first 8192 bits are shown, of a file the first 4096 connections. With '--letters' a line follows each
+text, with its bytes as signs of ASCII, and any other byte as \\x and two digits. '--bytes N' writes the whole text of
+connection N, eight bits a byte and zeros behind the last, and no line. A terminal may act on such bytes, so it gets
+them only with '--raw'.
 
 Examples:
   ncp record examples/one_connection.script | ncp follow
@@ -81,6 +83,7 @@ Examples:
 
 Statuses:
   0  the whole file is followed
+  1  there is no connection with the number of '--bytes'
   2  the file has a fault, or could not be read or written
 
 A message file of version 2 begins with the letters NCPJ: docs/FORMATS.md, and ncp(1).";
@@ -119,7 +122,10 @@ Statuses:
 The scripts are those of 'ncp world'; the file is one of version 2: docs/FORMATS.md, and ncp(1).";
 
 /// Of `explain`.
-pub(crate) const EXPLAINED: &str = "Example:
+pub(crate) const EXPLAINED: &str =
+    "It knows each word of a line that 'ncp' prints, also with its value, as late=3, and each type of a message, as type-15.
+
+Example:
   ncp explain BadLine
 
 Statuses:

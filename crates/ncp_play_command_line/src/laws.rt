@@ -47,13 +47,15 @@ pub fn audits_are_read_so()
 
 /// Worked command lines of `follow`: the number of `--bytes` is that of a connection, from 1 to 4096.
 pub fn follows_are_read_so()
-    ensures bare { order_in (typed (codes "ncp follow")) ≡ Follow false None }
-    ensures part { order_in (typed (codes "ncp follow first.ncp --part")) ≡ Follow true None }
-    ensures bytes { order_in (typed (codes "ncp follow --bytes 7 first.ncp")) ≡ Follow false (Some 7) }
-    ensures most { order_in (typed (codes "ncp follow --bytes=4096 --part")) ≡ Follow true (Some 4096) }
+    ensures bare { order_in (typed (codes "ncp follow")) ≡ Follow false false None false }
+    ensures part { order_in (typed (codes "ncp follow first.ncp --part")) ≡ Follow true false None false }
+    ensures bytes { order_in (typed (codes "ncp follow --bytes 7 first.ncp")) ≡ Follow false false (Some 7) false }
+    ensures most { order_in (typed (codes "ncp follow --bytes=4096 --part")) ≡ Follow true false (Some 4096) false }
     ensures sound { fault_of program (typed (codes "ncp follow --bytes=4096")) ≡ [] }
     ensures none { fault_of program (typed (codes "ncp follow --bytes=0")) ≡ kind.ValueValidation ∷ [] }
     ensures great { fault_of program (typed (codes "ncp follow --bytes=4097")) ≡ kind.ValueValidation ∷ [] }
+    ensures letters { order_in (typed (codes "ncp follow --letters first.ncp")) ≡ Follow false true None false }
+    ensures raw { order_in (typed (codes "ncp follow --raw --bytes 7")) ≡ Follow false false (Some 7) true }
     ensures file { word_in (typed (codes "ncp follow --part first.ncp")) ≡ Some (codes "first.ncp") }
 {}
 

@@ -1,4 +1,5 @@
 pub mod Apart
+mod Found
 pub mod FirstWords
 pub mod HeaderTexts
 pub mod Nearness

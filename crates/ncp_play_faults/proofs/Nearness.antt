@@ -88,9 +88,9 @@ ends_same b xs ys h in_xs in_ys =
     ∙ reverse-reverse (drop (length (fold_word xs) - b) (fold_word xs))
 
 -- two words that share a letters in front and b at the end, and so much that few are left
-pub near_from : (word known : List ℕ) (a b : ℕ) → a ≤ common_prefix_len same word known → b ≤ common_prefix_len same (reverse word) (reverse known) →
-    a + b ≤ length word → a + b ≤ length known → length word - (a + b) ≤ 2 → length known - (a + b) ≤ 2 → 2 ≤ a + b → IsNear word known
-near_from word known a b in_front at_end fits_word fits_known few few' enough_common =
+pub near_from : (most : ℕ) (word known : List ℕ) (a b : ℕ) → a ≤ common_prefix_len same word known → b ≤ common_prefix_len same (reverse word) (reverse known) →
+    a + b ≤ length word → a + b ≤ length known → length word - (a + b) ≤ most → length known - (a + b) ≤ most → 2 ≤ a + b → IsNear most word known
+near_from most word known a b in_front at_end fits_word fits_known few few' enough_common =
     let size : length (fold_word word) ≡ length word = length-map word folded in
     let size' : length (fold_word known) ≡ length known = length-map known folded in
     record {
@@ -108,7 +108,7 @@ near_from word known a b in_front at_end fits_word fits_known few few' enough_co
     }
 
 -- what near words share is counted, in front and at the end
-pub near_shares : (word known : List ℕ) (n : IsNear word known) → (length n.front ≤ common_prefix_len same word known) × (length n.end ≤ common_prefix_len same (reverse word) (reverse known))
+pub near_shares : {most : ℕ} (word known : List ℕ) (n : IsNear most word known) → (length n.front ≤ common_prefix_len same word known) × (length n.end ≤ common_prefix_len same (reverse word) (reverse known))
 near_shares word known n =
     let turned : length (reverse n.end) ≤ common_prefix_len same (reverse word) (reverse known) =
     front_counts (reverse n.end) (reverse word) (reverse known) (reverse (n.front ++ n.here)) (reverse (n.front ++ n.there))
@@ -119,31 +119,31 @@ near_shares word known n =
       omega (arith, turned, size),
     )
 
-pub near_size : (word known : List ℕ) (n : IsNear word known) → (length word ≡ length n.front + length n.here + length n.end) × (length known ≡ length n.front + length n.there + length n.end)
+pub near_size : {most : ℕ} (word known : List ℕ) (n : IsNear most word known) → (length word ≡ length n.front + length n.here + length n.end) × (length known ≡ length n.front + length n.there + length n.end)
 near_size word known n = (
   sym (length-map word folded) ∙ ap (λ l. length l) n.word_is ∙ length-append (n.front ++ n.here) n.end ∙ ap (λ m. m + length n.end) (length-append n.front n.here),
   sym (length-map known folded) ∙ ap (λ l. length l) n.known_is ∙ length-append (n.front ++ n.there) n.end ∙ ap (λ m. m + length n.end) (length-append n.front n.there),
 )
 
 -- numbers alone
-numbers : (a h t b p q one other shorter longer front end : ℕ) → one ≡ a + h + b → other ≡ a + t + b → h ≤ 2 → t ≤ 2 → 2 ≤ a + b → a ≤ p → b ≤ q →
-    shorter ≡ min one other → longer ≡ max one other → front ≡ min p shorter → end ≡ min q (shorter - front) → (longer - (front + end) ≤ 2) × (2 ≤ front + end)
-numbers a h t b p q one other shorter longer front end e1 e2 h1 h2 h3 h4 h5 e3 e4 e5 e6 = (omega arith, omega arith)
+numbers : (most a h t b p q one other shorter longer front end : ℕ) → one ≡ a + h + b → other ≡ a + t + b → h ≤ most → t ≤ most → 2 ≤ a + b → a ≤ p → b ≤ q →
+    shorter ≡ min one other → longer ≡ max one other → front ≡ min p shorter → end ≡ min q (shorter - front) → (longer - (front + end) ≤ most) × (2 ≤ front + end)
+numbers most a h t b p q one other shorter longer front end e1 e2 h1 h2 h3 h4 h5 e3 e4 e5 e6 = (omega arith, omega arith)
 
 -- ---- what the code counts: p letters in front, q at the end
 
-pub counted_is_near : (word known : List ℕ) (p q shorter longer front end : ℕ) → shorter ≡ min (length word) (length known) → longer ≡ max (length word) (length known) →
+pub counted_is_near : (most : ℕ) (word known : List ℕ) (p q shorter longer front end : ℕ) → shorter ≡ min (length word) (length known) → longer ≡ max (length word) (length known) →
     p ≡ common_prefix_len same word known → q ≡ common_prefix_len same (reverse word) (reverse known) → front ≡ min p shorter → end ≡ min q (shorter - front) →
-    longer - (front + end) ≤ 2 → 2 ≤ front + end → IsNear word known
-counted_is_near word known p q shorter longer front end a b in_front at_end f e few two =
-    near_from word known front end (rw (← in_front) (omega arith)) (rw (← at_end) (omega arith)) (omega arith) (omega arith) (omega arith) (omega arith) two
+    longer - (front + end) ≤ most → 2 ≤ front + end → IsNear most word known
+counted_is_near most word known p q shorter longer front end a b in_front at_end f e few two =
+    near_from most word known front end (rw (← in_front) (omega arith)) (rw (← at_end) (omega arith)) (omega arith) (omega arith) (omega arith) (omega arith) two
 
 -- no less is counted than what two near words have in common
-pub near_is_counted : (word known : List ℕ) (p q shorter longer front end : ℕ) → shorter ≡ min (length word) (length known) → longer ≡ max (length word) (length known) →
+pub near_is_counted : (most : ℕ) (word known : List ℕ) (p q shorter longer front end : ℕ) → shorter ≡ min (length word) (length known) → longer ≡ max (length word) (length known) →
     p ≡ common_prefix_len same word known → q ≡ common_prefix_len same (reverse word) (reverse known) → front ≡ min p shorter → end ≡ min q (shorter - front) →
-    IsNear word known → (longer - (front + end) ≤ 2) × (2 ≤ front + end)
-near_is_counted word known p q shorter longer front end a b in_front at_end f e n =
+    IsNear most word known → (longer - (front + end) ≤ most) × (2 ≤ front + end)
+near_is_counted most word known p q shorter longer front end a b in_front at_end f e n =
     let shares : (length n.front ≤ p) × (length n.end ≤ q) = (rw in_front (near_shares word known n).0, rw at_end (near_shares word known n).1) in
     let sizes = near_size word known n in
     let here = n.few_here in let there = n.few_there in let common = n.common in
-    numbers (length n.front) (length n.here) (length n.there) (length n.end) p q (length word) (length known) shorter longer front end sizes.0 sizes.1 here there common shares.0 shares.1 a b f e
+    numbers most (length n.front) (length n.here) (length n.there) (length n.end) p q (length word) (length known) shorter longer front end sizes.0 sizes.1 here there common shares.0 shares.1 a b f e

@@ -3,6 +3,8 @@ pub mod Bytes
 pub mod Headers
 pub mod Names
 pub mod Near
+pub mod Printed
+pub mod Signs
 pub mod Spelling
 pub mod Telling
 pub mod Verbs

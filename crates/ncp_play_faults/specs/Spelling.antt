@@ -9,6 +9,10 @@ use Rattle.ncp_play_faults.specs.Bytes.{hex_glyphs}
 abbrev pub is_sign : ℕ → Bool
 is_sign byte = is_ascii_graphic byte || byte == 32
 
+-- a byte as any terminal can show it: a sign as itself, and any other by its number
+abbrev pub spelled : ℕ → List ℕ
+spelled byte = if is_sign byte then byte ∷ [] else codes "\\x" ++ hex_glyphs byte
+
 -- the first byte that is no sign, with its place, where the first byte of these has this place
 abbrev pub strange_from : ℕ → List ℕ → Option (ℕ × ℕ)
 strange_from place [] = None

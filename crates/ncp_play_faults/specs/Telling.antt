@@ -3,7 +3,7 @@ use Rattle.std.specs.Prelude.{◌≡◌, ◌==◌, ◌||◌, ◌⊎◌, Bool, �
 use Rattle.std.specs.List.{before_first, slice_split, starts_with}
 use Rattle.ncp_play_faults.specs.declared.usage.Player.{Player}
 use Rattle.ncp_play_faults.specs.declared.usage.Player.TheVariants.{Host, World}
-use Rattle.ncp_play_faults.specs.Near.{NoneIsNear, IsFirstNear}
+use Rattle.ncp_play_faults.specs.Near.{NoneIsNear, IsNearest}
 use Rattle.ncp_play_faults.specs.Verbs.{all_verb_words}
 
 -- the words of a line, and the first of them
@@ -27,10 +27,10 @@ has_mark first = starts_with nat_eq first (0xEF ∷ 0xBB ∷ 0xBF ∷ [])
 abbrev pub mark_told : List ℕ
 mark_told = codes "a byte order mark (ef bb bf) stands in front of the first line"
 
--- one text if a word of these is near, with the first that is, and another if none is
+-- one text if a word of these is near, with the nearest, and another if none is
 abbrev pub TellsNear : List ℕ → List (List ℕ) → (List ℕ → List ℕ) → List ℕ → List ℕ → Type 0
 TellsNear word known near_told far_told told =
-    ((near : List ℕ) × IsFirstNear word known near × (told ≡ near_told near)) ⊎ (NoneIsNear word known × (told ≡ far_told))
+    ((near : List ℕ) × IsNearest word known near × (told ≡ near_told near)) ⊎ (NoneIsNear 2 word known × (told ≡ far_told))
 
 -- a word that is no verb
 abbrev pub no_verb : List ℕ → List ℕ

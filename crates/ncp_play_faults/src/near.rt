@@ -1,10 +1,13 @@
 //! Words that are nearly others.
 ghost use Rattle.std.specs.Prelude.{◌≡◌, ◌==◌, ◌↔◌, List, map, reverse, IsTrue, IfSome, IfNone};
 ghost use Rattle.std.specs.List.{common_prefix_len};
-ghost use Rattle.ncp_play_faults.specs.Near.{folded, IsNear, NoneIsNear, IsFirstNear};
+ghost use Rattle.ncp_play_faults.specs.Near.{folded, IsNear, NoneIsNear, IsFirstNear, IsNearest};
 
 // How many letters may be wrong in one place.
 const WRONG: usize = 2;
+
+// How many letters two words have in common at least.
+const COMMON: usize = 2;
 
 // How a letter is compared: capital letters and '_' are mistaken for others.
 fn folded(byte: u8) -> u8
@@ -38,29 +41,42 @@ fn common_end(one: &[u8], other: &[u8]) -> usize
         .count()
 }
 
-// Whether two words differ in one place, by few letters, and have more in common.
-fn is_near(word: &[u8], known: &[u8]) -> bool
-    ensures near { IsTrue result → IsNear word.now known.now }
-    ensures far { IsNear word.now known.now → IsTrue result }
+// Whether two words differ in one place, by so many letters at most, and have enough in common.
+fn is_near(most: usize, word: &[u8], known: &[u8]) -> bool
+    ensures near { IsTrue result → IsNear most word.now known.now }
+    ensures far { IsNear most word.now known.now → IsTrue result }
 {
     let shorter = word.len().min(known.len());
     let longer = word.len().max(known.len());
     let front = common_front(word, known).min(shorter);
     let end = common_end(word, known).min(shorter - front);
     let common = front + end;
-    let few = longer - common <= WRONG;
-    few && common >= WRONG
+    let few = longer - common <= most;
+    few && common >= COMMON
 }
 
-/// The first of these words that is nearly this one: capital and small letters are the same, and so are `-` and `_`, and
-/// in one place up to two letters may be wrong, missing, or too many.
-pub fn nearest<'a>(word: &str, known: &[&'a str]) -> Option<&'a str>
-    ensures found { IfSome result (λ near. IsFirstNear word.now (map (λ one. one.now) known.now) near.now) }
-    ensures none { IfNone result (NoneIsNear word.now (map (λ one. one.now) known.now)) }
+// The first of these words that is near.
+fn first_near<'a>(most: usize, word: &str, known: &[&'a str]) -> Option<&'a str>
+    ensures found { IfSome result (λ near. IsFirstNear most word.now (map (λ one. one.now) known.now) near.now) }
+    ensures none { IfNone result (NoneIsNear most word.now (map (λ one. one.now) known.now)) }
 {
     for candidate in known {
-        if is_near(word.as_bytes(), candidate.as_bytes()) {
+        if is_near(most, word.as_bytes(), candidate.as_bytes()) {
             return Some(*candidate);
+        }
+    }
+    None
+}
+
+/// The one of these words that is nearest to this one: capital and small letters are the same, and so are `-` and `_`, and
+/// in one place up to two letters may be wrong, missing, or too many. Of two words as near the first is returned.
+pub fn nearest<'a>(word: &str, known: &[&'a str]) -> Option<&'a str>
+    ensures found { IfSome result (λ near. IsNearest word.now (map (λ one. one.now) known.now) near.now) }
+    ensures none { IfNone result (NoneIsNear 2 word.now (map (λ one. one.now) known.now)) }
+{
+    for most in 0..WRONG + 1 {
+        if let Some(near) = first_near(most, word, known) {
+            return Some(near);
         }
     }
     None

@@ -14,8 +14,8 @@ const TAB: u8 = b'\t';
 
 const RETURN: u8 = b'\r';
 
-// Whether a byte is a sign of a line.
-fn is_sign(byte: u8) -> bool
+/// Whether a byte is a sign of a line.
+pub(crate) fn is_sign(byte: u8) -> bool
     ensures { result ≡ is_sign byte }
 {
     byte.is_ascii_graphic() || byte == SPACE

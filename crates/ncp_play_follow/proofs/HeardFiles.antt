@@ -1,5 +1,5 @@
 -- Following a file: its records, one after the other, and then the lines.
-use Rattle.std.proofs.Common.{◌≡◌, ℕ, List, [], ◌∷◌, ◌++◌, take, drop, Option, Some, None, Result, Ok, Err, refl, sym, ap, ◌∙◌, subst}
+use Rattle.std.proofs.Common.{◌≡◌, ℕ, Bool, List, [], ◌∷◌, ◌++◌, take, drop, Option, Some, None, Result, Ok, Err, refl, sym, ap, ◌∙◌, subst}
 use Rattle.std.specs.Prelude.{OnOk, OnErr}
 use Rattle.std.proofs.lemmas.List.{append_assoc, append-nil}
 use Rattle.ncp_play_files.specs.declared.file.FileFault.{FileFault}
@@ -124,19 +124,19 @@ wrote_all was text page written now e p k =
 pub wrote_some : (was text page : List ℕ) (written now : Option (List ℕ)) → written ≡ Some was → page ≡ [] → SaysBeginning page written text now → (front : List ℕ) × (more : List ℕ) × (front ++ more ≡ text) × Wrote was front now
 wrote_some was text page written now e p k = let said = k.1 was [] (start was page written e p) in (said.0, k.0, said.2, said.1)
 
-module _ (follower after : Follower) (bytes was : List ℕ) (left now : Option (List ℕ)) where
-  pub follows_all : (r : Result Unit FileFault) → HearsFile follower bytes r after left → Wrote was (follow_lines after) now → Follows follower bytes was left now r
-  follows_all (Ok done) h k = (follow_lines after, (after, h, refl), k)
-  follows_all (Err BadHeader) h k = (follow_lines after, (after, h, refl), k)
-  follows_all (Err Truncated) h k = (follow_lines after, (after, h, refl), k)
-  follows_all (Err TooLong) h k = (follow_lines after, (after, h, refl), k)
-  follows_all (Err SpareNotZero) h k = (follow_lines after, (after, h, refl), k)
-  follows_all (Err BadDirection) h k = (follow_lines after, (after, h, refl), k)
-  follows_all (Err Mixed) h k = (follow_lines after, (after, h, refl), k)
-  follows_all (Err ReadFailed) h k = (h.0, h.1, follow_lines after, h.3, h.4, (h.2, h.5, (after, h.6, refl)), k)
+module _ (letters : Bool) (follower after : Follower) (bytes was : List ℕ) (left now : Option (List ℕ)) where
+  pub follows_all : (r : Result Unit FileFault) → HearsFile follower bytes r after left → Wrote was (follow_lines letters after) now → Follows letters follower bytes was left now r
+  follows_all (Ok done) h k = (follow_lines letters after, (after, h, refl), k)
+  follows_all (Err BadHeader) h k = (follow_lines letters after, (after, h, refl), k)
+  follows_all (Err Truncated) h k = (follow_lines letters after, (after, h, refl), k)
+  follows_all (Err TooLong) h k = (follow_lines letters after, (after, h, refl), k)
+  follows_all (Err SpareNotZero) h k = (follow_lines letters after, (after, h, refl), k)
+  follows_all (Err BadDirection) h k = (follow_lines letters after, (after, h, refl), k)
+  follows_all (Err Mixed) h k = (follow_lines letters after, (after, h, refl), k)
+  follows_all (Err ReadFailed) h k = (h.0, h.1, follow_lines letters after, h.3, h.4, (h.2, h.5, (after, h.6, refl)), k)
   follows_all (Err WriteFailed) h k = absurd h
 
-  pub follows_some : (r : Result Unit FileFault) → HearsFile follower bytes r after left → (front : List ℕ) × (more : List ℕ) × (front ++ more ≡ follow_lines after) × Wrote was front now → FollowsBeginning follower bytes was now
+  pub follows_some : (r : Result Unit FileFault) → HearsFile follower bytes r after left → (front : List ℕ) × (more : List ℕ) × (front ++ more ≡ follow_lines letters after) × Wrote was front now → FollowsBeginning letters follower bytes was now
   follows_some (Ok done) h k = (bytes, [], k.0, k.1, None, sym (append-nil bytes), (after, h, k.2), k.3)
   follows_some (Err BadHeader) h k = (bytes, [], k.0, k.1, Some BadHeader, sym (append-nil bytes), (after, h, k.2), k.3)
   follows_some (Err Truncated) h k = (bytes, [], k.0, k.1, Some Truncated, sym (append-nil bytes), (after, h, k.2), k.3)

@@ -1,6 +1,6 @@
 -- The text of one connection: bits that are said, one record after the other, and then their bytes.
 use Rattle.std.proofs.Common.{◌≡◌, ◌+◌, ◌-◌, ◌*◌, ◌%◌, ◌<◌, ℕ, Bool, true, false, List, [], ◌∷◌, ◌++◌, length, take, drop, replicate, Option, Some, None, Result, Ok, Err, refl, sym, ap, ◌∙◌, subst, arith}
-use Rattle.std.specs.Prelude.{IsErr, slice_range}
+use Rattle.std.specs.Prelude.{IsErr, is_some, option_map, slice_range}
 use Rattle.std.specs.List.{All, range_with_len}
 use Rattle.std.proofs.lemmas.List.{append_assoc, append-nil, length-append, length-drop, take-append-drop, take_all}
 use Rattle.std.proofs.lemmas.List.Elements.{All-map, All-append}
@@ -25,8 +25,10 @@ use Rattle.ncp_play_page.specs.Lines.{number_after}
 use Rattle.ncp_play_stream.specs.declared.source.Failed.{Failed}
 use Rattle.ncp_play_stream.specs.Streams.{SaysText, SaysBeginning}
 use Rattle.ncp_follow.specs.declared.follower.Follower.{Follower}
-use Rattle.ncp_play_follow.specs.FollowedTexts.{heard_alone, said_by, said_in, SaidIn, SaidAs, TextBeginning, FollowsText}
-use Rattle.ncp_play_follow.specs.TextSteps.{SaidBits, KeepsBits, SaysBits, SayThem, SayFrom, SayFile}
+use Rattle.ncp_follow.specs.Connections.{place_numbered, numbered}
+use Rattle.ncp_follow.specs.Followed.{silent}
+use Rattle.ncp_play_follow.specs.FollowedTexts.{heard_alone, said_by, said_in, is_there, SaidIn, SaidAs, TextBeginning, FollowsText}
+use Rattle.ncp_play_follow.specs.TextSteps.{SaidBits, KeepsBits, SaysBits, SayThem, SayAll, SayFrom, SayFile}
 
 -- ---- bytes
 
@@ -102,9 +104,15 @@ two_parts bits n m e =
 
 -- ---- records from a number on
 
+-- a reference is there where what it points to is
+pub is_some_mapped : {A B : Type 0} (f : A → B) (o : Option A) → is_some (option_map f o) ≡ is_some o
+is_some_mapped f None = refl
+is_some_mapped f (Some x) = refl
+
 module _ (wanted : ℕ) (follower : Follower) (number : ℕ) (bytes : List ℕ) where
-  pub from_end : (left : Option (List ℕ)) (bits : List Bool) → next_in Two bytes ≡ Ok None → bits ≡ [] → SayFrom wanted follower number bytes (Ok tt) left bits
-  from_end left bits h b = ([], h, b)
+  pub from_end : (left : Option (List ℕ)) (bits : List Bool) (there : Bool) → next_in Two bytes ≡ Ok None → bits ≡ []
+      → there ≡ is_some (numbered (silent wanted follower).tables.told (place_numbered wanted)) → SayFrom wanted follower number bytes (Ok there) left bits
+  from_end left bits there h b t = ([], h, b, t)
 
   -- a fault stands there, or a read failed
   pub from_fault : (left : Option (List ℕ)) (fault : FileFault) → Stops (next_in Two) bytes left fault → SayFrom wanted follower number bytes (Err fault) left []
@@ -128,11 +136,16 @@ module _ (wanted : ℕ) (follower : Follower) (number : ℕ) (bytes : List ℕ) 
       → SayThem wanted follower number given fault (said_by wanted follower number seen ++ bits)
   more_them given rest seen fault bits h k = (seen ∷ k.0, (rest, h, k.1), ap (λ (xs : List Bool). said_by wanted follower number seen ++ xs) k.2)
 
+  more_all : (rest : List ℕ) (seen : Recorded) (there : Bool) (bits : List Bool) → next_in Two bytes ≡ Ok (Some (seen, rest))
+      → SayAll wanted (heard_alone wanted follower number seen) (number_after number) rest there bits
+      → SayAll wanted follower number bytes there (said_by wanted follower number seen ++ bits)
+  more_all rest seen there bits h k = (seen ∷ k.0, (rest, h, k.1), ap (λ (xs : List Bool). said_by wanted follower number seen ++ xs) k.2, k.3)
+
   -- a record in front of others
-  pub from_more : (left : Option (List ℕ)) (seen : Recorded) (rest : List ℕ) (r : Result Unit FileFault) (bits : List Bool) → next_in Two bytes ≡ Ok (Some (seen, rest))
+  pub from_more : (left : Option (List ℕ)) (seen : Recorded) (rest : List ℕ) (r : Result Bool FileFault) (bits : List Bool) → next_in Two bytes ≡ Ok (Some (seen, rest))
       → SayFrom wanted (heard_alone wanted follower number seen) (number_after number) rest r left bits
       → SayFrom wanted follower number bytes r left (said_by wanted follower number seen ++ bits)
-  from_more left seen rest (Ok done) bits h k = more_them bytes rest seen None bits h k
+  from_more left seen rest (Ok there) bits h k = more_all rest seen there bits h k
   from_more left seen rest (Err BadHeader) bits h k = more_them bytes rest seen _ bits h k
   from_more left seen rest (Err Truncated) bits h k = more_them bytes rest seen _ bits h k
   from_more left seen rest (Err TooLong) bits h k = more_them bytes rest seen _ bits h k
@@ -177,8 +190,8 @@ module _ (wanted : ℕ) (follower : Follower) (bytes : List ℕ) where
   file_plain left direction h = subst (SaidIn wanted follower bytes [] (Some BadHeader)) (sym h) (refl, refl)
 
   -- the records behind a header of version 2
-  pub file_said : (left : Option (List ℕ)) (r : Result Unit FileFault) (bits : List Bool) → version_of bytes ≡ Some Two → SayFrom wanted follower 1 (drop 4 bytes) r left bits → SayFile wanted follower bytes r left bits
-  file_said left (Ok done) bits h k = subst (SaidIn wanted follower bytes bits None) (sym h) k
+  pub file_said : (left : Option (List ℕ)) (r : Result Bool FileFault) (bits : List Bool) → version_of bytes ≡ Some Two → SayFrom wanted follower 1 (drop 4 bytes) r left bits → SayFile wanted follower bytes r left bits
+  file_said left (Ok there) bits h k = (subst (SaidIn wanted follower bytes bits None) (sym h) (k.0, k.1, k.2), (k.0, k.1, k.3))
   file_said left (Err BadHeader) bits h k = subst (SaidIn wanted follower bytes bits (Some BadHeader)) (sym h) k
   file_said left (Err Truncated) bits h k = subst (SaidIn wanted follower bytes bits (Some Truncated)) (sym h) k
   file_said left (Err TooLong) bits h k = subst (SaidIn wanted follower bytes bits (Some TooLong)) (sym h) k
@@ -216,8 +229,8 @@ wrote_front was page written now spare bits says k =
     (said.0, says.0, said.2 ∙ sym (bytes_behind k.0 spare k.1) ∙ ap bytes_of k.2, said.1)
 
 module _ (wanted : ℕ) (follower : Follower) (bytes was : List ℕ) (left now : Option (List ℕ)) where
-  pub follows_all : (r : Result Unit FileFault) (bits : List Bool) → is_write_failed r ≡ false → SayFile wanted follower bytes r left bits → Wrote was (bytes_of bits) now → FollowsText wanted follower bytes was left now r
-  follows_all (Ok done) bits w h k = (bytes_of bits, (bits, h, refl), k)
+  pub follows_all : (r : Result Bool FileFault) (bits : List Bool) → is_write_failed r ≡ false → SayFile wanted follower bytes r left bits → Wrote was (bytes_of bits) now → FollowsText wanted follower bytes was left now r
+  follows_all (Ok there) bits w h k = ((bytes_of bits, (bits, h.0, refl), k), h.1)
   follows_all (Err BadHeader) bits w h k = (bytes_of bits, (bits, h, refl), k)
   follows_all (Err Truncated) bits w h k = (bytes_of bits, (bits, h, refl), k)
   follows_all (Err TooLong) bits w h k = (bytes_of bits, (bits, h, refl), k)
@@ -232,9 +245,9 @@ module _ (wanted : ℕ) (follower : Follower) (bytes was : List ℕ) (left now :
   whole_file fault bits h k = (bytes, [], k.0, k.1, fault, sym (append-nil bytes), (bits, h, k.2), k.3)
 
   -- the last write failed
-  pub follows_some : (r : Result Unit FileFault) (bits : List Bool) → is_write_failed r ≡ false → SayFile wanted follower bytes r left bits
+  pub follows_some : (r : Result Bool FileFault) (bits : List Bool) → is_write_failed r ≡ false → SayFile wanted follower bytes r left bits
       → (front : List ℕ) × (more : List ℕ) × (front ++ more ≡ bytes_of bits) × Wrote was front now → TextBeginning wanted follower bytes was now
-  follows_some (Ok done) bits w h k = whole_file None bits h k
+  follows_some (Ok there) bits w h k = whole_file None bits h.0 k
   follows_some (Err BadHeader) bits w h k = whole_file _ bits h k
   follows_some (Err Truncated) bits w h k = whole_file _ bits h k
   follows_some (Err TooLong) bits w h k = whole_file _ bits h k
@@ -245,7 +258,7 @@ module _ (wanted : ℕ) (follower : Follower) (bytes was : List ℕ) (left now :
   follows_some (Err WriteFailed) bits w h k = let e : ⊥ = cc (w) in absurd e
 
   -- a write before failed
-  pub follows_failed : (r : Result Unit FileFault) (page : List ℕ) (spare bits : List Bool) → is_write_failed r ≡ true → SayFile wanted follower bytes r left bits → KeepsBits (is_write_failed r) was page now spare bits
+  pub follows_failed : (r : Result Bool FileFault) (page : List ℕ) (spare bits : List Bool) → is_write_failed r ≡ true → SayFile wanted follower bytes r left bits → KeepsBits (is_write_failed r) was page now spare bits
       → FollowsText wanted follower bytes was left now r
   follows_failed (Ok done) page spare bits w h k = let e : ⊥ = cc (w) in absurd e
   follows_failed (Err BadHeader) page spare bits w h k = let e : ⊥ = cc (w) in absurd e

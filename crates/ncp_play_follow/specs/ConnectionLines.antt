@@ -9,6 +9,7 @@ use Rattle.ncp_follow.specs.declared.connection.End.{End}
 use Rattle.ncp_follow.specs.declared.connection.End.TheVariants.{Open, CloseSent, CloseCame, Closed, ResetCame, ResetSent, ReplyCame}
 use Rattle.ncp_follow.specs.declared.session.Session.{Session}
 use Rattle.ncp_follow.specs.declared.follower.Follower.{Follower}
+use Rattle.ncp_play_follow.specs.Letters.{letters_line}
 
 -- numbers of messages and of bits behind their name
 unfoldable pub followed_amount_words : List ℕ → Amount → List ℕ
@@ -71,8 +72,12 @@ said_text text said = shown_words (length text) said ++ text_word text ++ codes 
 abbrev pub said_line : Connection → List ℕ
 said_line connection = said_text connection.text connection.said.bits
 
-unfoldable pub connection_lines : Connection → List ℕ
-connection_lines connection = connection_line connection ++ said_line connection
+-- and as letters too, if they are asked for
+abbrev pub letters_if : Bool → Connection → List ℕ
+letters_if letters connection = if letters then letters_line connection else []
+
+unfoldable pub connection_lines : Bool → Connection → List ℕ
+connection_lines letters connection = connection_line connection ++ said_line connection ++ letters_if letters connection
 
 -- no text was outside of connections
 abbrev pub is_session_quiet : Session → Bool
@@ -87,5 +92,5 @@ unfoldable pub stray_line : Session → List ℕ
 stray_line session = if is_session_quiet session then [] else stray_words session
 
 -- those of all connections, in the order of opening, and then of what belongs to none
-abbrev pub follow_lines : Follower → List ℕ
-follow_lines follower = flat_map connection_lines follower.tables.told ++ flat_map stray_line follower.sessions
+abbrev pub follow_lines : Bool → Follower → List ℕ
+follow_lines letters follower = flat_map (connection_lines letters) follower.tables.told ++ flat_map stray_line follower.sessions

@@ -44,23 +44,23 @@ ShowsIn follower bytes fault after (Some Two) = (records : List Recorded) × Hol
 abbrev pub ShowsFile : Follower → List ℕ → Option FileFault → Follower → Type 0
 ShowsFile follower bytes fault after = ShowsIn follower bytes fault after (version_of bytes)
 
--- the lines of a file
-abbrev pub FollowedAs : Follower → List ℕ → List ℕ → Option FileFault → Type 0
-FollowedAs follower bytes text fault = (after : Follower) × ShowsFile follower bytes fault after × (text ≡ follow_lines after)
+-- the lines of a file, with letters or without
+abbrev pub FollowedAs : Bool → Follower → List ℕ → List ℕ → Option FileFault → Type 0
+FollowedAs letters follower bytes text fault = (after : Follower) × ShowsFile follower bytes fault after × (text ≡ follow_lines letters after)
 
 -- the lines of those records that are whole in bytes that came before a failed read
-abbrev pub FollowedCut : Follower → List ℕ → List ℕ → Type 0
-FollowedCut follower given text = (fault : Option FileFault) × IsCut given fault × FollowedAs follower given text fault
+abbrev pub FollowedCut : Bool → Follower → List ℕ → List ℕ → Type 0
+FollowedCut letters follower given text = (fault : Option FileFault) × IsCut given fault × FollowedAs letters follower given text fault
 
 -- a beginning of the lines was written: of all bytes, or of those that came before a failed read
-abbrev pub FollowsBeginning : Follower → List ℕ → List ℕ → Option (List ℕ) → Type 0
-FollowsBeginning follower bytes was written =
+abbrev pub FollowsBeginning : Bool → Follower → List ℕ → List ℕ → Option (List ℕ) → Type 0
+FollowsBeginning letters follower bytes was written =
     (given : List ℕ) × (rest : List ℕ) × (text : List ℕ) × (more : List ℕ) × (fault : Option FileFault)
-    × (bytes ≡ given ++ rest) × FollowedAs follower given (text ++ more) fault × Wrote was text written
+    × (bytes ≡ given ++ rest) × FollowedAs letters follower given (text ++ more) fault × Wrote was text written
 
 -- what was written of a file, and what is answered
-abbrev pub Follows : Follower → List ℕ → List ℕ → Option (List ℕ) → Option (List ℕ) → Result Unit FileFault → Type 0
-Follows follower bytes was left written (Ok done) = WritesAll (FollowedAs follower) bytes was written None
-Follows follower bytes was left written (Err fault) =
-    MatchFault (λ f. WritesAll (FollowedAs follower) bytes was written (Some f)) (WritesRead (FollowedCut follower) bytes was left written)
-    (FollowsBeginning follower bytes was written) fault
+abbrev pub Follows : Bool → Follower → List ℕ → List ℕ → Option (List ℕ) → Option (List ℕ) → Result Unit FileFault → Type 0
+Follows letters follower bytes was left written (Ok done) = WritesAll (FollowedAs letters follower) bytes was written None
+Follows letters follower bytes was left written (Err fault) =
+    MatchFault (λ f. WritesAll (FollowedAs letters follower) bytes was written (Some f)) (WritesRead (FollowedCut letters follower) bytes was left written)
+    (FollowsBeginning letters follower bytes was written) fault

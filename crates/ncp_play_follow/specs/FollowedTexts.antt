@@ -1,6 +1,6 @@
 -- What `follow --bytes` writes of a message file of version 2: the text of one connection as bytes, as its records before
 -- the first fault show it. What was seen before the file is known: mostly nothing.
-use Rattle.std.specs.Prelude.{◌≡◌, ℕ, Bool, List, [], ◌∷◌, ◌++◌, drop, Option, Some, None, Result, Ok, Err}
+use Rattle.std.specs.Prelude.{◌≡◌, ℕ, Bool, List, [], ◌∷◌, ◌++◌, drop, Option, Some, None, is_some, Result, Ok, Err}
 use Rattle.ncp_numbers.specs.Bytes.{bytes_of}
 use Rattle.ncp_play_files.specs.declared.file.FileFault.{FileFault}
 use Rattle.ncp_play_files.specs.declared.file.FileFault.TheVariants.{BadHeader}
@@ -29,6 +29,19 @@ abbrev pub said_in : ℕ → Follower → ℕ → List Recorded → List Bool
 said_in wanted follower number [] = []
 said_in wanted follower number (seen ∷ more) = said_by wanted follower number seen ++ said_in wanted (heard_alone wanted follower number seen) (number_after number) more
 
+-- what is known after them, as if nothing was said on it
+abbrev pub known_after : ℕ → Follower → ℕ → List Recorded → Follower
+known_after wanted follower number [] = silent wanted follower
+known_after wanted follower number (seen ∷ more) = known_after wanted (heard_alone wanted follower number seen) (number_after number) more
+
+-- whether there is a connection with that number then
+abbrev pub is_there : ℕ → Follower → ℕ → List Recorded → Bool
+is_there wanted follower number records = is_some (numbered (known_after wanted follower number records).tables.told (place_numbered wanted))
+
+-- and in a whole file of version 2
+abbrev pub IsThere : ℕ → Follower → List ℕ → Bool → Type 0
+IsThere wanted follower bytes there = (records : List Recorded) × HoldsBy (next_in Two) (drop 4 bytes) records None × (there ≡ is_there wanted follower 1 records)
+
 -- by the version of a file: what its records before its first fault say on it, and that fault, if there is one; a file of
 -- version 1 names no host, so its header is a bad one
 abbrev pub SaidIn : ℕ → Follower → List ℕ → List Bool → Option FileFault → Option Version → Type 0
@@ -53,9 +66,9 @@ TextBeginning wanted follower bytes was written =
     (given : List ℕ) × (rest : List ℕ) × (text : List ℕ) × (more : List ℕ) × (fault : Option FileFault)
     × (bytes ≡ given ++ rest) × TextAs wanted follower given (text ++ more) fault × Wrote was text written
 
--- what was written of a file, and what is answered
-abbrev pub FollowsText : ℕ → Follower → List ℕ → List ℕ → Option (List ℕ) → Option (List ℕ) → Result Unit FileFault → Type 0
-FollowsText wanted follower bytes was left written (Ok done) = WritesAll (TextAs wanted follower) bytes was written None
+-- what was written of a file, and what is answered: whether there is such a connection
+abbrev pub FollowsText : ℕ → Follower → List ℕ → List ℕ → Option (List ℕ) → Option (List ℕ) → Result Bool FileFault → Type 0
+FollowsText wanted follower bytes was left written (Ok there) = WritesAll (TextAs wanted follower) bytes was written None × IsThere wanted follower bytes there
 FollowsText wanted follower bytes was left written (Err fault) =
     MatchFault (λ f. WritesAll (TextAs wanted follower) bytes was written (Some f)) (WritesRead (TextCut wanted follower) bytes was left written)
     (TextBeginning wanted follower bytes was written) fault

@@ -1,4 +1,5 @@
 pub mod ConnectionLines
+pub mod Letters
 pub mod FollowedFiles
 pub mod FollowSteps
 pub mod FollowedTexts

@@ -10,7 +10,8 @@ use Rattle.ncp_play_files.specs.Steps.{IsInside}
 use Rattle.ncp_play_stream.specs.declared.source.Failed.{Failed}
 use Rattle.ncp_play_stream.specs.Streams.{Ahead, SaidSoFar}
 use Rattle.ncp_follow.specs.declared.follower.Follower.{Follower}
-use Rattle.ncp_play_follow.specs.FollowedTexts.{heard_alone, said_by, said_in, SaidAs}
+use Rattle.ncp_follow.specs.Followed.{silent}
+use Rattle.ncp_play_follow.specs.FollowedTexts.{heard_alone, said_by, said_in, is_there, IsThere, SaidAs}
 
 -- these are all bits that were said since the sink held `was`: those of whole bytes, and behind them those that are spare
 abbrev pub SaidBits : List ℕ → List ℕ → Option (List ℕ) → List Bool → List Bool → Type 0
@@ -39,8 +40,13 @@ module _ (wanted : ℕ) (follower : Follower) (number : ℕ) where
   abbrev pub SayPart : List ℕ → List Bool → Type 0
   SayPart bytes bits = (ends : Option FileFault) × (more : List Bool) × SayThem bytes ends (bits ++ more)
 
-  abbrev pub SayFrom : List ℕ → Result Unit FileFault → Option (List ℕ) → List Bool → Type 0
-  SayFrom bytes (Ok done) left bits = SayThem bytes None bits
+  -- or they are all, and then it is known whether there is such a connection
+  abbrev pub SayAll : List ℕ → Bool → List Bool → Type 0
+  SayAll bytes there bits =
+      (records : List Recorded) × HoldsBy (next_in Two) bytes records None × (bits ≡ said_in wanted follower number records) × (there ≡ is_there wanted follower number records)
+
+  abbrev pub SayFrom : List ℕ → Result Bool FileFault → Option (List ℕ) → List Bool → Type 0
+  SayFrom bytes (Ok there) left bits = SayAll bytes there bits
   SayFrom bytes (Err fault) left bits = MatchFault (λ f. SayThem bytes (Some f) bits) (SaySome bytes left bits) (SayPart bytes bits) fault
 
   -- the next record says these bits, or there is none; or with it all ends
@@ -48,7 +54,7 @@ module _ (wanted : ℕ) (follower : Follower) (number : ℕ) where
   SayNext bytes (Ok true) after window left bits =
       (seen : Recorded) × (rest : List ℕ) × (next_in Two bytes ≡ Ok (Some (seen, rest))) × Ahead window left rest × (after ≡ heard_alone wanted follower number seen)
       × (bits ≡ said_by wanted follower number seen)
-  SayNext bytes (Ok false) after window left bits = (next_in Two bytes ≡ Ok None) × (bits ≡ [])
+  SayNext bytes (Ok false) after window left bits = (next_in Two bytes ≡ Ok None) × (bits ≡ []) × (after ≡ silent wanted follower)
   SayNext bytes (Err fault) after window left bits = SayFrom bytes (Err fault) left bits
 
 module _ (wanted : ℕ) (follower : Follower) where
@@ -60,6 +66,6 @@ module _ (wanted : ℕ) (follower : Follower) where
   abbrev pub SayPartOfFile : List ℕ → List Bool → Type 0
   SayPartOfFile bytes bits = (ends : Option FileFault) × (more : List Bool) × SaidAs wanted follower bytes (bits ++ more) ends
 
-  abbrev pub SayFile : List ℕ → Result Unit FileFault → Option (List ℕ) → List Bool → Type 0
-  SayFile bytes (Ok done) left bits = SaidAs wanted follower bytes bits None
+  abbrev pub SayFile : List ℕ → Result Bool FileFault → Option (List ℕ) → List Bool → Type 0
+  SayFile bytes (Ok there) left bits = SaidAs wanted follower bytes bits None × IsThere wanted follower bytes there
   SayFile bytes (Err fault) left bits = MatchFault (λ f. SaidAs wanted follower bytes bits (Some f)) (SaySomeOfFile bytes left bits) (SayPartOfFile bytes bits) fault

@@ -1,10 +1,11 @@
 //! The lines of connections.
 ghost use Rattle.std.specs.Prelude.{◌≡◌, ◌+◌, ◌*◌, ◌≤◌, ◌||◌, ◌++◌, length, is_err};
 ghost use Rattle.std.specs.List.{flat_map};
-ghost use Rattle.ncp_play_follow.specs.ConnectionLines.{way_word, end_word, ended_word, which_words, socket_words, end_words, said_words, life_words, allocation_words, connection_line, of_words, shown_words, said_text, said_line, connection_lines};
+ghost use Rattle.ncp_play_follow.specs.ConnectionLines.{way_word, end_word, ended_word, which_words, socket_words, end_words, said_words, life_words, allocation_words, connection_line, of_words, shown_words, said_text, said_line, letters_if, connection_lines};
 ghost use Rattle.ncp_play_stream.specs.Pieces.{lost_pieces};
 ghost use Rattle.ncp_play_page.specs.Outlets.{SameOutlet, write_failed, credit, SaysOrBreaks};
 
+use crate::letters::{LONGEST_LETTERS, push_letters};
 use crate::words::{LONGEST_AMOUNT, push_amount};
 use ncp_bits::{MAX_BITS, Part};
 use ncp_follow::{Connection, End};
@@ -13,7 +14,7 @@ use ncp_play_page::{LONGEST_NUMBER, Outlet, PAGE_SIZE, Page, push_field};
 use ncp_play_stream::{Failed, Sink};
 
 /// How many bytes the lines of a connection have at most.
-pub const LONGEST_CONNECTION: usize = LONGEST_FRONT + LONGEST_SAID;
+pub const LONGEST_CONNECTION: usize = LONGEST_FRONT + LONGEST_SAID + LONGEST_LETTERS;
 
 // How many bytes four or five words have at most.
 const LONGEST_WORDS: usize = 72;
@@ -178,7 +179,8 @@ fn push_shown(page: &mut Page, shown: u32, said: u32)
 // Appends the line of a text, of which so many bits were said.
 fn push_said_text(page: &mut Page, text: &Part<'_>, said: u32)
     requires { length page.old + LONGEST_SAID ≤ PAGE_SIZE }
-    ensures { page.new ≡ page.old ++ said_text text.now said }
+    ensures bytes { page.new ≡ page.old ++ said_text text.now said }
+    ensures len { length page.new ≤ length page.old + LONGEST_SAID }
 {
     push_shown(page, text.len() as u32, said);
     push_text_word(page, text);
@@ -188,33 +190,46 @@ fn push_said_text(page: &mut Page, text: &Part<'_>, said: u32)
 // Appends the line of the text.
 fn push_text(page: &mut Page, connection: &Connection)
     requires { length page.old + LONGEST_SAID ≤ PAGE_SIZE }
-    ensures { page.new ≡ page.old ++ said_line connection.now }
+    ensures bytes { page.new ≡ page.old ++ said_line connection.now }
+    ensures len { length page.new ≤ length page.old + LONGEST_SAID }
 {
     push_said_text(page, &connection.text.whole(), connection.said.bits);
 }
 
+// Appends the line of the letters, if they are asked for.
+fn push_letters_if(page: &mut Page, letters: bool, connection: &Connection)
+    requires { length page.old + LONGEST_LETTERS ≤ PAGE_SIZE }
+    ensures { page.new ≡ page.old ++ letters_if letters connection.now }
+{
+    if letters {
+        push_letters(page, connection);
+    }
+}
+
 // Appends the lines of a connection.
-fn push_connection(page: &mut Page, connection: &Connection)
+fn push_connection(page: &mut Page, letters: bool, connection: &Connection)
     requires { length page.old + LONGEST_CONNECTION ≤ PAGE_SIZE }
-    ensures { page.new ≡ page.old ++ connection_lines connection.now }
+    ensures { page.new ≡ page.old ++ connection_lines letters connection.now }
 {
     push_front(page, connection);
     push_text(page, connection);
+    push_letters_if(page, letters, connection);
 }
 
 /// Says the lines of connections.
 pub(crate) fn say_connections<W: Sink>(
     out: &mut Outlet<'_, W>,
+    letters: bool,
     told: &[Connection],
 ) -> Result<(), Failed>
-    ensures told { SaysOrBreaks W.Sink out.old (flat_map connection_lines told.now) result out.new }
+    ensures told { SaysOrBreaks W.Sink out.old (flat_map (connection_lines letters) told.now) result out.new }
     ensures writes { credit W.Sink out.old ≤ credit W.Sink out.new + lost_pieces (is_err result) }
     ensures mark { write_failed W.Sink out.new ≡ (write_failed W.Sink out.old || is_err result) }
     ensures same_outlet { SameOutlet out.old out.new }
 {
     for connection in told {
         out.make_room(LONGEST_CONNECTION)?;
-        push_connection(out.page, connection);
+        push_connection(out.page, letters, connection);
     }
     Ok(())
 }

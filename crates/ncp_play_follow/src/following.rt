@@ -125,29 +125,37 @@ fn hear_file<S: Source>(input: &mut Inlet<'_, S>, follower: &mut Follower) -> Re
 }
 
 // Says the lines of all that is known.
-fn say_lines<W: Sink>(out: &mut Outlet<'_, W>, follower: &Follower) -> Result<(), Failed>
-    ensures told { SaysOrBreaks W.Sink out.old (follow_lines follower.now) result out.new }
+fn say_lines<W: Sink>(
+    out: &mut Outlet<'_, W>,
+    letters: bool,
+    follower: &Follower,
+) -> Result<(), Failed>
+    ensures told { SaysOrBreaks W.Sink out.old (follow_lines letters follower.now) result out.new }
     ensures writes { credit W.Sink out.old ≤ credit W.Sink out.new + lost_pieces (is_err result) }
     ensures mark { write_failed W.Sink out.new ≡ (write_failed W.Sink out.old || is_err result) }
     ensures same_outlet { SameOutlet out.old out.new }
 {
-    say_connections(out, follower.told())?;
+    say_connections(out, letters, follower.told())?;
     say_strays(out, follower.sessions())
 }
 
 // Says them, and writes all.
-fn write_lines<W: Sink>(out: &mut Outlet<'_, W>, follower: &Follower) -> Result<(), Failed>
-    ensures told { WritesOrBreaks W.Sink out.old (follow_lines follower.now) result out.new }
+fn write_lines<W: Sink>(
+    out: &mut Outlet<'_, W>,
+    letters: bool,
+    follower: &Follower,
+) -> Result<(), Failed>
+    ensures told { WritesOrBreaks W.Sink out.old (follow_lines letters follower.now) result out.new }
     ensures writes { credit W.Sink out.old ≤ credit W.Sink out.new + lost_pieces true }
     ensures mark { write_failed W.Sink out.new ≡ (write_failed W.Sink out.old || is_err result) }
     ensures same_outlet { SameOutlet out.old out.new }
 {
-    say_lines(out, follower)?;
+    say_lines(out, letters, follower)?;
     out.flush()
 }
 
 /// Writes the lines of the connections of a message file of version 2, in the order of opening, up to its first fault, and
-/// then answers that fault, if there is one.
+/// then answers that fault, if there is one. With `letters` a line follows each text, with its bytes as letters.
 ///
 /// A file of version 1 names no host at whose interface its messages stand: its header is a `BadHeader`.
 ///
@@ -156,6 +164,7 @@ fn write_lines<W: Sink>(out: &mut Outlet<'_, W>, follower: &Follower) -> Result<
 /// written; after a failed write a beginning of the lines is.
 pub fn follow<S: Source, W: Sink>(
     follower: &mut Follower,
+    letters: bool,
     source: &mut S,
     sink: &mut W,
 ) -> Result<(), FileFault>
@@ -165,7 +174,7 @@ pub fn follow<S: Source, W: Sink>(
     // Of bytes that are told, the lines of the records before the first fault are written, and nothing else.
     ensures told { (bytes : List ℕ) (was : List ℕ)
         → S.left source.old ≡ Some bytes → W.written sink.old ≡ Some was
-        → Follows follower.old bytes was (S.left source.new) (W.written sink.new) result }
+        → Follows letters follower.old bytes was (S.left source.new) (W.written sink.new) result }
 
     // Reading and writing are blamed only where they failed.
     ensures read_failed { is_read_failed result ≡ true → S.has_failed source.new ≡ true }
@@ -193,7 +202,7 @@ pub fn follow<S: Source, W: Sink>(
         sink,
     };
     let heard = hear_file(&mut input, follower);
-    match write_lines(&mut out, follower) {
+    match write_lines(&mut out, letters, follower) {
         Ok(()) => heard,
         Err(_) => Err(FileFault::WriteFailed),
     }

@@ -1,9 +1,10 @@
 //! `follow`: what was said on each connection of a message file of version 2, line by line; `follow_text`: the text of one,
 //! as bytes.
 //!
-//! - *Use:* `ncp follow examples/capture.ncp`, and `ncp follow --bytes 1 examples/capture.ncp`.
-//! - *Proved:* the lines are those of the connections that the records show, up to the first fault of the file, and the
-//!   bytes those of the text (`follow` and `follow_text`, clause `told`). A word behind `by=` means the text beside it
+//! - *Use:* `ncp follow --letters examples/capture.ncp`, and `ncp follow --bytes 1 examples/capture.ncp`.
+//! - *Proved:* the lines are those of the connections that the records show, up to the first fault of the file, with
+//!   letters only if they are asked for; the bytes are those of the text, and the answer says whether there is such a
+//!   connection (`follow` and `follow_text`, clause `told`). A word behind `by=` means the text beside it
 //!   (`end_meaning`), and has one meaning (`each_end_has_one_meaning`).
 //! - *Tests:* `follows` of `ncp_test_files`.
 #![tactic(auto)]
@@ -11,6 +12,7 @@
 mod connection_line;
 mod ends;
 mod following;
+mod letters;
 mod stray_line;
 mod text;
 mod words;

@@ -140,13 +140,13 @@ fn say_next<S: Source, W: Sink>(
     }
 }
 
-// Says what the records behind the header say on the connection.
+// Says what the records behind the header say on the connection, and answers whether there is one.
 fn say_records<S: Source, W: Sink>(
     input: &mut Inlet<'_, S>,
     out: &mut Outlet<'_, W>,
     text: &mut Text,
     follower: &mut Follower,
-) -> Result<(), FileFault>
+) -> Result<bool, FileFault>
     requires { length text.old.spare < BYTE }
     ensures told { (bytes : List ℕ) (was : List ℕ) (bits : List Bool)
         → Brings S.Source input.old bytes → SaidBits was out.old.page.now (written_by W.Sink out.old) text.old.spare bits
@@ -163,16 +163,16 @@ fn say_records<S: Source, W: Sink>(
     while say_next(input, out, text, follower, number)? {
         number = number.saturating_add(1);
     }
-    Ok(())
+    Ok(follower.connection(text.wanted).is_some())
 }
 
-// Says what a file says on the connection, but for the bits that are no whole byte.
+// Says what a file says on the connection, but for the bits that are no whole byte, and answers whether there is one.
 fn say_file<S: Source, W: Sink>(
     input: &mut Inlet<'_, S>,
     out: &mut Outlet<'_, W>,
     text: &mut Text,
     follower: &mut Follower,
-) -> Result<(), FileFault>
+) -> Result<bool, FileFault>
     requires window { input.old.window.now ≡ [] }
     requires page { out.old.page.now ≡ [] }
     requires spare { text.old.spare ≡ [] }
@@ -207,8 +207,8 @@ fn write_rest<W: Sink>(out: &mut Outlet<'_, W>, spare: &Bits) -> Result<(), Fail
 }
 
 /// Writes the text of the connection with the number `wanted` of a message file of version 2, as the records up to its
-/// first fault show it, and then answers that fault, if there is one. The connections are counted from 1 on, in the order
-/// of opening; where there is none with this number, nothing is written.
+/// first fault show it, and then answers that fault, if there is one, or whether there is such a connection. The
+/// connections are counted from 1 on, in the order of opening; if there is none with this number, nothing is written.
 ///
 /// The text is what `follow` tells of, but whole: its bits joined, eight a byte, the spare bits of the last byte zero.
 ///
@@ -221,7 +221,7 @@ pub fn follow_text<S: Source, W: Sink>(
     wanted: u32,
     source: &mut S,
     sink: &mut W,
-) -> Result<(), FileFault>
+) -> Result<bool, FileFault>
     requires source_clean { S.has_failed source.old ≡ false }
     requires sink_clean { W.has_failed sink.old ≡ false }
 

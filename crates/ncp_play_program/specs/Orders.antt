@@ -77,6 +77,21 @@ module _ (before : Streams) (answer : Result Bool PlayFault) (now : Streams) whe
   abbrev pub HasNoMemory : Type 0
   HasNoMemory = (answer ≡ Err OutOfMemory) × (now ≡ before)
 
+  -- the lines of the connections were written, with letters or without
+  abbrev pub DoesFollow : Bool → Bool → Type 0
+  DoesFollow part letters = HasNoMemory ⊎ DoesFile (λ done bytes was. Follows letters (new_follower part) bytes was now.left now.written done)
+
+  -- the text of a connection was written, and the answer is whether there is such a connection
+  abbrev pub DoesText : Bool → ℕ → Type 0
+  DoesText part wanted =
+      HasNoMemory ⊎ (said : Result Bool FileFault) × (answer ≡ of_check said) × Blames (files.is_read_failed said) (files.is_write_failed said) now
+      × OfBytes before (λ bytes was. FollowsText wanted (new_follower part) bytes was now.left now.written said)
+
+  -- one of these
+  abbrev pub DoesTrace : Bool → Bool → Option ℕ → Type 0
+  DoesTrace part letters None = DoesFollow part letters
+  DoesTrace part letters (Some wanted) = DoesText part wanted
+
   -- a player kept what it promises by this answer
   abbrev pub Plays : (List ℕ → List ℕ → Type 0) → Type 0
   Plays P = Blames (play_read_failed answer) (play_write_failed answer) now × OfBytes before P
@@ -91,8 +106,7 @@ module _ (before : Streams) (answer : Result Bool PlayFault) (now : Streams) whe
   Does Check = DoesCheck
   Does (Convert at) = DoesFile (λ done bytes was. Converted at bytes was now.left now.written done)
   Does (Audit part standard) = HasNoMemory ⊎ DoesAudit part standard
-  Does (Follow part None) = HasNoMemory ⊎ DoesFile (λ done bytes was. Follows (new_follower part) bytes was now.left now.written done)
-  Does (Follow part (Some wanted)) = HasNoMemory ⊎ DoesFile (λ done bytes was. FollowsText wanted (new_follower part) bytes was now.left now.written done)
+  Does (Follow part letters bytes raw) = DoesTrace part letters bytes
   Does Host = Plays (λ bytes was. HostPlayed bytes was answer now.left now.written)
   Does World = Plays (λ bytes was. (is_many_script bytes ≡ false → PlaysWorld lines_of_script bytes was answer now.left now.written)
       × (is_many_script bytes ≡ true → PlaysMany lines_of_many bytes was answer now.left now.written))

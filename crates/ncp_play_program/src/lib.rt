@@ -16,6 +16,7 @@ mod program;
 mod put;
 mod running;
 mod telling;
+mod terminal;
 mod watched;
 
 pub use ncp_play_command_line::{Order, order};

@@ -1,8 +1,8 @@
 //! What the program does with the words of its command line.
-ghost use Rattle.std.specs.Prelude.{◌≡◌, None, Some, map, true, false, IsErr};
+ghost use Rattle.std.specs.Prelude.{◌≡◌, map, true, false, IsErr};
 ghost use Rattle.ncp_play_notes.specs.Faults.{play_read_failed, play_write_failed};
-ghost use Rattle.ncp_play_program.specs.Orders.{streams_of, Does};
-ghost use Rattle.ncp_play_command_line.specs.declared.orders.Order.TheVariants.{Audit, Follow};
+ghost use Rattle.ncp_play_program.specs.Orders.{streams_of, DoesFollow, DoesText, DoesTrace, Does};
+ghost use Rattle.ncp_play_command_line.specs.declared.orders.Order.TheVariants.{Audit};
 ghost use Rattle.ncp_play_program.specs.Obeying.{telling_of, TellsFault, status_of, status_after, Obeys};
 
 use crate::put::put;
@@ -20,7 +20,7 @@ use ncp_play_world::{play_world, record_world};
 use std::alloc::{AllocGlobal, Global};
 use std::convert::AsStr;
 
-// Says what a name means, and answers whether it is the name of a fault, a refusal or a rule.
+// Says what a name or a word of a line means, and answers whether it is one.
 fn explain<W: Sink>(alloc: Global, name: &str, sink: &mut W) -> Result<bool, PlayFault>
     requires sink_clean { W.has_failed sink.old ≡ false }
     ensures read { play_read_failed result ≡ false }
@@ -64,27 +64,28 @@ fn judge<S: Source, W: Sink>(
 fn trace_lines<S: Source, W: Sink>(
     alloc: Global,
     part: bool,
+    letters: bool,
     source: &mut S,
     sink: &mut W,
 ) -> Result<bool, PlayFault>
     requires source_clean { S.has_failed source.old ≡ false }
     requires sink_clean { W.has_failed sink.old ≡ false }
-    ensures does { Does
+    ensures does { DoesFollow
         (streams_of (S.left source.old) (S.has_failed source.old) (W.written sink.old) (W.has_failed sink.old)) result
-        (streams_of (S.left source.new) (S.has_failed source.new) (W.written sink.new) (W.has_failed sink.new)) (Follow part None) }
+        (streams_of (S.left source.new) (S.has_failed source.new) (W.written sink.new) (W.has_failed sink.new)) part letters }
     ensures read_failed { S.has_failed source.new ≡ true → IsErr result }
     ensures write_failed { W.has_failed sink.new ≡ true → IsErr result }
 {
     let Ok(mut follower) = Follower::new(alloc, part) else {
         return Err(PlayFault::OutOfMemory);
     };
-    match follow(&mut follower, source, sink) {
+    match follow(&mut follower, letters, source, sink) {
         Ok(()) => Ok(true),
         Err(fault) => Err(PlayFault::Feed(fault)),
     }
 }
 
-// Writes the text of one connection of a message file, by its number.
+// Writes the text of one connection of a message file, by its number, and answers whether there is one.
 fn trace_text<S: Source, W: Sink>(
     alloc: Global,
     part: bool,
@@ -94,9 +95,9 @@ fn trace_text<S: Source, W: Sink>(
 ) -> Result<bool, PlayFault>
     requires source_clean { S.has_failed source.old ≡ false }
     requires sink_clean { W.has_failed sink.old ≡ false }
-    ensures does { Does
+    ensures does { DoesText
         (streams_of (S.left source.old) (S.has_failed source.old) (W.written sink.old) (W.has_failed sink.old)) result
-        (streams_of (S.left source.new) (S.has_failed source.new) (W.written sink.new) (W.has_failed sink.new)) (Follow part (Some wanted)) }
+        (streams_of (S.left source.new) (S.has_failed source.new) (W.written sink.new) (W.has_failed sink.new)) part wanted }
     ensures read_failed { S.has_failed source.new ≡ true → IsErr result }
     ensures write_failed { W.has_failed sink.new ≡ true → IsErr result }
 {
@@ -104,7 +105,7 @@ fn trace_text<S: Source, W: Sink>(
         return Err(PlayFault::OutOfMemory);
     };
     match follow_text(&mut follower, u32::from(wanted), source, sink) {
-        Ok(()) => Ok(true),
+        Ok(there) => Ok(there),
         Err(fault) => Err(PlayFault::Feed(fault)),
     }
 }
@@ -113,21 +114,22 @@ fn trace_text<S: Source, W: Sink>(
 fn trace<S: Source, W: Sink>(
     alloc: Global,
     part: bool,
+    letters: bool,
     bytes: Option<u16>,
     source: &mut S,
     sink: &mut W,
 ) -> Result<bool, PlayFault>
     requires source_clean { S.has_failed source.old ≡ false }
     requires sink_clean { W.has_failed sink.old ≡ false }
-    ensures does { Does
+    ensures does { DoesTrace
         (streams_of (S.left source.old) (S.has_failed source.old) (W.written sink.old) (W.has_failed sink.old)) result
-        (streams_of (S.left source.new) (S.has_failed source.new) (W.written sink.new) (W.has_failed sink.new)) (Follow part bytes) }
+        (streams_of (S.left source.new) (S.has_failed source.new) (W.written sink.new) (W.has_failed sink.new)) part letters bytes }
     ensures read_failed { S.has_failed source.new ≡ true → IsErr result }
     ensures write_failed { W.has_failed sink.new ≡ true → IsErr result }
 {
     match bytes {
         Some(wanted) => trace_text(alloc, part, wanted, source, sink),
-        None => trace_lines(alloc, part, source, sink),
+        None => trace_lines(alloc, part, letters, source, sink),
     }
 }
 
@@ -162,7 +164,12 @@ pub(crate) fn carry_out<S: Source, W: Sink>(
             Err(fault) => Err(PlayFault::Feed(fault)),
         },
         Order::Audit { part, standard } => judge(alloc, part, standard, source, sink),
-        Order::Follow { part, bytes } => trace(alloc, part, bytes, source, sink),
+        Order::Follow {
+            part,
+            letters,
+            bytes,
+            raw: _,
+        } => trace(alloc, part, letters, bytes, source, sink),
         Order::Host => play_host::<PackedStore, _, _>(alloc, source, sink),
         Order::World => play_world::<PackedStore, _, _>(alloc, source, sink),
         Order::Record => record_world::<PackedStore, _, _>(alloc, source, sink),

@@ -10,9 +10,11 @@ use crate::output::Output;
 use crate::program::{carry_out, conclude, status_after};
 use crate::put::put;
 use crate::telling::{Context, explained};
+use crate::terminal::{Terminals, for_terminal};
 use crate::watched::Watched;
 use anyhow::Result;
-use ncp_play_command_line::{Order, request};
+use clap::Error;
+use ncp_play_command_line::{Order, Request, request};
 use ncp_play_notes::PlayFault;
 use ncp_play_stream::{FromRead, Sink, Source, ToWrite};
 use std::alloc::{AllocGlobal, Global};
@@ -32,6 +34,10 @@ const STANDARD: &str = "-";
 const NOTICE: &[u8] =
     b"ncp: reading from the terminal; Ctrl-D ends it, and 'ncp --help' says more\n";
 
+// What is told where bytes are asked for, and a terminal would get them.
+const REFUSED: &[u8] =
+    b"ncp: a terminal may act on the bytes of --bytes: write them to a file or a pipe, or add --raw\n";
+
 // The words of the command line, which are text.
 fn words_in<R: Env + AllocGlobal>(rt: &R) -> Result<Vec<String>> {
     Ok(env::args(rt)?.collect(rt.alloc())?)
@@ -46,6 +52,19 @@ fn plays(order: Order) -> bool {
 fn tell_more<E: Sink>(alloc: Global, context: &Context<'_>, fault: PlayFault, errors: &mut E) {
     if let Ok(text) = explained(alloc, context, fault) {
         let _untold = put(errors, text.as_bytes());
+    }
+}
+
+// Tells that a message file has no connection with the number that was asked for.
+fn tell_missing<E: Sink>(alloc: Global, order: Order, errors: &mut E) {
+    if let Order::Follow {
+        bytes: Some(number),
+        ..
+    } = order
+    {
+        if let Ok(text) = format!(in alloc; "ncp: the file has no connection {number}\n") {
+            let _untold = put(errors, text.as_bytes());
+        }
     }
 }
 
@@ -64,16 +83,42 @@ fn finish<O: Write, E: Sink>(
         return status_after(&answer);
     }
     let status = conclude(answer, errors);
-    if let Err(fault) = answer {
-        tell_more(alloc, context, fault, errors);
+    match answer {
+        Ok(true) => {}
+        Ok(false) => tell_missing(alloc, context.order, errors),
+        Err(fault) => tell_more(alloc, context, fault, errors),
     }
     status
+}
+
+// Tells a text that has words in it. A terminal is given signs alone.
+fn tell<E: Sink>(alloc: Global, text: &str, at_terminal: bool, errors: &mut E) {
+    if !at_terminal {
+        let _untold = put(errors, text.as_bytes());
+    } else if let Ok(text) = for_terminal(alloc, text) {
+        let _untold = put(errors, text.as_bytes());
+    }
+}
+
+// Tells what clap says of words: help where the runtime prints, and a fault of theirs as the words in it can be shown.
+fn tell_words<R, E>(rt: &R, error: &Error, at_terminal: bool, errors: &mut E)
+where
+    R: AllocGlobal + Print + Eprint,
+    E: Sink,
+{
+    let alloc = rt.alloc();
+    if !at_terminal || !error.use_stderr() {
+        let _untold = error.print(rt);
+    } else if let Ok(text) = format!(in alloc; "{error}") {
+        tell(alloc, text.as_str(), at_terminal, errors);
+    }
 }
 
 // Does what the words of a command line say, tells a fault, and answers the status with which the program ends.
 fn perform<R, T, S, O, E>(
     rt: &R,
     words: &[T],
+    at_terminal: bool,
     source: &mut Watched<S>,
     output: &mut Output<O>,
     errors: &mut E,
@@ -97,7 +142,7 @@ where
     let request = match request(alloc, words) {
         Ok(request) => request,
         Err(error) => {
-            let _untold = error.print(rt);
+            tell_words(rt, &error, at_terminal, errors);
             return ExitCode::from(error.exit_code() as u8);
         }
     };
@@ -109,27 +154,40 @@ where
     ExitCode::from(finish(alloc, &context, answer, output, errors))
 }
 
-// The file that the words name, if they name one that is to be read; and whether it is a script.
-fn file_in<'a>(alloc: Global, words: &'a [String]) -> (Option<&'a str>, bool) {
-    match request(alloc, words) {
-        Ok(request) if request.order != Order::Explain => {
-            let file = request.word.filter(|word| *word != STANDARD);
-            (file, plays(request.order))
-        }
-        _ => (None, false),
-    }
+// Whether something is read for what is asked for.
+fn reads(asked: Option<Request<'_>>) -> bool {
+    asked.is_some_and(|request| request.order != Order::Explain)
 }
 
-// Whether the words are an order that reads.
-fn reads(alloc: Global, words: &[String]) -> bool {
-    match request(alloc, words) {
-        Ok(request) => request.order != Order::Explain,
-        Err(_) => false,
+// Whether what is asked for plays a script.
+fn reads_script(asked: Option<Request<'_>>) -> bool {
+    asked.is_some_and(|request| plays(request.order))
+}
+
+// Whether bytes are asked for that a terminal may act on.
+fn writes_bytes(asked: Option<Request<'_>>) -> bool {
+    asked.is_some_and(|request| {
+        matches!(
+            request.order,
+            Order::Follow {
+                bytes: Some(_),
+                raw: false,
+                ..
+            }
+        )
+    })
+}
+
+// The file that is named, if one is to be read.
+fn file_in(asked: Option<Request<'_>>) -> Option<&str> {
+    if !reads(asked) {
+        return None;
     }
+    asked?.word.filter(|word| *word != STANDARD)
 }
 
 // Opens a file; where that fails the reason is told.
-fn open<R, E>(rt: &R, path: &str, errors: &mut E) -> Option<R::File>
+fn open<R, E>(rt: &R, path: &str, at_terminal: bool, errors: &mut E) -> Option<R::File>
 where
     R: AllocGlobal + Files,
     E: Sink,
@@ -138,7 +196,7 @@ where
         Ok(file) => Some(file),
         Err(error) => {
             if let Ok(text) = format!(in rt.alloc(); "ncp: cannot open {path}: {error}\n") {
-                let _untold = put(errors, text.as_bytes());
+                tell(rt.alloc(), text.as_str(), at_terminal, errors);
             }
             None
         }
@@ -148,9 +206,9 @@ where
 // What is read: the file that is named, if it can be opened, or standard input. Of a terminal standard error says so.
 fn origin_of<R, I, E>(
     rt: &R,
-    file: Option<&str>,
-    words: &[String],
+    asked: Option<Request<'_>>,
     input: I,
+    at_terminal: bool,
     errors: &mut E,
 ) -> Option<Origin<I, R::File>>
 where
@@ -158,10 +216,10 @@ where
     I: IsTerminal + Drop,
     E: Sink,
 {
-    if let Some(path) = file {
-        return Some(Origin::Named(open(rt, path, errors)?));
+    if let Some(path) = file_in(asked) {
+        return Some(Origin::Named(open(rt, path, at_terminal, errors)?));
     }
-    if input.is_terminal() && reads(rt.alloc(), words) {
+    if input.is_terminal() && reads(asked) {
         let _untold = put(errors, NOTICE);
     }
     Some(Origin::Standard(input))
@@ -171,6 +229,7 @@ where
 fn run_words<R, I, O, E>(
     rt: &R,
     words: &[String],
+    terminals: Terminals,
     input: I,
     output: &mut Output<O>,
     errors: &mut E,
@@ -184,15 +243,19 @@ where
     ensures { exit_status result ≤ 2 }
 {
     let alloc = rt.alloc();
-    let (file, is_script) = file_in(alloc, words);
-    let Some(origin) = origin_of(rt, file, words, input, errors) else {
+    let asked = request(alloc, words).ok();
+    if terminals.output && writes_bytes(asked) {
+        let _untold = put(errors, REFUSED);
+        return ExitCode::from(FAULT);
+    }
+    let Some(origin) = origin_of(rt, asked, input, terminals.errors, errors) else {
         return ExitCode::from(FAULT);
     };
     let mut source = Watched {
         source: FromRead::new(origin),
-        kept: Kept::new(alloc, is_script),
+        kept: Kept::new(alloc, reads_script(asked)),
     };
-    perform(rt, words, &mut source, output, errors)
+    perform(rt, words, terminals.errors, &mut source, output, errors)
 }
 
 /// Does what the words of the command line say with what is read: the file that they name, or standard input. It answers
@@ -200,18 +263,31 @@ where
 ///
 /// A file that cannot be opened is told, and the status is 2. Where a terminal is read, standard error says so. Behind
 /// the line of a fault what is wrong is told. Where nobody reads any more what is written, the program ends in silence.
+/// A terminal is given no byte that a word of the command line, the name of a file or a peer chose, but a sign of ASCII;
+/// a text as bytes it gets only if that is asked for (`--raw`), else the status is 2.
 pub fn run<R, I, O, E>(rt: &R, input: I, output: O, errors: E) -> ExitCode
 where
     R: Env + AllocGlobal + Files + Print + Eprint,
     I: Read + IsTerminal + Drop,
-    O: Write + Drop,
-    E: Write + Drop,
+    O: Write + IsTerminal + Drop,
+    E: Write + IsTerminal + Drop,
     ensures { exit_status result ≤ 2 }
 {
+    let terminals = Terminals {
+        output: output.is_terminal(),
+        errors: errors.is_terminal(),
+    };
     let mut output = Output::new(output);
     let mut errors = ToWrite::new(errors);
     match words_in(rt) {
-        Ok(words) => run_words(rt, words.as_slice(), input, &mut output, &mut errors),
+        Ok(words) => run_words(
+            rt,
+            words.as_slice(),
+            terminals,
+            input,
+            &mut output,
+            &mut errors,
+        ),
         Err(error) => {
             let _untold = eprintln!(rt; "ncp: {error}");
             ExitCode::from(FAULT)

@@ -2,10 +2,12 @@
 ghost use Rattle.std.specs.Prelude.{◌≡◌, ◌||◌, ◌++◌, ℕ, List, Some, is_err};
 
 use crate::kept::Kept;
+use crate::terminal::push_spelled;
 use ncp_play_audit::{RULES, rule_meaning};
 use ncp_play_command_line::Order;
 use ncp_play_faults::{
-    NAMES, Player, meaning, nearest, wrong_first_line, wrong_header, wrong_line,
+    MESSAGE_WORDS, Meaning, NAMES, Player, REPORT_WORDS, meaning, nearest, word_meaning,
+    wrong_first_line, wrong_header, wrong_line,
 };
 use ncp_play_files::FileFault;
 use ncp_play_follow::{ENDS, end_meaning};
@@ -23,20 +25,11 @@ fn player_of(order: Order) -> Player {
     }
 }
 
-// Adds a sign of a line as it can be shown on any terminal: another than those of ASCII by its number.
-fn push_sign(alloc: Global, text: &mut String, byte: u8) -> Result<(), AllocError> {
-    if byte.is_ascii_graphic() || byte == b' ' {
-        return text.push(char::from(byte));
-    }
-    let number = format!(in alloc; "\\x{byte:02x}")?;
-    text.push_str(number.as_str())
-}
-
 // A line as it can be shown on any terminal, and no more than the first of its signs.
 fn shown(alloc: Global, line: &[u8]) -> Result<String, AllocError> {
     let mut text = String::new(alloc);
     for byte in line.iter().take(SHOWN) {
-        push_sign(alloc, &mut text, *byte)?;
+        push_spelled(&mut text, *byte)?;
     }
     if line.len() > SHOWN {
         text.push_str(" ..")?;
@@ -181,14 +174,33 @@ pub(crate) fn explained(
     }
 }
 
-// All names, in the order of their tables.
-fn all_names(alloc: Global) -> Result<Vec<&'static str>, AllocError> {
-    let mut names = Vec::new(alloc);
-    for table in &[NAMES, RULES, ENDS] {
-        for (name, _) in *table {
+// Adds the names of a table that are not there yet.
+fn add_names(names: &mut Vec<&'static str>, table: &'static [Meaning]) -> Result<(), AllocError> {
+    for (name, _) in table {
+        if !names.as_slice().contains(name) {
             names.push(*name)?;
         }
     }
+    Ok(())
+}
+
+// Adds the words of lines. Two tables in one function would be more than the prover reads.
+fn add_message_words(names: &mut Vec<&'static str>) -> Result<(), AllocError> {
+    add_names(names, MESSAGE_WORDS)
+}
+
+fn add_report_words(names: &mut Vec<&'static str>) -> Result<(), AllocError> {
+    add_names(names, REPORT_WORDS)
+}
+
+// All names and words, in the order of their tables, each once.
+fn all_names(alloc: Global) -> Result<Vec<&'static str>, AllocError> {
+    let mut names = Vec::new(alloc);
+    for table in &[NAMES, RULES, ENDS] {
+        add_names(&mut names, *table)?;
+    }
+    add_message_words(&mut names)?;
+    add_report_words(&mut names)?;
     Ok(names)
 }
 
@@ -217,14 +229,37 @@ fn unknown(alloc: Global, name: &str) -> Result<String, AllocError> {
     let near = hint(alloc, name, names.as_slice())?;
     let all = listed(alloc, names.as_slice())?;
     format!(in alloc;
-        "'{word}' is no name of a fault, a refusal, a rule or an end{near}\nThe names are{all}\n"
+        "'{word}' is no name of a fault, a refusal, a rule or an end, and no word of a line{near}\nThe names are{all}\n"
     )
+}
+
+// All that a name means, each meaning on a line of its own; nothing if it is none.
+fn meanings(alloc: Global, name: &str) -> Result<String, AllocError> {
+    let mut text = String::new(alloc);
+    for meant in &[
+        meaning(name),
+        rule_meaning(name),
+        end_meaning(name),
+        word_meaning(name),
+    ] {
+        if let Some(meant) = meant {
+            text.push_str(indented(alloc, meant)?.as_str())?;
+        }
+    }
+    Ok(text)
+}
+
+// A word without the value that may stand after it, as in `late=3`.
+fn without_value(word: &str) -> &str {
+    word.split('=').next().unwrap_or(word)
 }
 
 /// What is said of a name, and whether it is one.
 pub(crate) fn explanation(alloc: Global, name: &str) -> Result<(String, bool), AllocError> {
-    match meaning(name).or(rule_meaning(name)).or(end_meaning(name)) {
-        Some(text) => Ok((format!(in alloc; "{name}\n  {text}\n")?, true)),
-        None => Ok((unknown(alloc, name)?, false)),
+    let word = without_value(name);
+    let meant = meanings(alloc, word)?;
+    if meant.is_empty() {
+        return Ok((unknown(alloc, name)?, false));
     }
+    Ok((format!(in alloc; "{word}\n{meant}")?, true))
 }

@@ -1,7 +1,6 @@
-//! Captures with the findings that are told of them.
+//! Audits: captures of many connections, the meanings of rules, and memory refused. Captures with their findings are the cases
+//! `audit_*.cases` of `ncp_test_cases`.
 
-mod audited;
-mod captures;
+mod crowded;
 mod refused;
-mod said;
-mod told;
+mod rules;

@@ -19,7 +19,7 @@ Commands:
   host     Plays a script of one host
   world    Plays a script of two to eight hosts and the subnet between them
   record   Plays a script of two to eight hosts, and writes its messages as a message file
-  explain  Says what the name of a fault, of a refusal or of a rule means
+  explain  Says what the name of a fault, of a refusal or of a rule means, or a word of a line
   help     Print this message or the help of the given subcommand(s)
 
 Options:
@@ -33,11 +33,11 @@ Example:
 
 Statuses:
   0  all is good
-  1  'check' or 'audit' says no, or a call of a script was refused, or 'explain' does not know a name
+  1  'check' or 'audit' says no, or a call of a script was refused, or 'explain' does not know a name, or 'follow' a number
   2  a fault, which is told on standard error
 
 The formats of files, scripts and lines stand in docs/FORMATS.md and in ncp(1).
-'ncp explain NAME' says what a fault, a refusal or a rule means.
+'ncp explain NAME' says what a fault, a refusal, a rule or a word of a line means.
 ";
 
 // What `convert --help` writes.
@@ -92,7 +92,15 @@ fn name_of(alloc: Global, words: &[&str]) -> Option<&'static str> {
         Ok(Order::Convert(_)) => Some("convert"),
         Ok(Order::Audit { part: false, .. }) => Some("audit"),
         Ok(Order::Audit { part: true, .. }) => Some("audit of a part"),
+        Ok(
+            Order::Follow {
+                bytes: Some(_),
+                raw: true,
+                ..
+            },
+        ) => Some("follow one raw"),
         Ok(Order::Follow { bytes: Some(_), .. }) => Some("follow one"),
+        Ok(Order::Follow { letters: true, .. }) => Some("follow letters"),
         Ok(Order::Follow { part: false, .. }) => Some("follow"),
         Ok(Order::Follow { part: true, .. }) => Some("follow a part"),
         Ok(Order::Host) => Some("host"),
@@ -127,6 +135,13 @@ fn reads_orders(rt: HostRuntime) {
         ),
         (&["ncp", "follow"], "follow", None),
         (&["ncp", "follow", "--part"], "follow a part", None),
+        (&["ncp", "follow", "--letters"], "follow letters", None),
+        (&["ncp", "follow", "--raw"], "follow", None),
+        (
+            &["ncp", "follow", "--raw", "--bytes", "1"],
+            "follow one raw",
+            None,
+        ),
         (&["ncp", "follow", "--bytes", "1"], "follow one", None),
         (
             &["ncp", "follow", "--bytes=4096", "--part"],

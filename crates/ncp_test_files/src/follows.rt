@@ -1,5 +1,6 @@
-//! Captures with the connections that are told of them.
+//! Connections of captures: a long text, the meanings of ends, and memory refused. Captures with their connections are the cases
+//! `follow_connections.cases` of `ncp_test_cases`.
 
-mod captures;
+mod ends;
+mod long_text;
 mod refused;
-mod texts;

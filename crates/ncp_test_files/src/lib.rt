@@ -1,6 +1,6 @@
-//! Message files, what is told of captures (`audits`, `follows`), the command line and the program, with printed texts,
-//! streams that fail and memory, and a table of connections, as tests of what the crates below show to everybody. They
-//! stand in a crate of their own, since a crate with tests is proved twice.
+//! Streams that fail, memory, captures too large for a case (`audits`, `follows`), printed texts, and the command line, as
+//! tests of what the crates below show to everybody. They stand in a crate of their own, since a crate with tests is proved
+//! twice. What the program prints of an input are the cases of `ncp_test_cases`.
 #![tactic(auto)]
 
 #[cfg(test)]
@@ -22,10 +22,6 @@ mod follows;
 #[cfg(test)]
 mod pieces;
 #[cfg(test)]
-mod program;
-#[cfg(test)]
 mod refused;
 #[cfg(test)]
 mod shown;
-#[cfg(test)]
-mod table;

@@ -1,12 +1,12 @@
-//! What no clause says: that steps of a host with its transcript succeed, and that notes are what the
-//! worked examples say. An example is a list of steps, and runs over both stores.
+//! What stands where a host with its transcript is refused memory, and its notes of what waits and is kept, which no script
+//! asks for. An example is a list of steps, and runs over both stores.
 //!
 //! Where an allocation is made to fail, an example goes on as if it had not: what was refused left all
 //! as it was, and is done again.
 mod noted;
 mod tried;
 
-use crate::known::{DOWN, LINK, ME, NO_COUNTS, OUTWARD, PEER, SENDER, UP};
+use crate::known::{DOWN, LINK, NO_COUNTS, OUTWARD, SENDER, UP};
 use ncp_bits::{BitStore, PackedStore, PlainStore};
 use ncp_host::{CallFault, Counts, HostFault, Ignored, Pair, Received, Took};
 use ncp_terms::{Answer, Command};
@@ -27,16 +27,16 @@ const HEARD_ONE: Want<'static> = Want::In(Received::Control(1));
 
 const HEARD_TWO: Want<'static> = Want::In(Received::Control(2));
 
-/// An example: what it shows, the peer of a new host, the steps that come first, and the others.
-type Example<'a> = (&'a str, u8, &'a [Step<'a>], &'a [Step<'a>]);
+/// An example: what it shows, the steps of a new host that come first, and the others.
+type Example<'a> = (&'a str, &'a [Step<'a>], &'a [Step<'a>]);
 
 /// A new host goes through an example, over one store. Whether a step was refused memory.
 fn goes_over<S: BitStore>(
     rt: &impl Abort,
     alloc: Global,
-    (name, peer, first, steps): &Example<'_>,
+    (name, first, steps): &Example<'_>,
 ) -> Result<bool, HostFault> {
-    let mut host = Tried::<S>::new(alloc, ME, *peer)?;
+    let mut host = Tried::<S>::new(alloc)?;
     host.goes(rt, alloc, name, first);
     host.goes(rt, alloc, name, steps);
     Ok(host.was_refused())
@@ -82,19 +82,10 @@ const CALLED: &[u8] = &[
     4, 2, 0, 2, 0, 0, 0, 24, 5, 2, 128, 0, 7, 2, 3, 0, 0, 0, 4, 0, 0, 0, 5,
 ];
 
-/// RST, RRP, STR and RTS, as they were made.
-const OPENED: &[u8] = &[
-    0, 2, 0, 0, 0, 8, 0, 22, 0, 12, 13, 2, 0, 0, 0, 3, 0, 0, 0, 2, 8, 1, 0, 0, 0, 4, 0, 0, 0, 5, 2,
-];
-
-/// A text of as many bits as a message can have.
-const LONGEST: &[u8] = &[0x61; 1024];
-
 const EXAMPLES: &[Example<'static>] = &[
     // An echo before the host is up, a stray answer, and a second echo before the first is answered.
     (
         "a_stray_answer_and_an_echo_are_noted",
-        PEER,
         NO_STEPS,
         &[
             (Act::Phase, Want::Phase(DOWN)),
@@ -124,7 +115,6 @@ const EXAMPLES: &[Example<'static>] = &[
     // Each call that changes something, once it can be done.
     (
         "calls_are_noted",
-        PEER,
         OPENS,
         &[
             (Act::Give(OUTWARD, &[0x61, 0x62, 0x63]), Want::Done),
@@ -146,36 +136,9 @@ const EXAMPLES: &[Example<'static>] = &[
             (Act::Output, Want::Nothing),
         ],
     ),
-    // A message goes out again after Incomplete Transmission, and after Destination Dead once it is asked for.
-    (
-        "what_goes_out_again_is_noted",
-        PEER,
-        OPENS,
-        &[
-            (Act::Output, Want::Out(OPENED)),
-            (
-                Act::Comes(&[9, PEER, 0, 0]),
-                Want::Answered(0, Answer::Incomplete, Received::Answered),
-            ),
-            (Act::Output, Want::Out(OPENED)),
-            (
-                Act::Comes(&[7, PEER, 0, 0]),
-                Want::Answered(0, Answer::Dead, Received::Answered),
-            ),
-            (Act::Output, Want::Nothing),
-            (Act::Wake, Want::Done),
-            (Act::Output, Want::Out(OPENED)),
-            (
-                Act::Comes(&[5, PEER, 0, 0]),
-                Want::Answered(0, Answer::Rfnm, Received::Answered),
-            ),
-            (Act::Output, Want::Nothing),
-        ],
-    ),
     // What is read, of a connection and of the peer.
     (
         "what_is_read_is_noted",
-        PEER,
         OPENS,
         &[
             (Act::Comes(&[5]), Want::In(Received::Short)),
@@ -200,46 +163,6 @@ const EXAMPLES: &[Example<'static>] = &[
                     other: 0,
                     unknown: 0,
                 }),
-            ),
-        ],
-    ),
-    // Errors of the peer of the greatest number.
-    (
-        "errors_of_peer_255_are_noted",
-        255,
-        NO_STEPS,
-        &[
-            (Act::Reset, Want::Done),
-            (
-                Act::Comes(&[0, 255, 0, 0, 0, 8, 0, 2, 0, 12, 13]),
-                HEARD_TWO,
-            ),
-            (
-                Act::Comes(&[
-                    0, 255, 0, 0, 0, 8, 0, 12, 0, 11, 1, 14, 0, 0, 0, 0, 0, 0, 0, 0, 0,
-                ]),
-                HEARD_ONE,
-            ),
-            (Act::Errors, Want::Errors(1)),
-        ],
-    ),
-    // A text of as many bits as a message can have is given, and waits.
-    (
-        "the_longest_text_is_noted",
-        PEER,
-        NO_STEPS,
-        &[
-            (Act::Comes(&[0, 2, 0, 0, 0, 8, 0, 1, 0, 12]), HEARD_ONE),
-            (Act::AskSend(OUTWARD, 8, 16384), Want::Done),
-            (
-                Act::Comes(&[0, 2, 0, 0, 0, 8, 0, 10, 0, 1, 0, 0, 0, 2, 0, 0, 0, 3, 2]),
-                HEARD_ONE,
-            ),
-            (Act::Give(OUTWARD, LONGEST), Want::Done),
-            (Act::Give(OUTWARD, LONGEST), Want::Done),
-            (
-                Act::Give(OUTWARD, LONGEST),
-                Want::Refused(CallFault::NoRoom),
             ),
         ],
     ),

@@ -1,7 +1,6 @@
 //! Feeds a host. Nothing is promised of it, so that the prover does not follow a page through a long
 //! test.
 mod failures;
-mod lines;
 
 use ncp_bits::PackedStore;
 use ncp_play_feed::feed;
@@ -10,7 +9,6 @@ use ncp_play_page::{Inlet, Outlet, Page, Window};
 use ncp_play_stream::{MemorySink, MemorySource, Sink, Source};
 use ncp_transcript::Alone;
 use std::alloc::Global;
-use std::process::Abort;
 use std::test::Fail;
 
 /// Room for the lines of a feed.
@@ -60,19 +58,4 @@ fn fed<R: Source, W: Sink>(
         return Ok(Err(PlayFault::WriteFailed));
     }
     Ok(answer)
-}
-
-/// Feeds a host with these bytes, and compares the answer and the lines.
-fn expect(
-    rt: &impl Abort,
-    alloc: Global,
-    bytes: &[u8],
-    answer: Result<(), PlayFault>,
-    lines: &[u8],
-) -> Result<(), Fail> {
-    let mut source = MemorySource::new(bytes, None);
-    let mut sink = MemorySink::new(alloc, ROOM, None)?;
-    let answered = fed(alloc, &mut source, &mut sink)?;
-    assert!(rt; answered == answer && sink.bytes() == lines);
-    Ok(())
 }

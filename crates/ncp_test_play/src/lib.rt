@@ -1,6 +1,7 @@
-//! What scripts say (`script`), the worked lines of notes and faults, feeds (`feed`), whole scripts of one host, and of
-//! two and more (`world`), and what is told of mistakes (`mistakes`), as tests of what the crates below show to everybody.
-//! They stand in a crate of their own, since a crate with tests is proved twice.
+//! What no script that is played whole shows: lines in pieces (`script`), lines of notes that no host makes, faults, reads
+//! and writes that fail and memory, of two hosts and more too (`world`), and that what is said of mistakes agrees with the
+//! readers (`mistakes`). Scripts with their lines are in `data/host_*.cases` and `data/world_*.cases` of `ncp_test_cases`. They
+//! stand in a crate of their own, since a crate with tests is proved twice.
 #![tactic(auto)]
 
 #[cfg(test)]
@@ -12,13 +13,9 @@ mod limits;
 #[cfg(test)]
 mod lines;
 #[cfg(test)]
-mod long_line;
-#[cfg(test)]
 mod mistakes;
 #[cfg(test)]
 mod refused;
-#[cfg(test)]
-mod runs;
 #[cfg(test)]
 mod said;
 #[cfg(test)]

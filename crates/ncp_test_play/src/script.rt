@@ -1,6 +1,4 @@
-//! What lines, words, numbers, bits and calls of scripts are.
+//! Lines that come in pieces, and that are read from a source.
 
-mod calls;
 mod lines;
 mod reading;
-mod words;

@@ -1,5 +1,5 @@
-//! A script that is played a byte at a time, or in one piece.
-use ncp_bits::{BitStore, PackedStore};
+//! A script that is played a byte at a time.
+use ncp_bits::PackedStore;
 use ncp_play_host::play_host;
 use ncp_play_notes::PlayFault;
 use ncp_play_stream::{MemorySink, MemorySource, Sink, Source};
@@ -46,17 +46,4 @@ pub(crate) fn play(
         Some(play_host::<PackedStore, _, _>(alloc, &mut source, &mut sink))
     };
     Ok(Played { answer, sink })
-}
-
-/// Plays a script in one piece with this store. Whether this was answered, and these lines written.
-pub(crate) fn is_played_whole<S: BitStore>(
-    alloc: Global,
-    script: &[u8],
-    wanted: Result<bool, PlayFault>,
-    lines: &[u8],
-) -> Result<bool, Fail> {
-    let mut source = MemorySource::new(script, None);
-    let mut sink = MemorySink::new(alloc, ROOM, None)?;
-    let answer = play_host::<S, _, _>(alloc, &mut source, &mut sink);
-    Ok(answer == wanted && sink.bytes() == lines)
 }

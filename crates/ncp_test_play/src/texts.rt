@@ -10,19 +10,6 @@ pub(crate) fn joined(alloc: Global, texts: &[&[u8]]) -> Result<Vec<u8>, AllocErr
     Ok(all)
 }
 
-/// These texts, and others behind them.
-pub(crate) fn joined_behind(
-    alloc: Global,
-    texts: &[&[u8]],
-    behind: &[&[u8]],
-) -> Result<Vec<u8>, AllocError> {
-    let mut all = joined(alloc, texts)?;
-    for text in behind {
-        all.extend_from_slice(text)?;
-    }
-    Ok(all)
-}
-
 /// So many times the same line.
 pub(crate) fn repeated(alloc: Global, line: &[u8], count: u32) -> Result<Vec<u8>, AllocError> {
     let mut lines = Vec::new(alloc);

@@ -1,13 +1,8 @@
-//! Scripts of two hosts, and of two to eight: their lines, and their recordings, byte for byte.
+//! Scripts of two hosts, and of two to eight, as no file of cases can play them: over either store, where a read, a write
+//! or a request for memory fails, and with thousands of lines. `world_*.cases` of `ncp_test_cases` have all others.
 
-mod faults;
-mod ledgers;
 mod limits;
-mod many;
 mod opening;
 mod played;
-mod recorded;
 pub(crate) mod refused;
-mod scripts;
-mod settled;
 mod streams;

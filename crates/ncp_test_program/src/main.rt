@@ -1,6 +1,6 @@
-//! Stored runs of the program `ncp`: each subcommand with each status that it has, and with a closed input and a closed
-//! output, over bytes in memory. After them stand a worked use of the players and one of two hosts, and then the program
-//! itself plays the script that its command line names, and leaves with its status.
+//! Stored runs of the program `ncp`: what it prints by itself, and each subcommand with a closed input and a closed output,
+//! over bytes in memory. After them stand a worked use of the players and one of two hosts, and then the program itself
+//! plays the script that its command line names, and leaves with its status.
 #![tactic(auto)]
 
 mod letter;

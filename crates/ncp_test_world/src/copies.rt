@@ -1,15 +1,9 @@
 //! Copies of events among many hosts.
+use crate::events::{SENDER, bits_of};
 use crate::refused::is_same;
-use crate::wanted::bits_of;
-use ncp_host::Pair;
 use ncp_many::ManyEvent;
 use ncp_transcript::{Call, Message};
 use std::test::Fail;
-
-const PAIR: Pair = Pair {
-    local: 3,
-    remote: 2,
-};
 
 /// A copy of a call has its numbers and its text, also when the call is gone.
 #[test]
@@ -19,7 +13,7 @@ fn a_copy_of_a_call_has_its_text(rt: HostRuntime) -> Result<(), Fail> {
         host: 3,
         call: Call::Give {
             peer: 1,
-            pair: PAIR,
+            pair: SENDER,
             text: Message::from_bits(rt.alloc(), &text)?,
         },
     };
@@ -33,7 +27,7 @@ fn a_copy_of_a_call_has_its_text(rt: HostRuntime) -> Result<(), Fail> {
                 pair,
                 text: copied,
             },
-        } => *pair == PAIR && copied.to_bits() == text,
+        } => *pair == SENDER && copied.to_bits() == text,
         _ => false,
     };
     assert!(rt; same);

@@ -1,6 +1,6 @@
-//! The events of the first script, and how events are written.
+//! A connection of two hosts, and the events by which it opens and a text goes over it.
 use crate::tried::{A, B};
-use crate::wanted::bits_of;
+use ncp_bits::Bits;
 use ncp_host::Pair;
 use ncp_transcript::{Call, Message};
 use ncp_world::{Event, Side};
@@ -21,17 +21,12 @@ pub(super) const RECEIVER: Pair = Pair {
     remote: 3,
 };
 
-pub(super) const RESET_A: Event = Event::Call {
+pub(super) const RESET: Event = Event::Call {
     side: Side::A,
     call: Call::Reset { peer: B },
 };
 
-pub(super) const RESET_B: Event = Event::Call {
-    side: Side::B,
-    call: Call::Reset { peer: A },
-};
-
-pub(super) const ASK_RECEIVE: Event = Event::Call {
+const ASK_RECEIVE: Event = Event::Call {
     side: Side::B,
     call: Call::AskReceive {
         peer: A,
@@ -41,7 +36,7 @@ pub(super) const ASK_RECEIVE: Event = Event::Call {
     },
 };
 
-pub(super) const ASK_SEND: Event = Event::Call {
+const ASK_SEND: Event = Event::Call {
     side: Side::A,
     call: Call::AskSend {
         peer: B,
@@ -63,29 +58,13 @@ const ALLOCATE: Event = Event::Call {
     },
 };
 
-/// Half of it is called back.
-const CALL_BACK: Event = Event::Call {
-    side: Side::B,
-    call: Call::CallBack {
-        peer: A,
-        pair: RECEIVER,
-        fm: 64,
-        fb: 64,
-    },
-};
-
-pub(super) const TAKE: Event = Event::Call {
+const TAKE: Event = Event::Call {
     side: Side::B,
     call: Call::Take {
         peer: A,
         pair: RECEIVER,
         bytes: 100,
     },
-};
-
-const WAKE: Event = Event::Call {
-    side: Side::A,
-    call: Call::Wake { peer: B },
 };
 
 const STATE: Event = Event::Call {
@@ -96,216 +75,99 @@ const STATE: Event = Event::Call {
     },
 };
 
-/// The connection is closed by its sender, and by its receiver.
-pub(super) const CLOSE_A: Event = Event::Call {
+const OUT_A: Event = Event::Out { side: Side::A };
+
+const OUT_B: Event = Event::Out { side: Side::B };
+
+const DELIVER_A: Event = Event::Deliver {
     side: Side::A,
-    call: Call::Close {
-        peer: B,
-        pair: SENDER,
-    },
+    link: 0,
 };
 
-pub(super) const CLOSE_B: Event = Event::Call {
+const ANSWER_A: Event = Event::Answer {
+    side: Side::A,
+    link: 0,
+};
+
+const DELIVER_B: Event = Event::Deliver {
     side: Side::B,
-    call: Call::Close {
-        peer: A,
-        pair: RECEIVER,
-    },
+    link: 0,
 };
 
-pub(super) fn out(side: Side) -> Event {
-    Event::Out { side }
-}
+const ANSWER_B: Event = Event::Answer {
+    side: Side::B,
+    link: 0,
+};
 
-pub(super) fn deliver(side: Side, link: u8) -> Event {
-    Event::Deliver { side, link }
-}
+const TEXT_COMES: Event = Event::Deliver {
+    side: Side::A,
+    link: LINK,
+};
 
-pub(super) fn answer(side: Side, link: u8) -> Event {
-    Event::Answer { side, link }
-}
+const TEXT_IS_ANSWERED: Event = Event::Answer {
+    side: Side::A,
+    link: LINK,
+};
 
-/// An event of a list of events, of which all but the giving of a text are so written.
-#[derive(Clone, Copy, Drop)]
-pub(super) enum Act {
-    /// The hosts come up by a call of side A.
-    Reset,
-    AskReceive,
-    AskSend,
-    /// Two messages of 16 bits are allowed.
-    Allocate,
-    /// Half of it is called back.
-    CallBack,
-    Take,
-    State,
-    Wake,
-    /// A host is asked for a message.
-    Out(Side),
-    /// The message of a side on a link.
-    Deliver(Side, u8),
-    Lose(Side, u8),
-    Dead(Side, u8),
-    Answer(Side, u8),
-}
-
-fn event_of(act: Act) -> Event {
-    match act {
-        Act::Out(side) => Event::Out { side },
-        Act::Deliver(side, link) => Event::Deliver { side, link },
-        Act::Lose(side, link) => Event::Lose { side, link },
-        Act::Dead(side, link) => Event::Dead { side, link },
-        Act::Answer(side, link) => Event::Answer { side, link },
-        Act::AskReceive => ASK_RECEIVE,
-        Act::Allocate => ALLOCATE,
-        Act::CallBack => CALL_BACK,
-        Act::Take => TAKE,
-        _ => of_sender(act),
-    }
-}
-
-fn of_sender(act: Act) -> Event {
-    match act {
-        Act::AskSend => ASK_SEND,
-        Act::State => STATE,
-        Act::Wake => WAKE,
-        _ => RESET_A,
-    }
-}
-
-/// Adds events behind others.
-pub(super) fn push(events: &mut Vec<Event>, more: &[Act]) -> Result<(), AllocError> {
-    for act in more {
-        events.push(event_of(*act))?;
-    }
-    Ok(())
-}
-
-/// Both hosts come up, and ask for the connection.
-const ASKING: &[Act] = &[
-    Act::Reset,
-    Act::Out(Side::A),
-    Act::Deliver(Side::A, 0),
-    Act::Answer(Side::A, 0),
-    Act::Out(Side::B),
-    Act::Deliver(Side::B, 0),
-    Act::Answer(Side::B, 0),
-    Act::AskReceive,
-    Act::AskSend,
+/// Both hosts come up, and the connection opens.
+const OPENING: [Event; 15] = [
+    RESET,
+    OUT_A,
+    DELIVER_A,
+    ANSWER_A,
+    OUT_B,
+    DELIVER_B,
+    ANSWER_B,
+    ASK_RECEIVE,
+    ASK_SEND,
+    OUT_B,
+    DELIVER_B,
+    ANSWER_B,
+    OUT_A,
+    DELIVER_A,
+    ANSWER_A,
 ];
 
-/// It opens, and two messages of 16 bits are allowed.
-const OPENING: &[Act] = &[
-    Act::Out(Side::B),
-    Act::Deliver(Side::B, 0),
-    Act::Answer(Side::B, 0),
-    Act::Out(Side::A),
-    Act::Deliver(Side::A, 0),
-    Act::Answer(Side::A, 0),
-    Act::Allocate,
-    Act::Out(Side::B),
-    Act::Deliver(Side::B, 0),
-    Act::Answer(Side::B, 0),
+/// A text that was given is allowed, goes out, comes and is taken.
+const TEXT_GOES: [Event; 9] = [
+    ALLOCATE,
+    OUT_B,
+    DELIVER_B,
+    ANSWER_B,
+    OUT_A,
+    TEXT_COMES,
+    TEXT_IS_ANSWERED,
+    STATE,
+    TAKE,
 ];
 
-/// The connection opens and has an allocation.
-pub(super) fn allocated(alloc: Global) -> Result<Vec<Event>, AllocError> {
+pub(super) fn bits_of(rt: &impl Abort, bytes: &[u8]) -> Bits {
+    Bits::from_bytes(bytes, bytes.len().saturating_mul(8)).expect(rt, "room")
+}
+
+/// The connection opens, and so many times a text is given, goes out, comes and is taken.
+pub(super) fn texts(
+    rt: &impl Abort,
+    alloc: Global,
+    text: &[u8],
+    count: usize,
+) -> Result<Vec<Event>, AllocError> {
+    let text = bits_of(rt, text);
     let mut events = Vec::new(alloc);
-    push(&mut events, ASKING)?;
-    push(&mut events, OPENING)?;
-    Ok(events)
-}
-
-/// Three bytes are given, and two go out; and then these.
-pub(super) fn beginning(
-    rt: &impl Abort,
-    alloc: Global,
-    behind: &[Act],
-) -> Result<Vec<Event>, AllocError> {
-    let text = Message::from_bits(alloc, &bits_of(rt, b"abc"))?;
-    let mut events = allocated(alloc)?;
-    let call = Call::Give {
-        peer: B,
-        pair: SENDER,
-        text,
-    };
-    let side = Side::A;
-    events.push(Event::Call { side, call })?;
-    events.push(out(side))?;
-    push(&mut events, behind)?;
-    Ok(events)
-}
-
-/// A script.
-#[derive(Clone, Copy, Drop)]
-pub(super) enum Script {
-    OneConnection,
-    LostTwice,
-    /// The text finds its destination dead, and is held until the user asks for it.
-    DeadAndWoken,
-    /// Half of what is allowed is called back, in place of a text that is given.
-    CalledBack,
-}
-
-/// What is behind the beginning: the text comes and is taken, and no more goes out.
-const ENDING: &[Act] = &[
-    Act::Deliver(Side::A, LINK),
-    Act::Answer(Side::A, LINK),
-    Act::Take,
-    Act::State,
-    Act::Out(Side::A),
-];
-
-/// What is behind the beginning where the text is lost twice.
-const LOST_TWICE: &[Act] = &[
-    Act::Lose(Side::A, LINK),
-    Act::Answer(Side::A, LINK),
-    Act::Out(Side::A),
-    Act::Lose(Side::A, LINK),
-    Act::Answer(Side::A, LINK),
-    Act::Out(Side::A),
-    Act::Deliver(Side::A, LINK),
-    Act::Answer(Side::A, LINK),
-    Act::Deliver(Side::A, LINK),
-    Act::Take,
-    Act::Take,
-];
-
-/// What is behind the beginning where the text finds its destination dead.
-const DEAD_AND_WOKEN: &[Act] = &[
-    Act::Dead(Side::A, LINK),
-    Act::Answer(Side::A, LINK),
-    Act::Out(Side::A),
-    Act::Wake,
-    Act::Out(Side::A),
-    Act::Deliver(Side::A, LINK),
-    Act::Answer(Side::A, LINK),
-];
-
-/// What is behind the allocation where half of it is called back.
-const CALLED_BACK: &[Act] = &[
-    Act::CallBack,
-    Act::Out(Side::B),
-    Act::Deliver(Side::B, 0),
-    Act::Answer(Side::B, 0),
-    Act::Out(Side::A),
-    Act::Deliver(Side::A, 0),
-    Act::Answer(Side::A, 0),
-];
-
-/// All events of a script.
-pub(super) fn events_of(
-    rt: &impl Abort,
-    alloc: Global,
-    script: Script,
-) -> Result<Vec<Event>, AllocError> {
-    match script {
-        Script::OneConnection => beginning(rt, alloc, ENDING),
-        Script::LostTwice => beginning(rt, alloc, LOST_TWICE),
-        Script::DeadAndWoken => beginning(rt, alloc, DEAD_AND_WOKEN),
-        Script::CalledBack => {
-            let mut events = allocated(alloc)?;
-            push(&mut events, CALLED_BACK)?;
-            Ok(events)
+    for event in OPENING {
+        events.push(event)?;
+    }
+    for _ in 0..count {
+        let call = Call::Give {
+            peer: B,
+            pair: SENDER,
+            text: Message::from_bits(alloc, &text)?,
+        };
+        let side = Side::A;
+        events.push(Event::Call { side, call })?;
+        for event in TEXT_GOES {
+            events.push(event)?;
         }
     }
+    Ok(events)
 }

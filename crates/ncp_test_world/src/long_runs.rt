@@ -1,13 +1,12 @@
 //! Runs of 5,000 events, with ample memory: each is answered Ok, however many stand noted before it.
-use crate::events::{Act, LINK, SENDER, allocated, push};
+use crate::events::{bits_of, texts};
 use crate::many::THREE;
 use crate::many_tried::ManyTried;
 use crate::tried::{A, B, Tried};
-use crate::wanted::{Wanted, bits_of, says};
 use ncp_bits::{BitStore, PackedStore};
 use ncp_many::ManyEvent;
-use ncp_transcript::{Alone, Call, Input, Message};
-use ncp_world::{Event, Side};
+use ncp_transcript::{Alone, Call, HostNote, Input};
+use ncp_world::Note;
 use std::alloc::{AllocError, Global};
 use std::process::Abort;
 use std::test::Fail;
@@ -18,59 +17,29 @@ const ROUNDS: usize = 500;
 /// The text of a round of two hosts.
 const TEXT: &[u8] = b"ab";
 
-/// What stands in a round of two hosts behind the giving of a text: it is allowed, goes, comes and is taken.
-const ROUND: &[Act] = &[
-    Act::Allocate,
-    Act::Out(Side::B),
-    Act::Deliver(Side::B, 0),
-    Act::Answer(Side::B, 0),
-    Act::Out(Side::A),
-    Act::Deliver(Side::A, LINK),
-    Act::Answer(Side::A, LINK),
-    Act::State,
-    Act::Take,
-];
-
-/// A connection opens, and a text goes over it in each round.
-fn rounds(rt: &impl Abort, alloc: Global) -> Result<Vec<Event>, AllocError> {
-    let mut events = allocated(alloc)?;
-    for _ in 0..ROUNDS {
-        let call = Call::Give {
-            peer: B,
-            pair: SENDER,
-            text: Message::from_bits(alloc, &bits_of(rt, TEXT))?,
-        };
-        let side = Side::A;
-        events.push(Event::Call { side, call })?;
-        push(&mut events, ROUND)?;
+/// Whether a note says that the text was taken.
+fn is_taken(rt: &impl Abort, note: &Note) -> bool {
+    match note {
+        Note::Called {
+            note: HostNote::Took { text, .. },
+            ..
+        } => text.to_bits() == bits_of(rt, TEXT),
+        _ => false,
     }
-    Ok(events)
-}
-
-/// Steps through all events, each answered Ok; and the last text was taken.
-fn steps_through<S: BitStore>(
-    rt: &impl Abort,
-    alloc: Global,
-    events: &[Event],
-) -> Result<(), AllocError> {
-    let mut tried = Tried::<S>::new(alloc)?;
-    for event in events {
-        assert!(rt; tried.steps(event));
-    }
-    let notes = tried.notes();
-    assert!(rt; notes.len() == events.len());
-    match notes.last() {
-        Some(note) => assert!(rt; says(rt, note, &Wanted::Took(TEXT))),
-        None => assert!(rt; false),
-    }
-    Ok(())
 }
 
 #[test]
 fn two_hosts(rt: HostRuntime) -> Result<(), Fail> {
-    let events = rounds(&rt, rt.alloc())?;
-    steps_through::<PackedStore>(&rt, rt.alloc(), &events)?;
-    assert!(rt; Tried::<PackedStore>::run_once(rt.alloc(), &events).is_ok());
+    let events = texts(&rt, rt.alloc(), TEXT, ROUNDS)?;
+    let mut tried = Tried::<PackedStore>::new(rt.alloc())?;
+    for event in &events {
+        assert!(rt; tried.steps(event));
+    }
+    let Some(last) = tried.notes().last() else {
+        return Err("no notes".into());
+    };
+    assert!(rt; tried.notes().len() == events.len() && is_taken(&rt, last));
+    assert!(rt; Tried::<PackedStore>::run(rt.alloc(), &events).is_ok());
     Ok(())
 }
 
@@ -132,7 +101,7 @@ fn three_hosts(rt: HostRuntime) -> Result<(), Fail> {
         assert!(rt; tried.steps(event));
     }
     assert!(rt; tried.notes().len() == events.len() && tried.is_up(1, 2) && tried.is_up(2, 1));
-    assert!(rt; ManyTried::<PackedStore>::run_once(rt.alloc(), &THREE, &events).is_ok());
+    assert!(rt; ManyTried::<PackedStore>::run(rt.alloc(), &THREE, &events).is_ok());
     Ok(())
 }
 

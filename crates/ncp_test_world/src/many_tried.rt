@@ -4,7 +4,6 @@ use ncp_bits::BitStore;
 use ncp_host::Pair;
 use ncp_many::{Many, ManyEvent, ManyFault, ManyNote};
 use std::alloc::Global;
-use std::process::Abort;
 
 /// Hosts under test, as `Tried` has a world.
 #[derive(Drop)]
@@ -13,14 +12,13 @@ pub(super) struct ManyTried<S: BitStore> {
 }
 
 impl<S: BitStore> ManyTried<S> {
-    /// New hosts, made by one call.
-    pub(super) fn once(alloc: Global, hosts: &[u8]) -> Result<Self, ManyFault> {
+    pub(super) fn new(alloc: Global, hosts: &[u8]) -> Result<Self, ManyFault> {
         let many = Many::new(alloc, hosts)?;
         Ok(ManyTried { many })
     }
 
     /// Hosts after these events, made by one call.
-    pub(super) fn run_once(
+    pub(super) fn run(
         alloc: Global,
         hosts: &[u8],
         events: &[ManyEvent],
@@ -29,32 +27,8 @@ impl<S: BitStore> ManyTried<S> {
         Ok(ManyTried { many })
     }
 
-    /// New hosts, made once more where memory is refused.
-    pub(super) fn new(alloc: Global, hosts: &[u8]) -> Result<Self, ManyFault> {
-        match ManyTried::once(alloc, hosts) {
-            Ok(tried) => Ok(tried),
-            Err(_) => ManyTried::once(alloc, hosts),
-        }
-    }
-
-    /// Hosts after these events, made once more where memory is refused.
-    pub(super) fn run(
-        alloc: Global,
-        hosts: &[u8],
-        events: &[ManyEvent],
-    ) -> Result<Self, ManyFault> {
-        match ManyTried::run_once(alloc, hosts, events) {
-            Ok(tried) => Ok(tried),
-            Err(_) => ManyTried::run_once(alloc, hosts, events),
-        }
-    }
-
     pub(super) fn notes(&self) -> &[ManyNote] {
         self.many.transcript()
-    }
-
-    pub(super) fn is_there(&self, host: u8) -> bool {
-        self.many.host(host).is_some()
     }
 
     /// Whether a host is up with another.
@@ -85,12 +59,12 @@ impl<S: BitStore> ManyTried<S> {
     }
 
     /// Whether settling is answered Ok.
-    pub(super) fn settles_once(&mut self) -> bool {
+    pub(super) fn settles(&mut self) -> bool {
         self.many.settle().is_ok()
     }
 
     /// Whether there was an event to go on by; none where memory is refused.
-    pub(super) fn goes_on_once(&mut self) -> Option<bool> {
+    pub(super) fn goes_on(&mut self) -> Option<bool> {
         self.many.go_on().ok()
     }
 
@@ -100,18 +74,5 @@ impl<S: BitStore> ManyTried<S> {
             Some(host) => Some(reading_of(host, peer)),
             None => None,
         }
-    }
-
-    /// Steps once. Where memory is refused nothing has happened, and the same event is given again.
-    pub(super) fn does(&mut self, rt: &impl Abort, event: &ManyEvent) {
-        let many = self.notes().len();
-        assert!(rt; self.steps(event) || (self.notes().len() == many && self.steps(event)));
-    }
-
-    /// Settles, and answers how many events that made. Where memory is refused once, the rest is asked for again.
-    pub(super) fn settles(&mut self, rt: &impl Abort) -> usize {
-        let many = self.notes().len();
-        assert!(rt; self.settles_once() || self.settles_once());
-        self.notes().len().saturating_sub(many)
     }
 }

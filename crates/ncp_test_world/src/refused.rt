@@ -51,7 +51,7 @@ fn wants_memory(note: &HostNote) -> bool {
 }
 
 /// Hosts with their subnet: two, or more.
-trait Hosts: Drop + Sized {
+pub(super) trait Hosts: Drop + Sized {
     type Event;
 
     type Note: Debug;

@@ -1,6 +1,6 @@
 //! The subnet by itself, by the names that `ncp_world` passes on.
+use crate::events::bits_of;
 use crate::tried::{A, B};
-use crate::wanted::bits_of;
 use ncp_world::{Subnet, SubnetFault};
 use std::alloc::Global;
 use std::process::Abort;

@@ -41,7 +41,7 @@ ChecksBytes bytes answer line = (left : Option (List ℕ)) × Checked bytes [] l
 
 -- the lines of the connections of a message file: of a whole capture or of a part
 abbrev pub FollowsBytes : Bool → List ℕ → Result Unit FileFault → List ℕ → Type 0
-FollowsBytes part bytes answer lines = (left : Option (List ℕ)) × Follows (new_follower part) bytes [] left (Some lines) answer
+FollowsBytes part bytes answer lines = (left : Option (List ℕ)) × Follows false (new_follower part) bytes [] left (Some lines) answer
 
 -- the lines of the findings of a message file, and whether there is none: of a whole capture or of a part, by all rules or
 -- by those of the standard alone

@@ -64,7 +64,7 @@ pub extern "C" fn ncp_web_wrong_first_line(
     hand_out_made(wrong, out, written)
 }
 
-/// What the name of a fault, a refusal, a rule or an end of a connection means, as `ncp explain` has it.
+/// What the name of a fault, a refusal, a rule or an end of a connection means, as `ncp explain` has it first.
 ///
 /// Refused, in this order, and nothing is written: `NOTHING` (it is no such name), `FULL`.
 #[unsafe(no_mangle)]

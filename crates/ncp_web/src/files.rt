@@ -47,7 +47,7 @@ fn followed(
         return None;
     };
     let mut source = MemorySource::new(input, None);
-    Some(follow(&mut follower, &mut source, sink))
+    Some(follow(&mut follower, false, &mut source, sink))
 }
 
 // Audits the bytes of a message file, with the lines of the findings in an empty sink, if there is memory for it.

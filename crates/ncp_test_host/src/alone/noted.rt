@@ -1,7 +1,8 @@
 //! What an example does to a host, and what is wanted of its notes, as values.
-use crate::known::bits_of;
+use crate::known::PEER;
 use ncp_host::{CallFault, Counts, Flags, Ignored, Pair, Received, Record};
 use ncp_terms::{Answer, Command};
+use ncp_test_parts::known::bits_of;
 use ncp_transcript::{Call, HostNote, Input, Message};
 use std::alloc::Global;
 use std::process::Abort;
@@ -73,16 +74,16 @@ fn message_of(rt: &impl Abort, alloc: Global, bytes: &[u8]) -> Message {
 }
 
 /// The input that an act is.
-pub(super) fn input_of(rt: &impl Abort, alloc: Global, peer: u8, act: &Act<'_>) -> Input {
+pub(super) fn input_of(rt: &impl Abort, alloc: Global, act: &Act<'_>) -> Input {
     match act {
         Act::Comes(bytes) => Input::In(bits_of(rt, bytes)),
         Act::Output => Input::Out,
         Act::Give(pair, bytes) => Input::Call(Call::Give {
-            peer,
+            peer: PEER,
             pair: *pair,
             text: message_of(rt, alloc, bytes),
         }),
-        _ => Input::Call(call_of(peer, act)),
+        _ => Input::Call(call_of(PEER, act)),
     }
 }
 

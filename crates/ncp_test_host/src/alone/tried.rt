@@ -1,7 +1,7 @@
 //! A host with its transcript that goes through the steps of an example.
 use super::INWARD;
 use super::noted::{Step, Want, input_of, says};
-use crate::known::{LINK, OUTWARD};
+use crate::known::{LINK, ME, OUTWARD, PEER};
 use ncp_bits::BitStore;
 use ncp_host::{CallFault, Counts, Flags, HostFault, Ignored, Record};
 use ncp_terms::Command;
@@ -27,20 +27,18 @@ struct Reading {
 #[derive(Drop)]
 pub(super) struct Tried<S: BitStore> {
     alone: Alone<S>,
-    peer: u8,
     refused: bool,
 }
 
 impl<S: BitStore> Tried<S> {
-    /// A new host with one peer.
-    pub(super) fn new(alloc: Global, me: u8, peer: u8) -> Result<Self, HostFault> {
-        let alone = match Alone::new(alloc, me, &[peer]) {
-            Err(HostFault::OutOfMemory) => Alone::new(alloc, me, &[peer])?,
+    /// A new host with its peer.
+    pub(super) fn new(alloc: Global) -> Result<Self, HostFault> {
+        let alone = match Alone::new(alloc, ME, &[PEER]) {
+            Err(HostFault::OutOfMemory) => Alone::new(alloc, ME, &[PEER])?,
             first => first?,
         };
         Ok(Tried {
             alone,
-            peer,
             refused: false,
         })
     }
@@ -58,7 +56,7 @@ impl<S: BitStore> Tried<S> {
     }
 
     fn does(&mut self, rt: &impl Abort, alloc: Global, (act, want): &Step<'_>) -> bool {
-        let input = input_of(rt, alloc, self.peer, act);
+        let input = input_of(rt, alloc, act);
         self.is_done(&input) && self.has_noted(rt, want)
     }
 
@@ -100,15 +98,15 @@ impl<S: BitStore> Tried<S> {
     fn read(&self) -> Reading {
         let host = self.alone.host();
         Reading {
-            flags: host.phase(self.peer),
-            outward: host.state(self.peer, OUTWARD),
-            inward: host.state(self.peer, INWARD),
-            counts: host.counts(self.peer),
-            echoed: host.echoed(self.peer),
-            waiting: [host.waiting(self.peer, 0), host.waiting(self.peer, 1)],
+            flags: host.phase(PEER),
+            outward: host.state(PEER, OUTWARD),
+            inward: host.state(PEER, INWARD),
+            counts: host.counts(PEER),
+            echoed: host.echoed(PEER),
+            waiting: [host.waiting(PEER, 0), host.waiting(PEER, 1)],
             keeps: [
-                host.kept(self.peer, 0).is_some(),
-                host.kept(self.peer, LINK).is_some(),
+                host.kept(PEER, 0).is_some(),
+                host.kept(PEER, LINK).is_some(),
             ],
             ignored: host.ignored(),
         }

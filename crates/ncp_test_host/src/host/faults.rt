@@ -1,6 +1,6 @@
 //! The numbers, names and texts of the reasons why there is no host.
-use crate::known::{is_shown, is_told};
 use ncp_host::HostFault;
+use ncp_test_parts::known::{is_shown, is_told};
 use std::test::Fail;
 
 fn number_of(fault: HostFault) -> u8 {

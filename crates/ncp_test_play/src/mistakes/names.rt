@@ -1,6 +1,6 @@
 //! What names mean.
 
-use ncp_play_faults::{NAMES, meaning, nearest};
+use ncp_play_faults::{NAMES, in_signs, meaning, nearest, word_meaning};
 use std::process::Abort;
 
 // All names, each with its meaning. The prover need not read them where they are used.
@@ -39,5 +39,33 @@ fn near_words_are_found(rt: HostRuntime) {
     ];
     for (word, near) in ROWS {
         assert!(rt; nearest(word, KNOWN) == *near, "{word}");
+    }
+    // The nearest, and of two that are as near the first.
+    assert!(rt; nearest("rests", &["reset", "rest"]) == Some("rest"));
+    assert!(rt; nearest("resat", &["reset", "resit"]) == Some("reset"));
+}
+
+#[test]
+fn words_have_their_meanings(rt: HostRuntime) {
+    assert!(rt;
+        word_meaning("admitted")
+            == Some("The receiver had allowed the text, and holds it until its user takes it.")
+    );
+    assert!(rt; word_meaning("BadLine").is_none() && word_meaning("").is_none());
+}
+
+#[test]
+fn bytes_are_spelled(rt: HostRuntime) {
+    const ROWS: &[(u8, &[u8])] = &[
+        (b'a', b"a"),
+        (b' ', b" "),
+        (b'~', b"~"),
+        (b'\\', b"\\"),
+        (0x1F, b"\\x1f"),
+        (0x7F, b"\\x7f"),
+        (0xE9, b"\\xe9"),
+    ];
+    for (byte, signs) in ROWS {
+        assert!(rt; in_signs(*byte).as_bytes() == *signs, "{byte}");
     }
 }

@@ -1,5 +1,5 @@
-//! The beginning that most scripts have: both hosts come up, a connection opens, three bytes are given, and the first
-//! message with two of them goes out. Each of its parts has the lines that are printed of it, and the records.
+//! The beginning of a script: both hosts come up, a connection opens, three bytes are given, and the first message with
+//! two of them goes out. Each of its parts has the lines that are printed of it, and the records.
 //!
 //! A record is a direction, a host, a number of bits, and then a leader and what follows it.
 
@@ -101,41 +101,3 @@ pub(crate) const SENDING_LINES: &[u8] = b"21 a out host=2 link=2 bits=88
 /// Two bytes of text on link 2.
 pub(crate) const SENDING_RECORDS: &[u8] =
     b"H\x01\x00\x58\x00\x02\x02\x00\x00\x08\x00\x02\x00\x61\x62";
-
-/// How far the beginning goes.
-#[derive(Clone, Copy, Drop)]
-pub(crate) enum Beginning {
-    /// Both hosts are up.
-    Up,
-    /// Three bytes are given.
-    Given,
-    /// Two of them go out.
-    Sent,
-}
-
-impl Beginning {
-    /// The script, its lines, and its records, in parts.
-    pub(crate) fn script(self) -> &'static [&'static [u8]] {
-        match self {
-            Beginning::Up => &[HOSTS, COMING_UP],
-            Beginning::Given => &[HOSTS, COMING_UP, GIVING],
-            Beginning::Sent => &[HOSTS, COMING_UP, GIVING, SENDING],
-        }
-    }
-
-    pub(crate) fn lines(self) -> &'static [&'static [u8]] {
-        match self {
-            Beginning::Up => &[COMING_UP_LINES],
-            Beginning::Given => &[COMING_UP_LINES, GIVING_LINES],
-            Beginning::Sent => &[COMING_UP_LINES, GIVING_LINES, SENDING_LINES],
-        }
-    }
-
-    pub(crate) fn records(self) -> &'static [&'static [u8]] {
-        match self {
-            Beginning::Up => &[HEADER, COMING_UP_RECORDS],
-            Beginning::Given => &[HEADER, COMING_UP_RECORDS, GIVING_RECORDS],
-            Beginning::Sent => &[HEADER, COMING_UP_RECORDS, GIVING_RECORDS, SENDING_RECORDS],
-        }
-    }
-}

@@ -1,6 +1,5 @@
 //! Plays and records scripts. Nothing is promised of it, so that the prover does not follow a page through a long
 //! test.
-use crate::texts::joined;
 use ncp_bits::{PackedStore, PlainStore};
 use ncp_play_notes::PlayFault;
 use ncp_play_stream::{MemorySink, MemorySource, Sink, Source};
@@ -26,8 +25,6 @@ pub(crate) enum Store {
     Plain,
     Packed,
 }
-
-const STORES: [Store; 2] = [Store::Packed, Store::Plain];
 
 /// A script, and how it is read and written.
 #[derive(Drop)]
@@ -112,68 +109,4 @@ pub(crate) fn play(rt: &impl Abort, alloc: Global, how: &Run<'_>) -> Result<Play
         answer,
         sink: sink.sink,
     })
-}
-
-/// A script, what it answers, and what is written of it.
-#[derive(Drop)]
-pub(crate) struct Case<'a> {
-    pub(crate) name: &'a str,
-    pub(crate) script: &'a [u8],
-    pub(crate) answer: Result<bool, PlayFault>,
-    pub(crate) written: &'a [u8],
-}
-
-/// Compares a case, over either store.
-pub(crate) fn expect(
-    rt: &impl Abort,
-    alloc: Global,
-    doing: Doing,
-    case: &Case<'_>,
-) -> Result<(), Fail> {
-    let name = case.name;
-    for store in STORES {
-        let played = play(rt, alloc, &whole(doing, store, case.script))?;
-        assert!(rt; played.answer == case.answer, "{name}");
-        assert!(rt; played.written() == case.written, "{name}");
-    }
-    Ok(())
-}
-
-/// A case whose texts are in parts.
-pub(crate) struct Row {
-    pub(crate) name: &'static str,
-    pub(crate) script: &'static [&'static [u8]],
-    pub(crate) answer: Result<bool, PlayFault>,
-    pub(crate) written: &'static [&'static [u8]],
-}
-
-/// Compares a row.
-pub(crate) fn expect_row(
-    rt: &impl Abort,
-    alloc: Global,
-    doing: Doing,
-    row: &Row,
-) -> Result<(), Fail> {
-    let script = joined(alloc, row.script)?;
-    let written = joined(alloc, row.written)?;
-    let case = Case {
-        name: row.name,
-        script: &script,
-        answer: row.answer,
-        written: &written,
-    };
-    expect(rt, alloc, doing, &case)
-}
-
-/// Compares each row.
-pub(crate) fn expect_rows(
-    rt: &impl Abort,
-    alloc: Global,
-    doing: Doing,
-    rows: &[Row],
-) -> Result<(), Fail> {
-    for row in rows {
-        expect_row(rt, alloc, doing, row)?;
-    }
-    Ok(())
 }

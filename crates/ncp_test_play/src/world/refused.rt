@@ -1,5 +1,7 @@
 //! What stands where the player of scripts is refused memory. Here each test has ample memory. `bench/refuse.py` runs
 //! each test again and again, refuses it one request after the other, and reads what is printed of the request.
+mod recorder;
+
 use crate::texts::joined;
 use crate::world::opening::{
     COMING_UP, COMING_UP_LINES, GIVING, GIVING_LINES, HOSTS, SENDING, SENDING_LINES,
@@ -41,7 +43,7 @@ const MANY_LINES: &[u8] = b"1 1 reset 3 ok
 ";
 
 /// These texts one behind the other, made once more where memory is refused.
-pub(crate) fn text_of(alloc: Global, texts: &[&[u8]]) -> Result<Vec<u8>, AllocError> {
+fn text_of(alloc: Global, texts: &[&[u8]]) -> Result<Vec<u8>, AllocError> {
     match joined(alloc, texts) {
         Ok(text) => Ok(text),
         Err(_) => joined(alloc, texts),
@@ -115,7 +117,7 @@ fn is_refused_once(
 }
 
 /// Prints what stood, if memory was refused.
-pub(crate) fn print_refusal(rt: &HostRuntime, refused: bool, stood: &str) -> Result<(), Fail> {
+fn print_refusal(rt: &HostRuntime, refused: bool, stood: &str) -> Result<(), Fail> {
     if refused {
         println!(rt; "refused: {stood}")?;
     }

@@ -1,12 +1,65 @@
-//! Each read and each write of a script that fails in turn, where a byte is read and written at a time.
+//! Reads and writes of a script that fail: some in one piece, and each in turn where a byte is read and written at a time.
 use crate::texts::joined;
 use crate::world::opening::{COMING_UP, COMING_UP_LINES, HOSTS};
 use crate::world::played::{Doing, Run, Store, play, whole};
-use crate::world::recorded::{RECORDING, RESET};
 use ncp_play_notes::PlayFault;
 use std::alloc::Global;
 use std::process::Abort;
 use std::test::Fail;
+
+/// A script with a line that an LF ends and one that none does.
+const SHORT: &[u8] = b"hosts 1 2\na out\nb out";
+
+/// The lines of the first call, and of both.
+const ONE: &[u8] = b"1 a out nothing\n";
+
+const BOTH: &[u8] = b"1 a out nothing\n2 b out nothing\n";
+
+/// The read and the write that fail, each by its number; the room; and what is answered and written. The first line is
+/// written before the rest of the second is waited for.
+type Broken = (
+    Option<u32>,
+    Option<u32>,
+    usize,
+    Result<bool, PlayFault>,
+    &'static [u8],
+);
+
+const READ_FAILED: Result<bool, PlayFault> = Err(PlayFault::ReadFailed);
+
+const WRITE_FAILED: Result<bool, PlayFault> = Err(PlayFault::WriteFailed);
+
+const BROKEN: &[Broken] = &[
+    (Some(1), None, 100, READ_FAILED, b""),
+    (Some(2), None, 100, READ_FAILED, ONE),
+    (Some(3), None, 100, Ok(true), BOTH),
+    (None, Some(1), 100, WRITE_FAILED, b""),
+    (None, Some(2), 100, WRITE_FAILED, ONE),
+    (None, Some(3), 100, Ok(true), BOTH),
+    (None, None, 20, WRITE_FAILED, b"1 a out nothing\n2 b "),
+    (Some(2), Some(1), 100, WRITE_FAILED, b""),
+];
+
+#[test]
+fn reads_and_writes_that_fail(rt: HostRuntime) -> Result<(), Fail> {
+    for &(read, write, room, answer, lines) in BROKEN {
+        let how = Run {
+            read,
+            write,
+            room,
+            ..whole(Doing::Plays, Store::Packed, SHORT)
+        };
+        let played = play(&rt, rt.alloc(), &how)?;
+        assert!(rt; played.answer == answer && played.written() == lines);
+    }
+    Ok(())
+}
+
+/// RST of host 1 goes out, comes and is answered.
+const RESET: &[u8] = b"hosts 1 2\na reset\na out\na deliver 0\na answer 0\n";
+
+const RECORDING: &[u8] =
+    b"NCPJH\x01\x00\x50\x00\x02\x00\x00\x00\x08\x00\x01\x00\x0cI\x02\x00\x50\x00\x01\x00\x00\x00\x08\x00\x01\x00\x0cI\x01\x00\x20\x05\x02\x00\x00";
 
 /// A script in parts, how many bytes it has, what is written of it, and how many bytes that has.
 struct Stream {

@@ -1,9 +1,9 @@
 //! Three hosts with their subnet.
 use super::{Hosts, go_on_alike, is_made_again, runs, settle_alike, steps, tell, wants_memory};
-use crate::many::{RECEIVER, SENDER, THREE};
+use crate::events::{RECEIVER, SENDER, bits_of};
+use crate::many::THREE;
 use crate::many_tried::ManyTried;
 use crate::reading::Reading;
-use crate::wanted::bits_of;
 use ncp_bits::{BitStore, Bits, PackedStore, PlainStore};
 use ncp_many::{ManyEvent, ManyFault, ManyNote};
 use ncp_transcript::{Call, Message};
@@ -19,11 +19,11 @@ impl<S: BitStore> Hosts for ManyTried<S> {
     type Fault = ManyFault;
 
     fn of(alloc: Global) -> Result<Self, ManyFault> {
-        ManyTried::once(alloc, &THREE)
+        ManyTried::new(alloc, &THREE)
     }
 
     fn after(alloc: Global, events: &[ManyEvent]) -> Result<Self, ManyFault> {
-        ManyTried::run_once(alloc, &THREE, events)
+        ManyTried::run(alloc, &THREE, events)
     }
 
     fn is_of_memory(fault: &ManyFault) -> bool {
@@ -35,11 +35,11 @@ impl<S: BitStore> Hosts for ManyTried<S> {
     }
 
     fn settle(&mut self) -> bool {
-        self.settles_once()
+        self.settles()
     }
 
     fn go_on(&mut self) -> Option<bool> {
-        self.goes_on_once()
+        self.goes_on()
     }
 
     fn transcript(&self) -> &[ManyNote] {

@@ -1,6 +1,6 @@
 //! Two hosts with their subnet.
 use super::{Hosts, go_on_alike, is_made_again, runs, settle_alike, steps, tell, wants_memory};
-use crate::events::{RESET_A, Script, events_of};
+use crate::events::{RESET, texts};
 use crate::reading::Reading;
 use crate::tried::{A, B, Tried};
 use ncp_bits::{BitStore, PackedStore, PlainStore};
@@ -17,11 +17,11 @@ impl<S: BitStore> Hosts for Tried<S> {
     type Fault = AllocError;
 
     fn of(alloc: Global) -> Result<Self, AllocError> {
-        Tried::once(alloc)
+        Tried::new(alloc)
     }
 
     fn after(alloc: Global, events: &[Event]) -> Result<Self, AllocError> {
-        Tried::run_once(alloc, events)
+        Tried::run(alloc, events)
     }
 
     fn is_of_memory(_fault: &AllocError) -> bool {
@@ -33,11 +33,11 @@ impl<S: BitStore> Hosts for Tried<S> {
     }
 
     fn settle(&mut self) -> bool {
-        self.settles_once()
+        self.settles()
     }
 
     fn go_on(&mut self) -> Option<bool> {
-        self.goes_on_once()
+        self.goes_on()
     }
 
     fn transcript(&self) -> &[Note] {
@@ -58,18 +58,18 @@ impl<S: BitStore> Hosts for Tried<S> {
     }
 }
 
-/// The events of the first script, made once more where memory is refused.
+/// A text goes over a connection, made once more where memory is refused.
 fn events(rt: &impl Abort, alloc: Global) -> Result<Vec<Event>, AllocError> {
-    match events_of(rt, alloc, Script::OneConnection) {
+    match texts(rt, alloc, b"ab", 1) {
         Ok(events) => Ok(events),
-        Err(_) => events_of(rt, alloc, Script::OneConnection),
+        Err(_) => texts(rt, alloc, b"ab", 1),
     }
 }
 
 #[test]
 fn world_settle(rt: HostRuntime) -> Result<(), Fail> {
-    let plain = settle_alike::<Tried<PlainStore>>(&rt, rt.alloc(), &RESET_A)?;
-    let packed = settle_alike::<Tried<PackedStore>>(&rt, rt.alloc(), &RESET_A)?;
+    let plain = settle_alike::<Tried<PlainStore>>(&rt, rt.alloc(), &RESET)?;
+    let packed = settle_alike::<Tried<PackedStore>>(&rt, rt.alloc(), &RESET)?;
     tell(
         &rt,
         plain || packed,
@@ -79,8 +79,8 @@ fn world_settle(rt: HostRuntime) -> Result<(), Fail> {
 
 #[test]
 fn world_go_on(rt: HostRuntime) -> Result<(), Fail> {
-    let plain = go_on_alike::<Tried<PlainStore>>(&rt, rt.alloc(), &RESET_A)?;
-    let packed = go_on_alike::<Tried<PackedStore>>(&rt, rt.alloc(), &RESET_A)?;
+    let plain = go_on_alike::<Tried<PlainStore>>(&rt, rt.alloc(), &RESET)?;
+    let packed = go_on_alike::<Tried<PackedStore>>(&rt, rt.alloc(), &RESET)?;
     tell(
         &rt,
         plain || packed,

@@ -12,5 +12,7 @@ returns c = record {
   sound = refl;
   none = refl;
   great = refl;
+  letters = refl;
+  raw = refl;
   file = refl;
 }

@@ -2,7 +2,7 @@
 use Rattle.std.proofs.Common.{◌≡◌, ◌++◌, map, sym, ap, subst, ◌∙◌, codes, inl, inr}
 use Rattle.std.specs.String.{string_bytes}
 use Rattle.std.proofs.lemmas.Result.{IfOk-weaker}
-use Rattle.ncp_play_faults.specs.Near.{NoneIsNear, IsFirstNear}
+use Rattle.ncp_play_faults.specs.Near.{NoneIsNear, IsNearest}
 use Rattle.ncp_play_faults.specs.Telling.{TellsNoVerb}
 use Rattle.ncp_play_faults.proofs.Pieces.{verb_near, verb_far}
 use Rattle.ncp_play_faults.proofs.line.no_verb.Goals as goal
@@ -10,11 +10,11 @@ use Rattle.ncp_play_faults.proofs.line.no_verb.Goals as goal
 pub returns-in-Some : goal.returns-in-Some
 returns-in-Some c =
     IfOk-weaker c.format.result (λ s. string_bytes s ≡ codes "'" ++ (c.args.verb.now ++ (codes "' is no verb; did you mean '" ++ (c.in-Some.near.now ++ codes "'?")))) (λ s. TellsNoVerb c.args.verb.now (string_bytes s))
-    (λ s h. inl (c.in-Some.near.now, subst (λ known. IsFirstNear c.args.verb.now known c.in-Some.near.now) (ap (λ ws. map (λ w. w.now) ws) c.as_slice.ensures.value ∙ c.in_ok-known.ensures) c.in-Some.ensures.found, h ∙ sym (verb_near c.args.verb.now c.in-Some.near.now)))
+    (λ s h. inl (c.in-Some.near.now, subst (λ known. IsNearest c.args.verb.now known c.in-Some.near.now) (ap (λ ws. map (λ w. w.now) ws) c.as_slice.ensures.value ∙ c.in_ok-known.ensures) c.in-Some.ensures.found, h ∙ sym (verb_near c.args.verb.now c.in-Some.near.now)))
     c.format.ensures.ok
 
 pub returns : goal.returns
 returns c =
     IfOk-weaker c.format-in-None.result (λ s. string_bytes s ≡ codes "'" ++ (c.args.verb.now ++ codes "' is no verb")) (λ s. TellsNoVerb c.args.verb.now (string_bytes s))
-    (λ s h. inr (subst (λ known. NoneIsNear c.args.verb.now known) (ap (λ ws. map (λ w. w.now) ws) c.as_slice.ensures.value ∙ c.in_ok-known.ensures) c.in-None.ensures.none, h ∙ sym (verb_far c.args.verb.now)))
+    (λ s h. inr (subst (λ known. NoneIsNear 2 c.args.verb.now known) (ap (λ ws. map (λ w. w.now) ws) c.as_slice.ensures.value ∙ c.in_ok-known.ensures) c.in-None.ensures.none, h ∙ sym (verb_far c.args.verb.now)))
     c.format-in-None.ensures.ok

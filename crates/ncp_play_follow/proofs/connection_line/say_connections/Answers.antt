@@ -11,7 +11,7 @@ use Rattle.ncp_play_follow.proofs.connection_line.say_connections.Goals as goal
 
 pub loop-connection-init : goal.loop-connection-init
 loop-connection-init g c = record {
-  said = says_none connection_lines c.args.out.now.page.now (g.W.Sink.written c.args.out.now.sink.now);
+  said = says_none (connection_lines c.args.letters) c.args.out.now.page.now (g.W.Sink.written c.args.out.now.sink.now);
   writes = omega arith;
   mark = refl;
   same_outlet = (refl, refl);
@@ -20,8 +20,8 @@ loop-connection-init g c = record {
 pub returns-in_err-make_room-clause-told : goal.returns-in_err-make_room-clause-told
 returns-in_err-make_room-clause-told g c =
     let w = g.W.Sink in let all = c.args.told.now in let i = c.loop-connection.connection-index in
-    answers_broken c.args.out.now.page.now (flat_map connection_lines all) (w.written c.args.out.now.sink.now) (w.written c.make_room.new.self.sink.now) c.make_room.new.self.page.now c.from_residual.result c.from_residual.ensures.0
-    (says_items_broken connection_lines c.args.out.now.page.now c.loop-connection.out.page.now (w.written c.args.out.now.sink.now) (w.written c.loop-connection.out.sink.now) (w.written c.make_room.new.self.sink.now) (take i all) (drop i all) all c.loop-connection.invariant.said
+    answers_broken c.args.out.now.page.now (flat_map (connection_lines c.args.letters) all) (w.written c.args.out.now.sink.now) (w.written c.make_room.new.self.sink.now) c.make_room.new.self.page.now c.from_residual.result c.from_residual.ensures.0
+    (says_items_broken (connection_lines c.args.letters) c.args.out.now.page.now c.loop-connection.out.page.now (w.written c.args.out.now.sink.now) (w.written c.loop-connection.out.sink.now) (w.written c.make_room.new.self.sink.now) (take i all) (drop i all) all c.loop-connection.invariant.said
     c.in_err-make_room.ensures.err (take-append-drop i all))
 
 pub loop-connection-preserved : goal.loop-connection-preserved
@@ -30,8 +30,8 @@ loop-connection-preserved g c =
     let item : Connection = c.connection-item.result in
     let more : take (i + 1) all ≡ take i all ++ item ∷ [] = take_more all i item c.loop-connection-test.true ∙ ap (λ (it : Connection). take i all ++ it ∷ []) (sym c.connection-item.is) in
     record {
-      said = subst (λ (done : List Connection). SaysText c.args.out.now.page.now (w.written c.args.out.now.sink.now) (flat_map connection_lines done) c.push_connection.new.page (w.written c.make_room.new.self.sink.now)) (sym more)
-          (says_item connection_lines c.args.out.now.page.now c.loop-connection.out.page.now c.make_room.new.self.page.now c.push_connection.new.page (w.written c.args.out.now.sink.now) (w.written c.loop-connection.out.sink.now) (w.written c.make_room.new.self.sink.now) (take i all) item
+      said = subst (λ (done : List Connection). SaysText c.args.out.now.page.now (w.written c.args.out.now.sink.now) (flat_map (connection_lines c.args.letters) done) c.push_connection.new.page (w.written c.make_room.new.self.sink.now)) (sym more)
+          (says_item (connection_lines c.args.letters) c.args.out.now.page.now c.loop-connection.out.page.now c.make_room.new.self.page.now c.push_connection.new.page (w.written c.args.out.now.sink.now) (w.written c.loop-connection.out.sink.now) (w.written c.make_room.new.self.sink.now) (take i all) item
           c.loop-connection.invariant.said c.in_ok-make_room.ensures.ok c.push_connection.ensures);
       writes = let one = c.in_ok-make_room.ensures.writes in omega (arith, one, c.loop-connection.invariant.writes);
       mark = c.in_ok-make_room.ensures.mark ∙ or-false _ ∙ c.loop-connection.invariant.mark;
@@ -41,5 +41,5 @@ loop-connection-preserved g c =
 pub returns-clause-told : goal.returns-clause-told
 returns-clause-told g c =
     let w = g.W.Sink in let all = c.args.told.now in let i = c.loop-connection.connection-index in
-    says_items connection_lines c.args.out.now.page.now c.loop-connection.out.page.now (w.written c.args.out.now.sink.now) (w.written c.loop-connection.out.sink.now) (take i all) (drop i all) all c.loop-connection.invariant.said (take-append-drop i all)
+    says_items (connection_lines c.args.letters) c.args.out.now.page.now c.loop-connection.out.page.now (w.written c.args.out.now.sink.now) (w.written c.loop-connection.out.sink.now) (take i all) (drop i all) all c.loop-connection.invariant.said (take-append-drop i all)
     (drop_of_length-le all c.loop-connection-test.false)

@@ -13,8 +13,8 @@ returns-in-Ok-clause-told g c =
     rw (← same_source, ← same_sink) (
     λ bytes was e f.
     let w = g.W.Sink in let after = c.hear_file-heard.new.follower in
-    follows_all c.args.follower.now after bytes was (g.S.Source.left c.hear_file-heard.new.input.source.now) (w.written c.write_lines.new.out.sink.now) c.hear_file-heard.result (c.hear_file-heard.ensures.told bytes e)
-    (wrote_all was (follow_lines after) c.new-page.result (w.written c.args.sink.now) (w.written c.write_lines.new.out.sink.now) f c.new-page.ensures c.in-Ok.ensures.told))
+    follows_all c.args.letters c.args.follower.now after bytes was (g.S.Source.left c.hear_file-heard.new.input.source.now) (w.written c.write_lines.new.out.sink.now) c.hear_file-heard.result (c.hear_file-heard.ensures.told bytes e)
+    (wrote_all was (follow_lines c.args.letters after) c.new-page.result (w.written c.args.sink.now) (w.written c.write_lines.new.out.sink.now) f c.new-page.ensures c.in-Ok.ensures.told))
 
 pub returns-in-Err-clause-told : goal.returns-in-Err-clause-told
 returns-in-Err-clause-told g c =
@@ -22,8 +22,8 @@ returns-in-Err-clause-told g c =
     rw (← same_sink) (
     λ bytes was e f.
     let w = g.W.Sink in let after = c.hear_file-heard.new.follower in
-    follows_some c.args.follower.now after bytes was (g.S.Source.left c.hear_file-heard.new.input.source.now) (w.written c.write_lines.new.out.sink.now) c.hear_file-heard.result (c.hear_file-heard.ensures.told bytes e)
-    (wrote_some was (follow_lines after) c.new-page.result (w.written c.args.sink.now) (w.written c.write_lines.new.out.sink.now) f c.new-page.ensures c.in-Err.ensures.told))
+    follows_some c.args.letters c.args.follower.now after bytes was (g.S.Source.left c.hear_file-heard.new.input.source.now) (w.written c.write_lines.new.out.sink.now) c.hear_file-heard.result (c.hear_file-heard.ensures.told bytes e)
+    (wrote_some was (follow_lines c.args.letters after) c.new-page.result (w.written c.args.sink.now) (w.written c.write_lines.new.out.sink.now) f c.new-page.ensures c.in-Err.ensures.told))
 
 pub returns-in-Ok-clause-reads : goal.returns-in-Ok-clause-reads
 returns-in-Ok-clause-reads g c =

@@ -24,7 +24,7 @@ pub returns-then-not-more-clause-told : goal.returns-then-not-more-clause-told
 returns-then-not-more-clause-told g c = λ bytes was bits a k.
     let heard = rw c.if-not-more.true at (c.in_ok-more.ensures.told bytes a) in (
       [],
-      (heard.0, refl),
+      (heard.0, refl, heard.1 ∙ c.forget_text.ensures),
       (c.args.out.now.page.now, λ n. refl, bits_same was c.args.out.now.page.now (g.W.Sink.written c.args.out.now.sink.now) c.args.text.now.spare bits k),
     )
 

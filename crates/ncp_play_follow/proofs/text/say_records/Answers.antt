@@ -1,12 +1,17 @@
-use Rattle.std.proofs.Common.{◌∙◌, ◌++◌, List, [], ℕ, Bool, Ok, Err, refl, sym, subst, arith}
+use Rattle.std.proofs.Common.{◌≡◌, ◌∙◌, ◌++◌, List, [], ℕ, Bool, Option, Ok, Err, refl, sym, ap, subst, arith}
+use Rattle.std.specs.Prelude.{is_some}
+use Rattle.std.specs.Borrow.{Bor}
 use Rattle.std.proofs.Math.Bool.{or-false}
 use Rattle.std.proofs.lemmas.List.{append_assoc}
 use Rattle.std.proofs.lemmas.Result.{err_from_is_err_and}
+use Rattle.ncp_follow.specs.declared.connection.Connection.{Connection}
 use Rattle.ncp_follow.specs.declared.follower.Follower.{Follower}
+use Rattle.ncp_follow.specs.Connections.{place_numbered, numbered}
+use Rattle.ncp_follow.specs.Followed.{silent}
 use Rattle.ncp_play_files.specs.Results.{is_write_failed}
 use Rattle.ncp_play_page.specs.Lines.{number_after}
 use Rattle.ncp_play_follow.specs.TextSteps.{SaidBits, KeepsBits, SayFrom}
-use Rattle.ncp_play_follow.proofs.SaidTexts.{bits_same, from_end, from_more}
+use Rattle.ncp_play_follow.proofs.SaidTexts.{bits_same, is_some_mapped, from_end, from_more}
 use Rattle.ncp_play_follow.proofs.text.say_records.Goals as goal
 
 pub loop-number-init : goal.loop-number-init
@@ -31,7 +36,7 @@ returns-in_err-say_next-clause-told g c = λ bytes was bits a k.
     rw (p.1, p.2) (
       before.1 ++ one.0,
       before.4 (Err fault) left one.0 one.1,
-      subst (KeepsBits (is_write_failed {X = Unit} (Err fault)) was c.say_next.new.out.page.now written c.say_next.new.text.spare) (append_assoc bits before.1 one.0) one.2,
+      subst (KeepsBits (is_write_failed {X = Bool} (Err fault)) was c.say_next.new.out.page.now written c.say_next.new.text.spare) (append_assoc bits before.1 one.0) one.2,
     )
 
 pub loop-number-preserved : goal.loop-number-preserved
@@ -70,10 +75,13 @@ pub returns-clause-told : goal.returns-clause-told
 returns-clause-told g c = λ bytes was bits a k.
     let left = g.S.Source.left c.say_next.new.input.source.now in let written = g.W.Sink.written c.say_next.new.out.sink.now in
     let before = c.loop-number.invariant.told bytes was bits a k in
-    let one = rw c.if-branch.false at (c.in_ok-say_next.ensures.told before.0 was (bits ++ before.1) before.2 before.3) in (
+    let one = rw c.if-branch.false at (c.in_ok-say_next.ensures.told before.0 was (bits ++ before.1) before.2 before.3) in
+    let told : numbered c.say_next.new.follower.tables.told (place_numbered c.say_next.new.text.wanted) ≡ numbered (silent c.loop-number.text.wanted c.loop-number.follower).tables.told (place_numbered c.loop-number.text.wanted) =
+    ap (λ (f : Follower). numbered f.tables.told (place_numbered c.say_next.new.text.wanted)) one.1.2 ∙ ap (λ (w : ℕ). numbered (silent c.loop-number.text.wanted c.loop-number.follower).tables.told (place_numbered w)) c.in_ok-say_next.ensures.wanted in
+    let there = c.is_some.ensures ∙ sym (is_some_mapped (λ (one : Bor Connection). one.now) c.connection.result) ∙ ap (λ (o : Option Connection). is_some o) (c.connection.ensures ∙ told) in (
       before.1 ++ one.0,
-      before.4 (Ok tt) left one.0 (from_end c.loop-number.text.wanted c.loop-number.follower c.loop-number.number before.0 left one.0 one.1.0 one.1.1),
-      subst (KeepsBits (is_write_failed {X = Unit} (Ok tt)) was c.say_next.new.out.page.now written c.say_next.new.text.spare) (append_assoc bits before.1 one.0) one.2,
+      before.4 (Ok c.is_some.result) left one.0 (from_end c.loop-number.text.wanted c.loop-number.follower c.loop-number.number before.0 left one.0 c.is_some.result one.1.0 one.1.1 there),
+      subst (KeepsBits (is_write_failed {X = Bool} (Ok c.is_some.result)) was c.say_next.new.out.page.now written c.say_next.new.text.spare) (append_assoc bits before.1 one.0) one.2,
     )
 
 pub returns-in_err-say_next-clause-writes : goal.returns-in_err-say_next-clause-writes

@@ -11,7 +11,7 @@ invariant-loop-number g l =
     record {
       told : (bytes was : List ℕ) (bits : List Bool) → Brings s l.initial.input bytes → SaidBits was l.initial.out.page.now (written_by w l.initial.out) l.initial.text.spare bits
           → (now : List ℕ) × (gone : List Bool) × Brings s l.input now × SaidBits was l.out.page.now (written_by w l.out) l.text.spare (bits ++ gone)
-          × ((r : Result Unit FileFault) (left : Option (List ℕ)) (more : List Bool) → SayFrom l.text.wanted l.follower l.number now r left more → SayFrom l.initial.text.wanted l.initial.follower 1 bytes r left (gone ++ more));
+          × ((r : Result Bool FileFault) (left : Option (List ℕ)) (more : List Bool) → SayFrom l.text.wanted l.follower l.number now r left more → SayFrom l.initial.text.wanted l.initial.follower 1 bytes r left (gone ++ more));
       few : length l.text.spare < 8;
       reads : slack s l.initial.input ≤ slack s l.input;
       source_mark : read_failed s l.input ≡ read_failed s l.initial.input;

@@ -13,7 +13,7 @@ returns-in-Ok-follow-clause-does g c = inr (
   refl,
   record { read_failed = c.in-Ok-follow.ensures.read_failed; write_failed = c.in-Ok-follow.ensures.write_failed; blamed = c.in-Ok-follow.ensures.blamed },
   λ bytes was left written.
-      subst (λ (f : Follower). Follows f bytes was (g.S.Source.left c.follow.new.source) (g.W.Sink.written c.follow.new.sink) (Ok tt)) c.in-Ok.ensures
+      subst (λ (f : Follower). Follows c.args.letters f bytes was (g.S.Source.left c.follow.new.source) (g.W.Sink.written c.follow.new.sink) (Ok tt)) c.in-Ok.ensures
       (c.in-Ok-follow.ensures.told bytes was left written),
 )
 
@@ -23,6 +23,6 @@ returns-clause-does g c = inr (
   refl,
   record { read_failed = c.in-Err.ensures.read_failed; write_failed = c.in-Err.ensures.write_failed; blamed = c.in-Err.ensures.blamed },
   λ bytes was left written.
-      subst (λ (f : Follower). Follows f bytes was (g.S.Source.left c.follow.new.source) (g.W.Sink.written c.follow.new.sink) (Err c.in-Err.fault)) c.in-Ok.ensures
+      subst (λ (f : Follower). Follows c.args.letters f bytes was (g.S.Source.left c.follow.new.source) (g.W.Sink.written c.follow.new.sink) (Err c.in-Err.fault)) c.in-Ok.ensures
       (c.in-Err.ensures.told bytes was left written),
 )

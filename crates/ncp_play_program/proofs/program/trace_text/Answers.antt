@@ -9,12 +9,12 @@ returns-in_default-clause-does g c = inl (refl, refl)
 
 pub returns-in-Ok-follow_text-clause-does : goal.returns-in-Ok-follow_text-clause-does
 returns-in-Ok-follow_text-clause-does g c = inr (
-  Ok tt,
+  Ok c.in-Ok-follow_text.there,
   refl,
   record { read_failed = c.in-Ok-follow_text.ensures.read_failed; write_failed = c.in-Ok-follow_text.ensures.write_failed; blamed = c.in-Ok-follow_text.ensures.blamed },
   λ bytes was left written.
-      subst (λ (n : ℕ). FollowsText n (new_follower c.args.part) bytes was (g.S.Source.left c.follow_text.new.source) (g.W.Sink.written c.follow_text.new.sink) (Ok tt)) c.from.ensures
-      (subst (λ (f : Follower). FollowsText c.from.result f bytes was (g.S.Source.left c.follow_text.new.source) (g.W.Sink.written c.follow_text.new.sink) (Ok tt)) c.in-Ok.ensures
+      subst (λ (n : ℕ). FollowsText n (new_follower c.args.part) bytes was (g.S.Source.left c.follow_text.new.source) (g.W.Sink.written c.follow_text.new.sink) (Ok c.in-Ok-follow_text.there)) c.from.ensures
+      (subst (λ (f : Follower). FollowsText c.from.result f bytes was (g.S.Source.left c.follow_text.new.source) (g.W.Sink.written c.follow_text.new.sink) (Ok c.in-Ok-follow_text.there)) c.in-Ok.ensures
       (c.in-Ok-follow_text.ensures.told bytes was left written)),
 )
 

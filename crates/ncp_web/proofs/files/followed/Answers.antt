@@ -1,4 +1,4 @@
-use Rattle.std.proofs.Common.{rules, ◌≡◌, [], Some, subst}
+use Rattle.std.proofs.Common.{false, rules, ◌≡◌, [], Some, subst}
 use Rattle.ncp_follow.specs.declared.follower.Follower.{Follower}
 use Rattle.ncp_play_follow.specs.FollowedFiles.{Follows}
 use Rattle.ncp_web.proofs.files.followed.Goals as goal
@@ -8,5 +8,5 @@ returns c =
     let left : Some c.new-source.result.left ≡ Some c.args.input.now = search rules in
     let was : Some c.args.sink.now.written ≡ Some [] = search rules in (
       Some c.follow.new.source.left,
-      subst (λ (f : Follower). Follows f c.args.input.now [] (Some c.follow.new.source.left) (Some c.follow.new.sink.written) c.follow.result) c.in-Ok.ensures (c.follow.ensures.told c.args.input.now [] left was),
+      subst (λ (f : Follower). Follows false f c.args.input.now [] (Some c.follow.new.source.left) (Some c.follow.new.sink.written) c.follow.result) c.in-Ok.ensures (c.follow.ensures.told c.args.input.now [] left was),
     )

@@ -1,0 +1,53 @@
+//! What stands where the recorder is refused memory.
+use super::{print_refusal, text_of};
+use crate::world::opening::{
+    COMING_UP, COMING_UP_RECORDS, GIVING, GIVING_RECORDS, HEADER, HOSTS, SENDING, SENDING_RECORDS,
+};
+use crate::world::played::{Doing, Store, play, whole};
+use ncp_play_notes::PlayFault;
+use std::alloc::Global;
+use std::process::Abort;
+use std::test::Fail;
+
+/// Records a script. Whether it was refused memory: then the recorder says so behind the records of what happened
+/// before, or a call was refused behind those of the hosts' coming up.
+fn is_refused(
+    rt: &impl Abort,
+    alloc: Global,
+    store: Store,
+    script: &[u8],
+    before: &[u8],
+    recording: &[u8],
+) -> Result<bool, Fail> {
+    let recorded = play(rt, alloc, &whole(Doing::Records, store, script))?;
+    let answer = recorded.answer;
+    let written = recorded.written();
+    if answer == Ok(true) && written == recording {
+        return Ok(false);
+    }
+    match answer {
+        Ok(answered) => assert!(rt; !answered && written.starts_with(before)),
+        Err(fault) => {
+            assert!(rt; fault == PlayFault::OutOfMemory && fault.number() == 7);
+            assert!(rt; recording.starts_with(written));
+        }
+    }
+    Ok(true)
+}
+
+/// What stood where the recorder was refused memory.
+const STOOD: &str = "PlayFault 7 behind a beginning, or a call's refusal in the answer";
+
+#[test]
+fn recording(rt: HostRuntime) -> Result<(), Fail> {
+    let alloc = rt.alloc();
+    let script = text_of(alloc, &[HOSTS, COMING_UP, GIVING, SENDING])?;
+    let before = text_of(alloc, &[HEADER, COMING_UP_RECORDS])?;
+    let all = text_of(
+        alloc,
+        &[HEADER, COMING_UP_RECORDS, GIVING_RECORDS, SENDING_RECORDS],
+    )?;
+    let plain = is_refused(&rt, alloc, Store::Plain, &script, &before, &all)?;
+    let packed = is_refused(&rt, alloc, Store::Packed, &script, &before, &all)?;
+    print_refusal(&rt, plain || packed, STOOD)
+}

@@ -1,0 +1,2 @@
+# SPDX-License-Identifier: MIT
+"""From captured datagrams of simulated host interfaces to messages, segments and what `ncp` says of them."""
