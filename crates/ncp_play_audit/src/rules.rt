@@ -136,7 +136,7 @@ pub const RULES: &[(&str, &str)] = &[
     ),
     (
         "not-open",
-        "ALL, GVB and INR of the receiver, and RET and INS of the sender, name the link of an open connection. The standard's (NIC 8246). no-pair: no RTS gave the link; closed: its sender has sent its CLS; not-asked: not both have asked.",
+        "ALL, GVB and INR of the receiver, and RET and INS of the sender, name the link of an open connection. The standard's (NIC 8246). no-pair: no connection has the link; closed: its sender has sent its CLS; not-asked: not both have asked.",
     ),
     (
         "over-limit",
@@ -160,7 +160,7 @@ pub const RULES: &[(&str, &str)] = &[
     ),
     (
         "text-not-open",
-        "A text goes out on the link of an open connection. The standard's (NIC 8246). no-pair: no RTS gave the link; closed: a CLS was sent; not-asked: not both have asked.",
+        "A text goes out on the link of an open connection. The standard's (NIC 8246). no-pair: no connection has the link; closed: a CLS was sent; not-asked: not both have asked.",
     ),
     (
         "text-size",

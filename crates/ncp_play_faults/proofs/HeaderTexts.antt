@@ -1,26 +1,26 @@
 -- What is told of a header, case by case.
 use Rattle.std.proofs.Common.{◌≡◌, ◌==◌, ℕ, true, false, List, ◌++◌, length, get_or, nat_eq, nat_lt, refl, codes, decimal, append_assoc, ◌∙◌}
 use Rattle.std.specs.List.{starts_with}
-use Rattle.ncp_play_faults.specs.Headers.{wanted, beginning, is_hexadecimal, header_told}
+use Rattle.ncp_play_faults.specs.Headers.{wanted, beginning, is_hexadecimal, message_header_told}
 
 shape : (n : List ℕ) → codes "there are " ++ n ++ codes " bytes: " ++ wanted ≡ codes "there are " ++ (n ++ (codes " bytes: " ++ wanted))
 shape n = append_assoc (codes "there are " ++ n) (codes " bytes: ") wanted ∙ append_assoc (codes "there are ") n (codes " bytes: " ++ wanted)
 
 module _ (head : List ℕ) (some : (length head == 0) ≡ false) where
-  pub told_host : starts_with nat_eq head (codes "host ") ≡ true → header_told head ≡ codes "this is a script of one host: ncp host plays it"
+  pub told_host : starts_with nat_eq head (codes "host ") ≡ true → message_header_told head ≡ codes "this is a script of one host: ncp host plays it"
   told_host h = rw (some, h) refl
 
-  pub told_hosts : starts_with nat_eq head (codes "host ") ≡ false → starts_with nat_eq head (codes "hosts ") ≡ true → header_told head ≡ codes "this is a script of several hosts: ncp world plays it"
+  pub told_hosts : starts_with nat_eq head (codes "host ") ≡ false → starts_with nat_eq head (codes "hosts ") ≡ true → message_header_told head ≡ codes "this is a script of several hosts: ncp world plays it"
   told_hosts h k = rw (some, h, k) refl
 
-  pub told_many : starts_with nat_eq head (codes "host ") ≡ false → starts_with nat_eq head (codes "hosts ") ≡ false → starts_with nat_eq head (codes "many ") ≡ true → header_told head ≡ codes "this is a script of several hosts: ncp world plays it"
+  pub told_many : starts_with nat_eq head (codes "host ") ≡ false → starts_with nat_eq head (codes "hosts ") ≡ false → starts_with nat_eq head (codes "many ") ≡ true → message_header_told head ≡ codes "this is a script of several hosts: ncp world plays it"
   told_many h k m = rw (some, h, k, m) refl
 
-  pub told_hexadecimal : starts_with nat_eq head (codes "host ") ≡ false → starts_with nat_eq head (codes "hosts ") ≡ false → starts_with nat_eq head (codes "many ") ≡ false → is_hexadecimal head ≡ true → header_told head ≡ codes "this is hexadecimal text, of which 'xxd -r -p' makes bytes: " ++ wanted
+  pub told_hexadecimal : starts_with nat_eq head (codes "host ") ≡ false → starts_with nat_eq head (codes "hosts ") ≡ false → starts_with nat_eq head (codes "many ") ≡ false → is_hexadecimal head ≡ true → message_header_told head ≡ codes "this is hexadecimal text, of which 'xxd -r -p' makes bytes: " ++ wanted
   told_hexadecimal h k m x = rw (some, h, k, m, x) refl
 
-  pub told_short : starts_with nat_eq head (codes "host ") ≡ false → starts_with nat_eq head (codes "hosts ") ≡ false → starts_with nat_eq head (codes "many ") ≡ false → is_hexadecimal head ≡ false → nat_lt (length head) 4 ≡ true → header_told head ≡ codes "there are " ++ (decimal (length head) ++ (codes " bytes: " ++ wanted))
+  pub told_short : starts_with nat_eq head (codes "host ") ≡ false → starts_with nat_eq head (codes "hosts ") ≡ false → starts_with nat_eq head (codes "many ") ≡ false → is_hexadecimal head ≡ false → nat_lt (length head) 4 ≡ true → message_header_told head ≡ codes "there are " ++ (decimal (length head) ++ (codes " bytes: " ++ wanted))
   told_short h k m x s = rw (some, h, k, m, x, s) (shape (decimal (length head)))
 
-  pub told_bytes : starts_with nat_eq head (codes "host ") ≡ false → starts_with nat_eq head (codes "hosts ") ≡ false → starts_with nat_eq head (codes "many ") ≡ false → is_hexadecimal head ≡ false → nat_lt (length head) 4 ≡ false → header_told head ≡ beginning (get_or head 0 0) (get_or head 1 0) (get_or head 2 0) (get_or head 3 0)
+  pub told_bytes : starts_with nat_eq head (codes "host ") ≡ false → starts_with nat_eq head (codes "hosts ") ≡ false → starts_with nat_eq head (codes "many ") ≡ false → is_hexadecimal head ≡ false → nat_lt (length head) 4 ≡ false → message_header_told head ≡ beginning (get_or head 0 0) (get_or head 1 0) (get_or head 2 0) (get_or head 3 0)
   told_bytes h k m x s = rw (some, h, k, m, x, s) refl

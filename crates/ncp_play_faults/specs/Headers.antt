@@ -1,5 +1,5 @@
 -- What is told of the header of a message file.
-use Rattle.std.specs.Prelude.{◌==◌, ◌||◌, Bool, ℕ, List, ◌++◌, length, slice_index, codes, decimal, nat_eq, nat_lt, if◌then◌else◌}
+use Rattle.std.specs.Prelude.{◌==◌, ◌||◌, Bool, ℕ, List, [], ◌∷◌, ◌++◌, length, slice_index, codes, decimal, nat_eq, nat_lt, if◌then◌else◌}
 use Rattle.std.specs.List.{starts_with, list_all}
 use Rattle.std.specs.Char.{is_ascii_hexdigit, is_ascii_whitespace}
 use Rattle.ncp_play_faults.specs.Bytes.{hex_glyphs}
@@ -24,11 +24,28 @@ unknown_header head =
     if nat_lt (length head) 4 then codes "there are " ++ decimal (length head) ++ codes " bytes: " ++ wanted
     else beginning (slice_index head 0) (slice_index head 1) (slice_index head 2) (slice_index head 3)
 
--- a header that is none
-abbrev pub header_told : List ℕ → List ℕ
-header_told head =
+-- a header that is none, and begins no capture of network packets
+abbrev pub message_header_told : List ℕ → List ℕ
+message_header_told head =
     if length head == 0 then codes "the file is empty: " ++ wanted
     else if starts_with nat_eq head (codes "host ") then codes "this is a script of one host: ncp host plays it"
     else if starts_with nat_eq head (codes "hosts ") || starts_with nat_eq head (codes "many ") then codes "this is a script of several hosts: ncp world plays it"
     else if is_hexadecimal head then codes "this is hexadecimal text, of which 'xxd -r -p' makes bytes: " ++ wanted
     else unknown_header head
+
+-- how a capture of network packets begins: the type of the first block of a pcapng, 0A0D0D0A; the number of a pcap,
+-- A1B2C3D4 with times in microseconds and A1B23C4D in nanoseconds, in either order of bytes
+abbrev pub is_pcapng : List ℕ → Bool
+is_pcapng head = starts_with nat_eq head (10 ∷ 13 ∷ 13 ∷ 10 ∷ [])
+
+abbrev pub is_pcap : List ℕ → Bool
+is_pcap head =
+    starts_with nat_eq head (161 ∷ 178 ∷ 195 ∷ 212 ∷ []) || starts_with nat_eq head (212 ∷ 195 ∷ 178 ∷ 161 ∷ [])
+    || starts_with nat_eq head (161 ∷ 178 ∷ 60 ∷ 77 ∷ []) || starts_with nat_eq head (77 ∷ 60 ∷ 178 ∷ 161 ∷ [])
+
+-- a header that is none
+abbrev pub header_told : List ℕ → List ℕ
+header_told head =
+    if is_pcapng head then codes "this is a pcapng, a capture of network packets: wireshark/messages makes a message file of it"
+    else if is_pcap head then codes "this is a pcap, a capture of network packets: wireshark/messages makes a message file of it"
+    else message_header_told head

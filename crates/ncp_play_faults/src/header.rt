@@ -2,7 +2,7 @@
 ghost use Rattle.std.specs.Prelude.{◌≡◌, IfOk};
 ghost use Rattle.std.specs.String.{string_bytes};
 ghost use Rattle.ncp_play_faults.specs.Bytes.{hex_glyphs};
-ghost use Rattle.ncp_play_faults.specs.Headers.{beginning, is_hexadecimal, header_told};
+ghost use Rattle.ncp_play_faults.specs.Headers.{beginning, is_hexadecimal, is_pcap, is_pcapng, header_told, message_header_told};
 
 use std::alloc::{AllocError, Global};
 
@@ -34,9 +34,27 @@ fn beginning(alloc: Global, one: u8, two: u8, three: u8, four: u8) -> Result<Str
     format!(in alloc; "it begins with the bytes {one} {two} {three} {four}: {WANTED}")
 }
 
-/// What is wrong with the header of a message file that is `BadHeader`, of which these are the first bytes.
-pub fn wrong_header(alloc: Global, head: &[u8]) -> Result<String, AllocError>
-    ensures told { IfOk result (λ text. string_bytes text ≡ header_told head.now) }
+// Whether bytes begin a capture of network packets in the form pcapng.
+fn is_pcapng(head: &[u8]) -> bool
+    ensures { result ≡ is_pcapng head.now }
+{
+    head.starts_with(&[0x0a, 0x0d, 0x0d, 0x0a])
+}
+
+// Whether bytes begin a capture of network packets in the form pcap: times in microseconds or in nanoseconds, in either order of
+// bytes.
+fn is_pcap(head: &[u8]) -> bool
+    ensures { result ≡ is_pcap head.now }
+{
+    head.starts_with(&[0xa1, 0xb2, 0xc3, 0xd4])
+        || head.starts_with(&[0xd4, 0xc3, 0xb2, 0xa1])
+        || head.starts_with(&[0xa1, 0xb2, 0x3c, 0x4d])
+        || head.starts_with(&[0x4d, 0x3c, 0xb2, 0xa1])
+}
+
+// What is wrong with a header that begins no capture of network packets.
+fn wrong_message_header(alloc: Global, head: &[u8]) -> Result<String, AllocError>
+    ensures told { IfOk result (λ text. string_bytes text ≡ message_header_told head.now) }
 {
     if head.is_empty() {
         return format!(in alloc; "the file is empty: {WANTED}");
@@ -59,4 +77,21 @@ pub fn wrong_header(alloc: Global, head: &[u8]) -> Result<String, AllocError>
             format!(in alloc; "there are {count} bytes: {WANTED}")
         }
     }
+}
+
+/// What is wrong with the header of a message file that is `BadHeader`, of which these are the first bytes.
+pub fn wrong_header(alloc: Global, head: &[u8]) -> Result<String, AllocError>
+    ensures told { IfOk result (λ text. string_bytes text ≡ header_told head.now) }
+{
+    if is_pcapng(head) {
+        return format!(in alloc;
+            "this is a pcapng, a capture of network packets: wireshark/messages makes a message file of it"
+        );
+    }
+    if is_pcap(head) {
+        return format!(in alloc;
+            "this is a pcap, a capture of network packets: wireshark/messages makes a message file of it"
+        );
+    }
+    wrong_message_header(alloc, head)
 }

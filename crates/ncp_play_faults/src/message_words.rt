@@ -21,7 +21,7 @@ pub const MESSAGE_WORDS: &[Meaning] = &[
     ),
     (
         "host",
-        "In a leader to the IMP the host that the message is for; in one from the IMP the host that sent it, or whose message is answered. In a finding the host that broke the rule; after 'unsent' and 'false-answer' the host in the leader. Of a connection the other host.",
+        "In a leader to the IMP the host that the message is for; in one from the IMP its sender, or the host that the answered message was for. In a finding the host that broke the rule; after 'unsent' and 'false-answer' the host in the leader. Of a connection the other host.",
     ),
     (
         "link",

@@ -9,7 +9,7 @@ pub type Meaning = (&'static str, &'static str);
 pub const NAMES: &[Meaning] = &[
     (
         "BadHeader",
-        "The bytes are no message file: such a file begins with the four letters NCPH, NCPI or NCPJ. Behind 'feed' it has to be NCPI.",
+        "The bytes are no message file that is read here: such a file begins with the four letters NCPH, NCPI or NCPJ; 'feed' reads NCPI, 'audit' and 'follow' read NCPJ.",
     ),
     ("Truncated", "The message file ends inside a record."),
     (

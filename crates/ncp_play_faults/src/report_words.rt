@@ -41,7 +41,7 @@ pub const REPORT_WORDS: &[Meaning] = &[
         "by",
         "Of 'follow' how the connection ended; 'ncp explain' knows the word after it. Of 'link-used' the two sockets that have the link.",
     ),
-    ("no-pair", "No RTS gave the link."),
+    ("no-pair", "No connection has the link."),
     ("closed", "The connection is closed: a CLS was sent."),
     (
         "not-asked",
@@ -103,7 +103,7 @@ pub const REPORT_WORDS: &[Meaning] = &[
     ),
     (
         "down",
-        "The host has not come up with the peer yet, or has gone down since.",
+        "The host has made no RST and no RRP yet, or none since it went down.",
     ),
     (
         "want",
@@ -188,7 +188,7 @@ pub const REPORT_WORDS: &[Meaning] = &[
     ),
     (
         "not-open",
-        "The link of the text belongs to no open connection.",
+        "No receiver has the link of the text, or its connection never opened.",
     ),
     (
         "nothing",
@@ -197,7 +197,7 @@ pub const REPORT_WORDS: &[Meaning] = &[
     // Ledgers of a sender that is watched.
     (
         "ledger",
-        "What may still be sent on the connection, in messages and bits, after each event: out= is counters=, all=, text= and ret= together.",
+        "What the receiver still expects on the connection, in messages and bits, after each event: out= is counters=, all=, text= and ret= together.",
     ),
     (
         "counters",
@@ -205,11 +205,11 @@ pub const REPORT_WORDS: &[Meaning] = &[
     ),
     (
         "all",
-        "The messages and bits of each ALL that is on its way.",
+        "The messages and bits of all ALLs that are on their way.",
     ),
     (
         "ret",
-        "The messages and bits of each RET that is on its way.",
+        "The messages and bits of all RETs that are on their way.",
     ),
     // What a line of a script asks for.
     (

@@ -3,14 +3,14 @@ use Rattle.std.proofs.Common.{◌≡◌, ◌==◌, ◌++◌, false, length, sym,
 use Rattle.std.specs.String.{string_bytes}
 use Rattle.std.proofs.lemmas.Result.{IfOk-weaker}
 use Rattle.std.proofs.lemmas.Bool.{lt-ltb}
-use Rattle.ncp_play_faults.specs.Headers.{header_told, wanted}
+use Rattle.ncp_play_faults.specs.Headers.{message_header_told, wanted}
 use Rattle.ncp_play_faults.proofs.HeaderTexts.{told_host, told_hosts, told_many, told_hexadecimal, told_short}
-use Rattle.ncp_play_faults.proofs.header.wrong_header.Goals as goal
-use Rattle.ncp_play_faults.proofs.header.wrong_header.Goals.{then-starts_with-2-via-then-starts_with-2, then-starts_with-2-via-else-starts_with-2+then-starts_with-3}
+use Rattle.ncp_play_faults.proofs.header.wrong_message_header.Goals as goal
+use Rattle.ncp_play_faults.proofs.header.wrong_message_header.Goals.{then-starts_with-2-via-then-starts_with-2, then-starts_with-2-via-else-starts_with-2+then-starts_with-3}
 
 pub returns-then-starts_with : goal.returns-then-starts_with
 returns-then-starts_with c = record {
-  told = IfOk-weaker c.format-then-starts_with.result (λ s. string_bytes s ≡ codes "this is a script of one host: ncp host plays it") (λ s. string_bytes s ≡ header_told c.args.head.now)
+  told = IfOk-weaker c.format-then-starts_with.result (λ s. string_bytes s ≡ codes "this is a script of one host: ncp host plays it") (λ s. string_bytes s ≡ message_header_told c.args.head.now)
       (λ s h. h ∙ sym (told_host c.args.head.now (sym c.is_empty.ensures ∙ c.if-is_empty.false) (sym c.starts_with.ensures.value ∙ c.if-starts_with.true)))
       c.format-then-starts_with.ensures.ok;
 }
@@ -19,7 +19,7 @@ pub returns-then-starts_with-2 : goal.returns-then-starts_with-2
 returns-then-starts_with-2 c =
     let some : (length c.args.head.now == 0) ≡ false = sym c.is_empty.ensures ∙ c.if-is_empty.false in
     record {
-      told = IfOk-weaker c.format-then-starts_with-2.result (λ s. string_bytes s ≡ codes "this is a script of several hosts: ncp world plays it") (λ s. string_bytes s ≡ header_told c.args.head.now)
+      told = IfOk-weaker c.format-then-starts_with-2.result (λ s. string_bytes s ≡ codes "this is a script of several hosts: ncp world plays it") (λ s. string_bytes s ≡ message_header_told c.args.head.now)
           (λ s h. h ∙ sym (elim c.then-starts_with-2.branch [
             | then-starts_with-2-via-then-starts_with-2 w ↦ told_hosts c.args.head.now some (sym c.starts_with.ensures.value ∙ c.if-starts_with.false) (sym c.starts_with-2.ensures.value ∙ w.if-starts_with-2.true)
             | then-starts_with-2-via-else-starts_with-2+then-starts_with-3 w ↦ told_many c.args.head.now some (sym c.starts_with.ensures.value ∙ c.if-starts_with.false) (sym c.starts_with-2.ensures.value ∙ w.if-starts_with-2.false) (sym w.starts_with-else-starts_with-2.ensures.value ∙ w.if-starts_with-3.true)
@@ -31,7 +31,7 @@ pub returns-then-is_hexadecimal : goal.returns-then-is_hexadecimal
 returns-then-is_hexadecimal c =
     let some : (length c.args.head.now == 0) ≡ false = sym c.is_empty.ensures ∙ c.if-is_empty.false in
     record {
-      told = IfOk-weaker c.format-then-is_hexadecimal.result (λ s. string_bytes s ≡ codes "this is hexadecimal text, of which 'xxd -r -p' makes bytes: " ++ wanted) (λ s. string_bytes s ≡ header_told c.args.head.now)
+      told = IfOk-weaker c.format-then-is_hexadecimal.result (λ s. string_bytes s ≡ codes "this is hexadecimal text, of which 'xxd -r -p' makes bytes: " ++ wanted) (λ s. string_bytes s ≡ message_header_told c.args.head.now)
           (λ s h. h ∙ sym (told_hexadecimal c.args.head.now some (sym c.starts_with.ensures.value ∙ c.if-starts_with.false) (sym c.starts_with-2.ensures.value ∙ c.if-starts_with-2.false) (sym c.starts_with-else-starts_with-2.ensures.value ∙ c.if-starts_with-3.false) (sym c.is_hexadecimal.ensures ∙ c.if-is_hexadecimal.true)))
           c.format-then-is_hexadecimal.ensures.ok;
     }
@@ -40,7 +40,7 @@ pub returns-in_default : goal.returns-in_default
 returns-in_default c =
     let some : (length c.args.head.now == 0) ≡ false = sym c.is_empty.ensures ∙ c.if-is_empty.false in
     record {
-      told = IfOk-weaker c.format-in_default.result (λ s. string_bytes s ≡ codes "there are " ++ (decimal (length c.args.head.now) ++ (codes " bytes: " ++ wanted))) (λ s. string_bytes s ≡ header_told c.args.head.now)
+      told = IfOk-weaker c.format-in_default.result (λ s. string_bytes s ≡ codes "there are " ++ (decimal (length c.args.head.now) ++ (codes " bytes: " ++ wanted))) (λ s. string_bytes s ≡ message_header_told c.args.head.now)
           (λ s h. h ∙ sym (told_short c.args.head.now some (sym c.starts_with.ensures.value ∙ c.if-starts_with.false) (sym c.starts_with-2.ensures.value ∙ c.if-starts_with-2.false) (sym c.starts_with-else-starts_with-2.ensures.value ∙ c.if-starts_with-3.false) (sym c.is_hexadecimal.ensures ∙ c.if-is_hexadecimal.false) (lt-ltb (length c.args.head.now) 4 c.in_default.len_below)))
           c.format-in_default.ensures.ok;
     }
