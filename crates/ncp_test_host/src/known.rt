@@ -1,5 +1,12 @@
 //! What the examples have in common: the host and its peer, a connection, and what is known of them.
+use ncp_bits::Bits;
 use ncp_host::{Counts, End, Flags, Pair, Record};
+use std::process::Abort;
+
+/// A message of these bytes of bits.
+pub(crate) fn bits_of(rt: &impl Abort, bytes: &[u8]) -> Bits {
+    Bits::from_bytes(bytes, bytes.len().saturating_mul(8)).expect(rt, "bits")
+}
 
 /// The host of the examples, and its first peer.
 pub(crate) const ME: u8 = 1;

@@ -1,13 +1,12 @@
 //! What stands where a host, or the slots of its links, are refused memory. Here each test has ample memory. `bench/refuse.py` runs each test
 //! again and again, refuses it one request after the other, and reads what is printed of the request.
 use crate::host::{CONTROL, INWARD, REGULAR, RFNM, ROOM};
-use crate::known::{LINK, ME, OUTWARD, PEER, UP};
+use crate::known::{LINK, ME, OUTWARD, PEER, UP, bits_of};
 use ncp_bits::{BitStore, PackedStore, PlainStore};
 use ncp_host::{CallFault, Host, HostFault, LoadFault, Pair};
 use ncp_slot::Slots;
 use ncp_slot::laws::{LinkEvent, LinkNote, run_link};
 use ncp_terms::Answer;
-use ncp_test_parts::known::bits_of;
 use std::alloc::Global;
 use std::process::Abort;
 use std::test::Fail;

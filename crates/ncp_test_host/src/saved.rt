@@ -1,10 +1,9 @@
 //! A host that is saved and loaded: it lives on as the other does. Bytes that are cut short or changed are of no host,
 //! or of the host that is saved as just these.
 use crate::host::{CONTROL, INWARD, REGULAR, RFNM, ROOM};
-use crate::known::{ME, OUTWARD, PEER};
+use crate::known::{ME, OUTWARD, PEER, bits_of};
 use ncp_bits::{BitStore, PackedStore, PlainStore};
 use ncp_host::{Host, LoadFault, Pair};
-use ncp_test_parts::known::bits_of;
 use std::alloc::Global;
 use std::process::Abort;
 use std::test::Fail;

@@ -5,7 +5,8 @@
 //! through a test. `pushes` alone has one, which the tests meet by constants.
 ghost use Rattle.std.specs.Prelude.{◌<◌, ◌^◌};
 
-use crate::known::{bits_of_one, first_bits, is_shown, is_told, is_written, part_of, run};
+use crate::known::{is_shown, is_told};
+use crate::made::{bits_of_one, first_bits, is_written, part_of, run};
 use ncp_bits::{
     BitStore, Bits, BitsFault, MAX_BITS, NoRoom, PackedStore, Part, PlainStore, equality, laws,
 };

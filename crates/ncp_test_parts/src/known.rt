@@ -1,44 +1,6 @@
-//! What tests of parts and of hosts have in common: bits of bytes, and how a value is printed.
-use ncp_bits::{Bits, Part};
+//! How a value is printed.
 use std::alloc::{AllocError, Global};
 use std::fmt;
-use std::process::Abort;
-
-/// A message of these bytes of bits.
-pub fn bits_of(rt: &impl Abort, bytes: &[u8]) -> Bits {
-    first_bits(rt, bytes, bytes.len().saturating_mul(8))
-}
-
-/// The first bits of bytes.
-pub fn first_bits(rt: &impl Abort, bytes: &[u8], len: usize) -> Bits {
-    Bits::from_bytes(bytes, len).expect(rt, "bits")
-}
-
-/// The first bits of 1,024 bytes that are all this one.
-pub fn bits_of_one(rt: &impl Abort, byte: u8, len: usize) -> Bits {
-    first_bits(rt, &[byte; 1024], len)
-}
-
-/// The first bits of bytes, as a part.
-pub fn part_of<'a>(rt: &impl Abort, bytes: &'a [u8], len: usize) -> Part<'a> {
-    Part::from_bytes(bytes, len).expect(rt, "bits")
-}
-
-/// A run of bits.
-pub fn run<'a>(rt: &impl Abort, bits: &'a Bits, at: usize, len: usize) -> Part<'a> {
-    assert!(rt; at <= bits.len() && len <= bits.len() - at);
-    bits.slice(at, len)
-}
-
-/// Whether a part has so many bits, is written as these bytes, and the byte behind them stays.
-pub fn is_written(part: &Part<'_>, len: usize, bytes: &[u8]) -> bool {
-    if part.len() != len {
-        return false;
-    }
-    let mut out = [0xffu8; 1025];
-    let used = part.to_bytes(&mut out);
-    out[..used] == bytes[..] && out[used] == 0xff
-}
 
 /// Whether a fault is printed as this text.
 pub fn is_told(alloc: Global, fault: &impl fmt::Display, text: &str) -> Result<bool, AllocError> {

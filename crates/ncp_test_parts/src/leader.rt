@@ -3,7 +3,8 @@
 //!
 //! The helpers have no clauses: each sees for itself that its call may be made, so the prover need not follow messages
 //! through a test.
-use crate::known::{bits_of_one, first_bits, is_shown, is_told, is_written, part_of, run};
+use crate::known::{is_shown, is_told};
+use crate::made::{bits_of_one, first_bits, is_written, part_of, run};
 use ncp_bits::{Bits, BitsFault, Part};
 use ncp_leader::{
     Leader, MAX_FLAGS, MAX_KIND, MAX_TEXT_BITS, MessageFault, Regular, Short, equality, laws,

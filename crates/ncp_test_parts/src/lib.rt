@@ -3,8 +3,8 @@
 //! definitions mean what the worked examples mean, and the texts and numbers of the faults. They stand in a crate of their own,
 //! since a crate with tests is proved twice, and below `ncp_host`, so that nobody waits for it.
 //!
-//! - *Use:* `bits_of(&rt, &[0x61])`; tests of hosts take from here how bits are made and values are printed.
-//! - *Proved:* they are safe, but for what they ask the runtime to abort.
+//! - *Use:* tests of hosts take from here how values are printed (`known`).
+//! - *Proved:* they are safe.
 #![tactic(auto)]
 
 #[cfg(test)]
@@ -14,6 +14,8 @@ mod control;
 pub mod known;
 #[cfg(test)]
 mod leader;
+#[cfg(test)]
+mod made;
 #[cfg(test)]
 mod model;
 #[cfg(test)]

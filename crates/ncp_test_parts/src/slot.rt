@@ -1,6 +1,7 @@
 //! What no clause says: that the calls succeed, that memory is asked for where it is needed, and
 //! that the definitions mean what the worked examples mean.
-use crate::known::{bits_of, is_shown, is_told};
+use crate::known::{is_shown, is_told};
+use crate::made::bits_of;
 use ncp_bits::Bits;
 use ncp_slot::laws::{
     LinkEvent, LinkNote, a_message_is_kept, each_slot_is_woken, links_are_numbered,

@@ -1,8 +1,7 @@
 //! What an example does to a host, and what is wanted of its notes, as values.
-use crate::known::PEER;
+use crate::known::{PEER, bits_of};
 use ncp_host::{CallFault, Counts, Flags, Ignored, Pair, Received, Record};
 use ncp_terms::{Answer, Command};
-use ncp_test_parts::known::bits_of;
 use ncp_transcript::{Call, HostNote, Input, Message};
 use std::alloc::Global;
 use std::process::Abort;

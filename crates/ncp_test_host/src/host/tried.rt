@@ -1,11 +1,10 @@
 //! A host under test, up with its peer. What its calls answer is found by running them: no function here has a clause, so
 //! the prover need not follow a host through a test, but only see that each step is safe and ends.
 use super::{CONTROL, INWARD, REGULAR, RFNM, ROOM};
-use crate::known::{ME, OUTWARD, PEER, UP};
+use crate::known::{ME, OUTWARD, PEER, UP, bits_of};
 use ncp_bits::{BitStore, Bits};
 use ncp_host::{Host, Pair, Received, Record};
 use ncp_terms::Command;
-use ncp_test_parts::known::bits_of;
 use std::alloc::Global;
 use std::process::Abort;
 use std::test::Fail;
