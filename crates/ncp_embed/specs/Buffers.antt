@@ -6,8 +6,9 @@ use Rattle.ncp_terms.specs.declared.command.TheConstants.{LONGEST_COMMAND}
 use Rattle.ncp_model.specs.declared.call_fault.CallFault.{CallFault}
 use Rattle.ncp_model.specs.Peers.{Take}
 use Rattle.ncp_host.specs.Host.{Host, state_of}
-use Rattle.ncp_host.specs.Calls.{take_reply, waiting_at, kept_for}
-use Rattle.ncp_host.specs.Readiness.{IsNext}
+use Rattle.ncp_peer.specs.PeerCalls.{waiting_at, kept_for}
+use Rattle.ncp_host.specs.Calls.{take_reply}
+use Rattle.ncp_peer.specs.Readiness.{IsNext}
 use Rattle.ncp_host.specs.Turns.{next_output}
 use Rattle.ncp_subnet.specs.Subnet.{Subnet}
 use Rattle.ncp_embed.specs.declared.handle.held.Held.{Held}

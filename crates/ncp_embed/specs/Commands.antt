@@ -8,7 +8,7 @@ use Rattle.ncp_terms.specs.declared.command.Command.{Command}
 use Rattle.ncp_terms.specs.declared.command.Command.TheVariants as command
 use Rattle.ncp_terms.specs.declared.fault.CommandFault.{CommandFault}
 use Rattle.ncp_control.specs.Reading.{commands_in}
-use Rattle.ncp_host.specs.Counting.{one_more}
+use Rattle.ncp_peer.specs.Counting.{one_more}
 use Rattle.ncp_embed.specs.declared.commands.Tally.{Tally}
 
 abbrev pub is_control_message : Message → Bool

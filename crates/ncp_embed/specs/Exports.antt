@@ -12,7 +12,7 @@ use Rattle.ncp_model.specs.declared.pair.Pair.{Pair}
 use Rattle.ncp_model.specs.declared.call_fault.CallFault.{CallFault}
 use Rattle.ncp_model.specs.declared.outcomes.Error.{Error}
 use Rattle.ncp_host.specs.Host.{Host}
-use Rattle.ncp_host.specs.declared.counts.Ignored.{Ignored}
+use Rattle.ncp_host.specs.declared.ignored.Ignored.{Ignored}
 use Rattle.ncp_host.specs.Saved.{saved}
 use Rattle.ncp_host.specs.declared.fault.LoadFault.TheVariants as load
 use Rattle.ncp_model.specs.declared.call_fault.CallFault.TheVariants as call

@@ -11,11 +11,11 @@ use Rattle.ncp_model.specs.declared.pair.Pair.{Pair}
 use Rattle.ncp_model.specs.declared.outcomes.Error.{Error}
 use Rattle.ncp_model.specs.declared.outcomes.Took.{Took}
 use Rattle.ncp_model.specs.declared.outcomes.Took.TheVariants as took
-use Rattle.ncp_host.specs.declared.counts.Counts.{Counts}
-use Rattle.ncp_host.specs.declared.counts.Ignored.{Ignored}
-use Rattle.ncp_host.specs.declared.flags.Flags.{Flags}
-use Rattle.ncp_host.specs.declared.received.Received.{Received}
-use Rattle.ncp_host.specs.declared.received.Received.TheVariants as received
+use Rattle.ncp_peer.specs.declared.counts.Counts.{Counts}
+use Rattle.ncp_host.specs.declared.ignored.Ignored.{Ignored}
+use Rattle.ncp_phase.specs.declared.flags.Flags.{Flags}
+use Rattle.ncp_peer.specs.declared.received.Received.{Received}
+use Rattle.ncp_peer.specs.declared.received.Received.TheVariants as received
 use Rattle.ncp_embed.specs.declared.commands.Tally.{Tally}
 use Rattle.ncp_embed.specs.declared.connection.Connection.{Connection}
 use Rattle.ncp_embed.specs.declared.told.Arrived.{Arrived}

@@ -1,7 +1,7 @@
 //! Messages come and go.
 ghost use Rattle.std.specs.Prelude.{◌≡◌, ◌≢◌, ◌<◌, ◌≤◌, length};
 ghost use Rattle.ncp_bits.specs.Bits.{read_bytes};
-ghost use Rattle.ncp_host.specs.Readiness.{IsNext};
+ghost use Rattle.ncp_peer.specs.Readiness.{IsNext};
 ghost use Rattle.ncp_host.specs.Turns.{next_output, after_next_output};
 ghost use Rattle.ncp_embed.specs.Buffers.{message_code, host_with_room, FirstIsReady, found_in_host, message_put, bits_put, code_of_take, host_after_take, taken_text};
 ghost use Rattle.ncp_embed.specs.Exports.{TouchesOnePeer, any_code_in, any_of, code_if_any, message_over, size_of_message, code_of_bits, receive_code};

@@ -4,7 +4,7 @@
 //! - *Use:* `ncp_play_follow` follows a message file with it, record by record.
 //! - *Proved:* what is known after a record is what the definitions say (`Follower::hear`): which connections were
 //!   opened, in order, what was said on each, and how each ended.
-//! - *Tests:* worked cases in `laws`; captures in `follows` of `ncp_test_files`.
+//! - *Tests:* worked cases in `laws`; captures in the cases `follow_*` of `ncp_test_cases`.
 #![tactic(auto)]
 
 mod amount;

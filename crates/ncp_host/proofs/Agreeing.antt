@@ -21,7 +21,7 @@ use Rattle.ncp_model.proofs.PairOrder.{pairs_exact, pairs_total}
 use Rattle.ncp_model.proofs.EndsAfter.{after-at, after-elsewhere}
 use Rattle.ncp_model.proofs.LinksLead.{itself, led, command-led, cut-led, answered-led}
 use Rattle.ncp_model.proofs.Lookups.{any-none, leads-there}
-use Rattle.ncp_host.specs.Soundness.{is_end_busy, pair_hears_link, IsOut, Agree}
+use Rattle.ncp_peer.specs.Soundness.{is_end_busy, pair_hears_link, IsOut, Agree}
 use Rattle.ncp_host.proofs.Steady.{is_still, stays-busy, stays-heard, NewLink, new-link, freed}
 
 pub agree-empty : (slots : LinkSlots) → Agree no_ends slots

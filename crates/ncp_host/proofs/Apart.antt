@@ -16,10 +16,13 @@ use Rattle.ncp_model.specs.declared.pair.Pair.{Pair}
 use Rattle.ncp_slot.specs.declared.slot.Slot.TheVariants.{Empty, Ready, Travelling, Held}
 use Rattle.ncp_slot.specs.Slots.{LinkSlots, slot_at}
 use Rattle.ncp_model.specs.End.{End}
-use Rattle.ncp_host.specs.PeerState.{PeerState}
-use Rattle.ncp_host.specs.Output.{links}
+use Rattle.ncp_peer.specs.PeerState.{PeerState}
+use Rattle.ncp_peer.specs.Output.{links}
 use Rattle.ncp_host.specs.Host.{Host, numbers_of}
-use Rattle.ncp_host.specs.Saved.{two_bytes, four_bytes, mark, listed, bits_saved, command_saved, phase_saved, error_saved, echoed_saved, echoes_saved, pair_saved, end_saved, connection_saved, ends_saved, slot_saved, slots_on, slots_saved, counts_saved, ignored_saved, state_saved, peer_saved, saved, AreAlike, AreAlikeHosts}
+use Rattle.ncp_saved.specs.Values.{two_bytes, four_bytes, mark, listed, bits_saved, command_saved, error_saved, echoed_saved, pair_saved}
+use Rattle.ncp_phase.specs.SavedPhase.{phase_saved, echoes_saved}
+use Rattle.ncp_peer.specs.SavedPeer.{end_saved, connection_saved, ends_saved, slot_saved, slots_on, slots_saved, counts_saved, state_saved, AreAlike}
+use Rattle.ncp_host.specs.Saved.{ignored_saved, peer_saved, saved, AreAlikeHosts}
 use Rattle.ncp_host.proofs.Restarting.{in_links}
 
 abbrev pub Apart : {A : Type 0} → (A → List ℕ) → Type 0

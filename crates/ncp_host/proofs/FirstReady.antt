@@ -18,19 +18,19 @@ use Rattle.ncp_model.specs.Sending.{next_commands}
 use Rattle.ncp_model.specs.Leading.{passes}
 use Rattle.ncp_model.proofs.Lookups.{any-none, none-any, leads-there}
 use Rattle.ncp_model.proofs.LinksLead.{led}
-use Rattle.ncp_host.specs.PeerState.{PeerState, new_state, control_link, state_calls, state_calls_echo, state_calls_reset, state_calls_wake}
-use Rattle.ncp_host.specs.Hearing.{is_kind, after_bits}
-use Rattle.ncp_host.specs.Output.{control_message, text_message, output_by, output_on, first_or, first_output, next_of}
+use Rattle.ncp_peer.specs.PeerState.{PeerState, new_state, control_link, state_calls, state_calls_echo, state_calls_reset, state_calls_wake}
+use Rattle.ncp_peer.specs.Hearing.{is_kind, after_bits}
+use Rattle.ncp_peer.specs.Output.{control_message, text_message, output_by, output_on, first_or, first_output, next_of}
 use Rattle.ncp_host.specs.Host.{Host, state_of, at_peer}
 use Rattle.ncp_host.specs.Arrivals.{after_with, after_from, one_other}
 use Rattle.ncp_host.specs.Turns.{message_in_turn, after_turn, first_message, first_goes}
-use Rattle.ncp_host.specs.Readiness.{has_text, is_ready_by, is_link_ready, NoLinkReady, IsFirstLink, IsNext}
+use Rattle.ncp_peer.specs.Readiness.{has_text, is_ready_by, is_link_ready, NoLinkReady, IsFirstLink, IsNext}
 use Rattle.ncp_host.specs.Running.{HostStep, Calls, Resets, Echoes, Wakes, Receives, Sends, after_step}
-pub use Rattle.ncp_host.specs.Soundness.{IsWell, AreWell}
-use Rattle.ncp_host.specs.Soundness.{is_end_busy, Agree, IsOut, pair_hears_link}
+pub use Rattle.ncp_peer.specs.Soundness.{IsWell, AreWell}
+use Rattle.ncp_peer.specs.Soundness.{is_end_busy, Agree, IsOut, pair_hears_link}
 use Rattle.ncp_host.proofs.Sound.{sound-calls, sound-echo, sound-reset, sound-wakes, sound-bits, sound-output, sound-new}
 use Rattle.ncp_host.proofs.Short.{some_go, fit-calls, fit-echo, fit-reset, fit-bits, fit-output, fit-new}
-use Rattle.ncp_host.proofs.Outputs.{first_none, first_more}
+use Rattle.ncp_peer.proofs.Outputs.{first_none, first_more}
 use Rattle.ncp_host.proofs.Turns.{message_cons, message_nil, after_cons, after_nil}
 
 abbrev goes : {A : Type 0} → Option A → Bool

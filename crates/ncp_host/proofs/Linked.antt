@@ -3,9 +3,10 @@ use Rattle.std.proofs.Common.{◌≡◌, ◌<◌, ℕ, zero, suc, List, [], ◌�
 use Rattle.std.specs.List.{All, AllZip, zip}
 use Rattle.ncp_slot.specs.Links.{HasItsLinks}
 use Rattle.ncp_slot.proofs.Links.{same_slots}
-use Rattle.ncp_host.specs.PeerState.{PeerState}
+use Rattle.ncp_peer.specs.PeerState.{PeerState}
 use Rattle.ncp_host.specs.Host.{Host, numbers_of}
-use Rattle.ncp_host.specs.Saved.{saved, AreAlike, HaveTheirLinks}
+use Rattle.ncp_peer.specs.SavedPeer.{AreAlike}
+use Rattle.ncp_host.specs.Saved.{saved, HaveTheirLinks}
 use Rattle.ncp_host.proofs.Apart.{byte_apart, hosts_apart}
 
 behind : (p : ℕ × PeerState) (ps : List (ℕ × PeerState)) → HaveTheirLinks (p ∷ ps) → HaveTheirLinks ps

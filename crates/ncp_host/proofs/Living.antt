@@ -4,15 +4,15 @@ use Rattle.std.specs.List.{zip}
 use Rattle.ncp_leader.specs.declared.leader.Leader.{Leader}
 use Rattle.ncp_leader.specs.declared.leader.Short.{Short}
 use Rattle.ncp_leader.specs.Leader.{leader_in}
-use Rattle.ncp_host.specs.declared.counts.Ignored.{Ignored}
+use Rattle.ncp_host.specs.declared.ignored.Ignored.{Ignored}
 use Rattle.std.proofs.lemmas.List.{length-replicate}
-use Rattle.ncp_host.specs.PeerState.{PeerState, new_state}
+use Rattle.ncp_peer.specs.PeerState.{PeerState, new_state}
 use Rattle.ncp_host.specs.Host.{Host, are_peers}
 use Rattle.ncp_host.specs.Arrivals.{after_with, after_hearing}
 use Rattle.ncp_host.specs.Turns.{after_turn}
 use Rattle.ncp_host.proofs.Peering.{new_beside}
 use Rattle.ncp_host.specs.Running.{HostStep, Receives, Sends, after_step, IsKept}
-use Rattle.ncp_host.specs.Soundness.{AreWell}
+use Rattle.ncp_peer.specs.Soundness.{AreWell}
 use Rattle.ncp_host.proofs.FirstReady.{step-well, new-well}
 
 pub lives_on : (step : HostStep) (before now : Host) → AreWell before.peers → now ≡ after_step step before → AreWell now.peers

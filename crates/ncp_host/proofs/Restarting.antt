@@ -1,8 +1,5 @@
 -- What a restart does to a host, from what it does on each link to a peer.
 use Rattle.std.proofs.Common.{◌≡◌, ◌<◌, ◌≤◌, inl, inr, ℕ, zero, suc, ◌+◌, ◌-◌, ◌==◌, Bool, true, false, ◌&&◌, ◌||◌, nat_lt, if◌then◌else◌, List, [], ◌∷◌, Option, None, Some, Result, Ok, refl, sym, ap, subst, ◌∙◌, arith}
-use Rattle.std.specs.Prelude.{◌↔◌}
-use Rattle.std.specs.Bool.{IsTrue}
-use Rattle.std.specs.Result.{IsOk, OnOk, OnErr, is_err}
 use Rattle.std.specs.List.{list_all, list_any, range_with_len}
 use Rattle.std.proofs.lemmas.List.{append-nil}
 use Rattle.std.proofs.lemmas.Bool.Decides.{eqb_tells}
@@ -11,29 +8,21 @@ use Rattle.ncp_leader.specs.declared.leader.Short.{Short}
 use Rattle.ncp_leader.specs.Leader.{IsLeader, leader_in}
 use Rattle.ncp_leader.proofs.Leaders.{leader_in-bits}
 use Rattle.ncp_terms.specs.declared.answer.Answer.TheVariants.{Incomplete}
-use Rattle.ncp_slot.specs.declared.slot.Stray.{Stray}
 use Rattle.ncp_slot.specs.declared.slot.Slot.TheVariants.{Empty, Ready, Travelling, Held}
 use Rattle.ncp_slot.specs.Slot.{answered, is_travelling}
 use Rattle.ncp_slot.specs.Slots.{LinkSlot, LinkSlots, HasSlot, slot_at, with_slot, data_links}
 use Rattle.ncp_slot.proofs.Places.{slot_at-changed, OthersStay-changed}
-use Rattle.ncp_host.specs.PeerState.{PeerState, is_answered, answer_taken, answer_comes}
-use Rattle.ncp_host.specs.Counting.{one_more}
-use Rattle.ncp_host.specs.Output.{links}
+use Rattle.ncp_peer.specs.PeerState.{PeerState, is_answered, answer_taken, answer_comes}
+use Rattle.ncp_peer.specs.Counting.{one_more}
+use Rattle.ncp_peer.specs.Output.{links}
 use Rattle.ncp_host.specs.Host.{Host, state_in, state_of, at_peer, changed}
 use Rattle.ncp_host.specs.Arrivals.{after_with, after_from, after_received}
 use Rattle.ncp_host.specs.Running.{Receives}
-use Rattle.ncp_host.specs.Soundness.{AreWell}
-use Rattle.ncp_host.specs.Restarting.{incomplete_leader, incomplete_bits, is_message_out, incomplete_comes, incompletes_come, gives_up, gives_up_all, restarts, IsGivenUp}
+use Rattle.ncp_peer.specs.Soundness.{AreWell}
+use Rattle.ncp_peer.specs.GivingUp.{gives_up, gives_up_all, restarts, IsGivenUp}
+use Rattle.ncp_host.specs.Restarting.{incomplete_leader, incomplete_bits, is_message_out, incomplete_comes, incompletes_come}
 use Rattle.ncp_host.proofs.Living.{lives_on}
-use Rattle.ncp_host.proofs.Arriving.{is_stray, is_no_stray, not_done, answer_heard}
-
-pub given_up_none : (s : PeerState) → gives_up_all [] s ≡ s
-unfolding gives_up_all
-given_up_none s = refl
-
-pub given_up_more : (on : ℕ) (ons : List ℕ) (s : PeerState) → gives_up_all (on ∷ ons) s ≡ gives_up_all ons (gives_up on s)
-unfolding gives_up_all
-given_up_more on ons s = refl
+use Rattle.ncp_peer.proofs.GivingUp.{given_up_none, given_up_more}
 
 pub come_none : (number : ℕ) (h : Host) → incompletes_come number [] h ≡ h
 unfolding incompletes_come
@@ -42,36 +31,6 @@ come_none number h = refl
 pub come_more : (number on : ℕ) (ons : List ℕ) (h : Host) → incompletes_come number (on ∷ ons) h ≡ incompletes_come number ons (incomplete_comes number on h)
 unfolding incompletes_come
 come_more number on ons h = refl
-
--- on one link, from what the slots answered
-module _ (r : Result (Unit {0}) Stray) (on : ℕ) (s : PeerState) (told : IsOk r ↔ IsTrue (is_answered on s)) (slots : LinkSlots) where
-  abbrev by_answer : Bool → PeerState
-  by_answer b = if b then answer_comes on Incomplete s else s
-
-  pub not_out : is_err r ≡ true → OnErr r (slots ≡ s.slots) → record s { slots = slots } ≡ gives_up on s
-  not_out e same =
-      ap (λ (x : LinkSlots). record s { slots = x }) (not_done r on Incomplete s told r e same)
-      ∙ sym (ap by_answer (is_stray r on Incomplete s told r (is_answered on s) told e))
-
-  pub was_out : is_err r ≡ false → OnOk r (slots ≡ with_slot s.slots on (answered Incomplete (slot_at s.slots on))) → record s { slots = slots } ≡ gives_up on s
-  was_out e there =
-      answer_heard r on Incomplete s told Incomplete slots (record s { slots = slots }) refl e there refl
-      ∙ sym (ap by_answer (is_no_stray r on Incomplete s told r (is_answered on s) told e))
-
--- link after link
-cut_range : (on : ℕ) → on < 72 → range_with_len on (72 - on) ≡ on ∷ range_with_len (on + 1) (72 - (on + 1))
-cut_range on l = let e : 72 - on ≡ suc (72 - (on + 1)) = omega arith in ap (λ k. range_with_len on k) e
-
-pub given_up_here : (on : ℕ) (s now t : PeerState) → on < 72 → now ≡ gives_up on s → gives_up_all (range_with_len on (72 - on)) s ≡ t → gives_up_all (range_with_len (on + 1) (72 - (on + 1))) now ≡ t
-given_up_here on s now t l is all =
-    ap (λ (x : PeerState). gives_up_all (range_with_len (on + 1) (72 - (on + 1))) x) is
-    ∙ sym (given_up_more on (range_with_len (on + 1) (72 - (on + 1))) s)
-    ∙ ap (λ (ons : List ℕ). gives_up_all ons s) (sym (cut_range on l)) ∙ all
-
-pub given_up_last : (on : ℕ) (s t : PeerState) → 72 ≤ on → gives_up_all (range_with_len on (72 - on)) s ≡ t → s ≡ t
-given_up_last on s t l all =
-    let none : 72 - on ≡ 0 = omega arith in
-    sym (given_up_none s) ∙ ap (λ (k : ℕ). gives_up_all (range_with_len on k) s) (sym none) ∙ all
 
 -- what happens to one peer twice, and not at all
 at_peer_same : (ps : List (ℕ × PeerState)) (n : ℕ) (f g : PeerState → PeerState) (s : PeerState) → state_in ps n ≡ Some s → f s ≡ g s → at_peer n f ps ≡ at_peer n g ps

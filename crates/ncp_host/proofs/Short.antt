@@ -38,11 +38,12 @@ use Rattle.ncp_model.specs.Phase as phases
 use Rattle.ncp_model.specs.Sending.{fitting, next_commands, is_full}
 use Rattle.ncp_model.specs.Peers.{Peer, PairCall, Ask_to_send, Ask_to_receive, Close, Give, Take, Allocate, Call_back, Interrupt, called, calls_up, echo_called, hears_other, takes_text, frees_up, reaction, echo_replies}
 use Rattle.ncp_model.specs.Peers as peers
-use Rattle.ncp_host.specs.PeerState.{PeerState, control_link, frees_on, is_answered, answer_taken, answer_comes}
-use Rattle.ncp_host.specs.Counting.{one_more}
-use Rattle.ncp_host.specs.Hearing.{state_hears, state_hears_all, hears_last, state_hears_text, control_size, state_after_control, state_after_text, is_wrong_link, message_after, regular, answer_of, after_bits}
-use Rattle.ncp_host.specs.Output.{after_by, after_output}
-use Rattle.ncp_host.specs.Soundness.{IsShort, IsFit}
+use Rattle.ncp_peer.specs.PeerState.{PeerState, control_link, frees_on, is_answered, answer_taken, answer_comes}
+use Rattle.ncp_peer.specs.Counting.{one_more}
+use Rattle.ncp_peer.specs.Hearing.{state_hears, state_hears_all, hears_last, state_hears_text, control_size, state_after_control, state_after_text, is_wrong_link, message_after, regular, answer_of, after_bits}
+use Rattle.ncp_peer.specs.Output.{after_by, after_output}
+use Rattle.ncp_phase.specs.Waiting.{IsShort}
+use Rattle.ncp_peer.specs.Soundness.{IsFit}
 use Rattle.ncp_host.proofs.EachWaiting.{Each, EachWaits, each_of_both}
 use Rattle.ncp_host.proofs.EachWaiting as each
 

@@ -30,11 +30,11 @@ use Rattle.ncp_model.specs.Sending.{is_full}
 use Rattle.ncp_model.specs.Happenings.{Happening}
 use Rattle.ncp_model.specs.Peers.{Peer, PairCall, Ask_to_send, Ask_to_receive, Close, Give, Take, Allocate, Call_back, Interrupt, called, calls_up, echo_called, standing, cleared, makes, hears_other, takes_text, frees_up}
 use Rattle.ncp_model.specs.Peers as peers
-use Rattle.ncp_host.specs.Counting.{one_more}
-use Rattle.ncp_host.specs.PeerState.{PeerState, new_state, state_calls_wake, control_link, frees_on, is_answered, answer_taken, answer_comes}
-use Rattle.ncp_host.specs.Hearing.{state_hears, state_hears_all, hears_last, state_hears_text, control_size, state_after_control, state_after_text, is_wrong_link, message_after, regular, answer_of, after_bits}
-use Rattle.ncp_host.specs.Output.{after_by, after_made, after_output}
-use Rattle.ncp_host.specs.Soundness.{Agree, SoundPeer, IsSound}
+use Rattle.ncp_peer.specs.Counting.{one_more}
+use Rattle.ncp_peer.specs.PeerState.{PeerState, new_state, state_calls_wake, control_link, frees_on, is_answered, answer_taken, answer_comes}
+use Rattle.ncp_peer.specs.Hearing.{state_hears, state_hears_all, hears_last, state_hears_text, control_size, state_after_control, state_after_text, is_wrong_link, message_after, regular, answer_of, after_bits}
+use Rattle.ncp_peer.specs.Output.{after_by, after_made, after_output}
+use Rattle.ncp_peer.specs.Soundness.{Agree, SoundPeer, IsSound}
 use Rattle.ncp_host.proofs.Steady.{is_still}
 use Rattle.ncp_host.proofs.Agreeing.{IsTold, StaysFull, agree-empty, agree-full, agree-put, agree-hears, agree-text, agree-cut, agree-emptied, agree-freed}
 

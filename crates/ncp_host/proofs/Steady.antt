@@ -12,7 +12,7 @@ use Rattle.ncp_model.specs.Texts.{Rfnm, Incomplete, Dead}
 use Rattle.ncp_model.specs.Leading.{passes}
 use Rattle.ncp_model.specs.Happenings.{Happening, happens}
 use Rattle.ncp_model.specs.Happenings as all
-use Rattle.ncp_host.specs.Soundness.{is_end_busy}
+use Rattle.ncp_peer.specs.Soundness.{is_end_busy}
 
 -- no text of the end goes out
 abbrev pub is_still : Happening → Bool

@@ -3,8 +3,8 @@ use Rattle.std.proofs.Common.{◌≡◌, ◌≢◌, ◌⊎◌, ℕ, ◌==◌, Bo
 use Rattle.ncp_leader.specs.declared.leader.Leader.{Leader}
 use Rattle.ncp_leader.specs.declared.leader.Short.{Short}
 use Rattle.ncp_leader.specs.Leader.{leader_in}
-use Rattle.ncp_host.specs.PeerState.{PeerState}
-use Rattle.ncp_host.specs.Hearing.{is_kind}
+use Rattle.ncp_peer.specs.PeerState.{PeerState}
+use Rattle.ncp_peer.specs.Hearing.{is_kind}
 use Rattle.ncp_host.specs.Host.{Host, state_in, state_of, at_peer, numbers_of}
 use Rattle.ncp_host.specs.Arrivals.{OnlyNamedPeerChanges, OthersStay, OneIgnored, one_other, after_from, after_hearing}
 

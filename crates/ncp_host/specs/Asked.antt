@@ -2,16 +2,12 @@
 use Rattle.std.specs.Prelude.{ℕ, Result}
 use Rattle.ncp_model.specs.declared.pair.Pair.{Pair}
 use Rattle.ncp_model.specs.declared.call_fault.CallFault.{CallFault}
-use Rattle.ncp_model.specs.Peers.{PairCall, comes_of, reply}
-use Rattle.ncp_host.specs.PeerState.{PeerState, state_calls}
+use Rattle.ncp_model.specs.Peers.{PairCall}
 use Rattle.ncp_host.specs.Host.{Host}
-use Rattle.ncp_host.specs.Calls.{DoneOrNoMemory, call_reply, after_call_to}
+use Rattle.ncp_peer.specs.PeerCalls.{DoneOrNoMemory}
+use Rattle.ncp_host.specs.Calls.{call_reply, after_call_to}
 
 -- a call on a connection with a peer is done, or nothing is where there is no memory for it
 abbrev pub AsksOrNoMemory : ℕ → Pair → PairCall → Result (Unit {0}) CallFault → Host → Host → Type 0
 AsksOrNoMemory peer pair call result before now =
     DoneOrNoMemory (call_reply peer pair call before) (after_call_to peer pair call before) result before now
-
-abbrev pub StateAsksOrNoMemory : Pair → PairCall → Result (Unit {0}) CallFault → PeerState → PeerState → Type 0
-StateAsksOrNoMemory pair call result before now =
-    DoneOrNoMemory (reply (comes_of pair call before.peer)) (state_calls pair call before) result before now

@@ -1,21 +1,19 @@
 -- The calls of a user: what each answers, and what it leaves of the host. Each names a peer first; that the
 -- host has no such peer is judged before all else (this profile's rule).
-use Rattle.std.specs.Prelude.{◌≡◌, ◌⊎◌, ℕ, Bool, List, slice_get, Option, None, Some, Result, Ok, Err}
-use Rattle.ncp_terms.specs.declared.command.Command.{Command}
-use Rattle.ncp_slot.specs.Slot.{kept_message}
-use Rattle.ncp_slot.specs.Slots.{slot_at}
+use Rattle.std.specs.Prelude.{ℕ, Bool, List, Option, Result, Ok}
 use Rattle.ncp_model.specs.declared.pair.Pair.{Pair}
 use Rattle.ncp_model.specs.declared.call_fault.CallFault.{CallFault}
-use Rattle.ncp_model.specs.declared.call_fault.CallFault.TheVariants.{NoEntry, OutOfMemory}
 use Rattle.ncp_model.specs.declared.outcomes.Error.{Error}
-use Rattle.ncp_model.specs.Phase.{Phase, reset_answer}
+use Rattle.ncp_model.specs.Phase.{reset_answer}
 use Rattle.ncp_model.specs.Peers.{PairCall, Take, comes_of, reply, reply_of_take, reply_of_echo}
 use Rattle.ncp_conn.specs.declared.record.Record.{Record}
 use Rattle.ncp_conn.specs.Records.{record_in}
-use Rattle.ncp_host.specs.declared.counts.Counts.{Counts}
-use Rattle.ncp_host.specs.declared.flags.Flags.{Flags}
-use Rattle.ncp_host.specs.PeerState.{PeerState, state_calls, state_calls_echo, state_calls_reset, state_calls_wake}
+use Rattle.ncp_peer.specs.declared.counts.Counts.{Counts}
+use Rattle.ncp_phase.specs.declared.flags.Flags.{Flags}
+use Rattle.ncp_peer.specs.PeerState.{state_calls, state_calls_echo, state_calls_reset, state_calls_wake}
 use Rattle.ncp_host.specs.Host.{Host, state_of, changed, if_known}
+use Rattle.ncp_phase.specs.Flags.{flags_of}
+use Rattle.ncp_peer.specs.PeerCalls.{record_answer}
 
 -- A call on a connection.
 
@@ -55,23 +53,8 @@ wake_reply number h = if_known (state_of h number) (λ s. Ok tt)
 abbrev pub after_wake : ℕ → Host → Host
 after_wake number h = changed number state_calls_wake h
 
--- A call that takes memory does all that it is to do, or nothing where there is no memory for it. That is
--- answered last, where no other refusal comes.
-abbrev pub DoneOrNoMemory : {A : Type 0} → Result (Unit {0}) CallFault → A → Result (Unit {0}) CallFault → A → A → Type 0
-DoneOrNoMemory reply after result before now =
-    ((result ≡ reply) × (now ≡ after)) ⊎ ((result ≡ Err OutOfMemory) × (reply ≡ Ok tt) × (now ≡ before))
-
--- What is read changes nothing, and is answered in any phase.
-
-abbrev pub record_answer : Option Record → Result Record CallFault
-record_answer None = Err NoEntry
-record_answer (Some r) = Ok r
-
 abbrev pub record_told : ℕ → Pair → Host → Result Record CallFault
 record_told number pair h = if_known (state_of h number) (λ s. record_answer (record_in pair s.peer.ends))
-
-abbrev pub flags_of : Phase → Flags
-flags_of p = record { down = p.down; want = p.want; owe = p.owe; wait = p.wait }
 
 abbrev pub flags_told : ℕ → Host → Result Flags CallFault
 flags_told number h = if_known (state_of h number) (λ s. Ok (flags_of s.peer.phase))
@@ -84,13 +67,3 @@ errors_told number h = if_known (state_of h number) (λ s. Ok s.peer.echoes.erro
 
 abbrev pub counts_told : ℕ → Host → Result Counts CallFault
 counts_told number h = if_known (state_of h number) (λ s. Ok s.counts)
-
--- the command that waits at a place behind the first, if the host has the peer and so many wait
-abbrev pub waiting_at : Option PeerState → ℕ → Option Command
-waiting_at None place = None
-waiting_at (Some s) place = slice_get s.peer.phase.waiting place
-
--- the message on a link that is not taken yet, if the host has the peer and there is one
-abbrev pub kept_for : Option PeerState → ℕ → Option (List Bool)
-kept_for None on = None
-kept_for (Some s) on = kept_message (slot_at s.slots on)

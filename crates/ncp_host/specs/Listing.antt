@@ -1,22 +1,18 @@
 -- Who is there: the connections with a peer by place, for how many bits each has room, and the pair to which
 -- a link leads. What is read changes nothing, and is answered in any phase.
-use Rattle.std.specs.Prelude.{ℕ, Bool, Option, None, Some, Result, Ok, Err}
+use Rattle.std.specs.Prelude.{ℕ, Bool, Option, Result, Ok}
 use Rattle.ncp_slot.specs.Slot.{is_held}
 use Rattle.ncp_slot.specs.Slots.{slot_at}
 use Rattle.ncp_model.specs.declared.pair.Pair.{Pair}
 use Rattle.ncp_model.specs.declared.call_fault.CallFault.{CallFault}
-use Rattle.ncp_model.specs.declared.call_fault.CallFault.TheVariants.{NoEntry}
 use Rattle.ncp_conn.specs.declared.record.End.{End}
 use Rattle.ncp_conn.specs.declared.record.Record.{Record}
 use Rattle.ncp_conn.specs.Listing.{connection_in, room_of, pair_led_to}
 use Rattle.ncp_host.specs.Host.{Host, state_of, if_known}
+use Rattle.ncp_peer.specs.PeerCalls.{room_answer}
 
 abbrev pub connection_told : ℕ → ℕ → Host → Result (Option (Pair × Record)) CallFault
 connection_told number place h = if_known (state_of h number) (λ s. Ok (connection_in place s.peer.ends))
-
-abbrev pub room_answer : Option ℕ → Result ℕ CallFault
-room_answer None = Err NoEntry
-room_answer (Some room) = Ok room
 
 abbrev pub room_told : ℕ → Pair → Host → Result ℕ CallFault
 room_told number pair h = if_known (state_of h number) (λ s. room_answer (room_of pair s.peer.ends))

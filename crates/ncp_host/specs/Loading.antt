@@ -1,17 +1,7 @@
 -- What is judged of a host that is read from bytes.
 use Rattle.std.specs.Prelude.{◌≡◌, ℕ, ◌==◌, Bool, true, false, not, if◌then◌else◌, List, [], ◌∷◌, take, drop, slice_get, Option, None, Some, refl}
 use Rattle.std.specs.Str.{bytes_eq}
-use Rattle.std.specs.FinMap.{get}
-use Rattle.ncp_slot.specs.Slots.{LinkSlots}
-use Rattle.ncp_model.specs.declared.pair.Pair.{Pair}
-use Rattle.ncp_model.specs.Ends.{Ends, pair_of, sender_on}
 use Rattle.ncp_host.specs.Saved.{file_name, file_version}
-use Rattle.ncp_host.specs.Soundness.{is_end_busy, pair_hears_link, IsOut}
-
--- to the end of a pair alone the link leads that it heard, and its text is in its slot while it is out
-pub record IsPlaced (m : Ends) (slots : LinkSlots) (p : Pair) : Type 0 where
-  pub alone : (on : ℕ) → pair_hears_link on p m ≡ true → pair_of (sender_on on m) ≡ Some p
-  pub out : is_end_busy (get m p) ≡ true → IsOut m slots p
 
 -- the version of the bytes in which a host is saved, where they begin with the name
 abbrev pub version_in : List ℕ → Option ℕ

@@ -3,12 +3,12 @@ use Rattle.std.specs.Prelude.{◌≡◌, ℕ, Bool, true, List, length}
 use Rattle.std.specs.List.{zip}
 use Rattle.ncp_model.specs.declared.pair.Pair.{Pair}
 use Rattle.ncp_model.specs.Peers.{PairCall}
-use Rattle.ncp_host.specs.PeerState.{PeerState}
+use Rattle.ncp_peer.specs.PeerState.{PeerState}
 use Rattle.ncp_host.specs.Host.{Host, are_peers}
 use Rattle.ncp_host.specs.Calls.{after_call_to, after_reset, after_echo, after_wake}
 use Rattle.ncp_host.specs.Arrivals.{after_received}
 use Rattle.ncp_host.specs.Turns.{after_next_output}
-use Rattle.ncp_host.specs.Soundness.{AreWell}
+use Rattle.ncp_peer.specs.Soundness.{AreWell}
 
 -- A call that is refused for want of memory leaves the host as it was, and so does what is read: neither
 -- is a step.

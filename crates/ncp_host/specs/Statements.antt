@@ -13,14 +13,15 @@ use Rattle.ncp_model.specs.Act.{answer}
 use Rattle.ncp_model.specs.Calls.{give_end, allocate_end}
 use Rattle.ncp_model.specs.Peers.{Peer}
 use Rattle.ncp_conn.specs.declared.record.Record.{Record}
-use Rattle.ncp_host.specs.PeerState.{PeerState}
+use Rattle.ncp_peer.specs.PeerState.{PeerState}
 use Rattle.ncp_host.specs.Host.{Host, state_of}
 use Rattle.ncp_host.specs.Calls.{record_told}
 use Rattle.ncp_host.specs.Listing.{connection_told}
 use Rattle.ncp_host.specs.Arrivals.{OnlyNamedPeerChanges}
-use Rattle.ncp_host.specs.Restarting.{after_restart, IsGivenUp}
+use Rattle.ncp_peer.specs.GivingUp.{IsGivenUp}
+use Rattle.ncp_host.specs.Restarting.{after_restart}
 use Rattle.ncp_host.specs.Saved.{saved, HaveTheirLinks}
-use Rattle.ncp_host.specs.Readiness.{is_ready_by, is_link_ready, NoLinkReady, IsFirstLink, IsNext}
+use Rattle.ncp_peer.specs.Readiness.{is_ready_by, is_link_ready, NoLinkReady, IsFirstLink, IsNext}
 
 -- with nothing out, link 0 is ready where a command waits
 abbrev pub WaitingIsReady : Type 0

@@ -1,8 +1,8 @@
 -- What a host sends next: to the first of its peers to which a message is ready, in the order in which they
 -- were given (this profile's rule). All other peers stay.
 use Rattle.std.specs.Prelude.{ℕ, Bool, List, [], ◌∷◌, Option, None, Some}
-use Rattle.ncp_host.specs.PeerState.{PeerState}
-use Rattle.ncp_host.specs.Output.{next_of, after_output}
+use Rattle.ncp_peer.specs.PeerState.{PeerState}
+use Rattle.ncp_peer.specs.Output.{next_of, after_output}
 use Rattle.ncp_host.specs.Host.{Host}
 
 abbrev pub first_goes : Option (ℕ × List Bool) → ℕ × PeerState → List (ℕ × PeerState) → List (ℕ × PeerState) → List (ℕ × PeerState)

@@ -7,7 +7,7 @@ ghost use Rattle.ncp_host.specs.Host.{Host};
 ghost use Rattle.ncp_host.specs.Arrivals.{OthersStay};
 ghost use Rattle.ncp_host.specs.Restarting.{after_restart};
 ghost use Rattle.ncp_host.specs.Saved.{saved, AreAlikeHosts};
-ghost use Rattle.ncp_host.specs.Readiness.{is_ready_by, IsNext};
+ghost use Rattle.ncp_peer.specs.Readiness.{is_ready_by, IsNext};
 ghost use Rattle.ncp_host.specs.Statements.{WaitingIsReady, ReadyFirstGoesOut, ReadyBehindGoesOut, AgainMayGoOut, AgainAloneGoesOut, AgainBehindGoesOut, NoLowerIsReady, OtherPeersStay, CountsOrPeersStay, ShortLeavesPeers, RestartGivesUp, ListedIsTold, ToldIsListed, IsListedOnce, NoneIsListedBehind, GivenFits, NotGivenIsOver, AllowedFits, NotAllowedIsOver, SavedTellsApart};
 
 /// What is to go out again is ready. What is out or is held is not, whatever is new; with nothing out,

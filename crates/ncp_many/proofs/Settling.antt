@@ -6,7 +6,7 @@ use Rattle.std.proofs.lemmas.Bool.{both_ways, ne_eqb, eqb-true, eq-eqb}
 use Rattle.std.proofs.lemmas.List.{length-map}
 use Rattle.ncp_terms.specs.declared.links.TheConstants.{LAST_LINK}
 use Rattle.ncp_host.specs.Host.{Host, state_of, is_one_of}
-use Rattle.ncp_host.specs.Calls.{kept_for}
+use Rattle.ncp_peer.specs.PeerCalls.{kept_for}
 use Rattle.ncp_host.specs.Turns.{next_output}
 use Rattle.ncp_transcript.specs.declared.call.Call.TheVariants as calls
 use Rattle.ncp_transcript.specs.declared.note.HostNote.TheVariants as of_host

@@ -39,7 +39,7 @@ impl<S: BitStore> Model for Member<S> {
     ghost use Rattle.std.specs.Prelude.{ℕ};
     ghost use Rattle.std.specs.Coded.{codes};
     ghost use Rattle.ncp_slot.specs.Slots.{coded_slots};
-    ghost use Rattle.ncp_host.specs.Codes.{coded_ends};
+    ghost use Rattle.ncp_peer.specs.Codes.{coded_ends};
     ghost use Rattle.ncp_host.specs.Host.{Host as Seen};
 
     ghost Value = { ℕ × Seen };
@@ -60,7 +60,7 @@ pub(crate) struct Crowd<S: BitStore> {
 impl<S: BitStore> Model for Crowd<S> {
     ghost use Rattle.std.specs.Coded.{codes};
     ghost use Rattle.ncp_slot.specs.Slots.{coded_slots};
-    ghost use Rattle.ncp_host.specs.Codes.{coded_ends};
+    ghost use Rattle.ncp_peer.specs.Codes.{coded_ends};
     ghost use Rattle.ncp_subnet.specs.Codes.{coded_in_transit};
     ghost use Rattle.std.specs.Box.{boxed_slice_items};
     ghost use Rattle.ncp_transcript_many.specs.Crowd.{Crowd as Seen};

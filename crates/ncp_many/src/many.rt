@@ -40,7 +40,7 @@ pub struct Many<S: BitStore> {
 impl<S: BitStore> Model for Many<S> {
     ghost use Rattle.std.specs.Coded.{codes};
     ghost use Rattle.ncp_slot.specs.Slots.{coded_slots};
-    ghost use Rattle.ncp_host.specs.Codes.{coded_ends};
+    ghost use Rattle.ncp_peer.specs.Codes.{coded_ends};
     ghost use Rattle.ncp_subnet.specs.Codes.{coded_in_transit};
     ghost use Rattle.ncp_transcript_many.specs.ManyTranscript.{IsManyTranscript, Noted_many as Seen};
 

@@ -3,7 +3,7 @@
 //! - *Use:* `ncp audit examples/broken.ncp`.
 //! - *Proved:* the lines are those of the findings, up to the first fault of the file (`audit`, clause `told`). A rule asks
 //!   for what stands beside its name (`rule_meaning`), and has one text (`each_rule_has_one_meaning`).
-//! - *Tests:* `audits` of `ncp_test_files`, and `examples/broken.audit`.
+//! - *Tests:* the cases `audit_*` of `ncp_test_cases`, and `examples/broken.audit`.
 #![tactic(auto)]
 
 mod auditing;

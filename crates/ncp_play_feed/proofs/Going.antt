@@ -5,11 +5,11 @@ use Rattle.std.proofs.lemmas.List.Sums.{sum_by-cons}
 use Rattle.ncp_slot.specs.declared.slot.Slot.TheVariants.{Empty, Ready, Travelling, Held}
 use Rattle.ncp_slot.specs.Slots.{LinkSlot, slot_at}
 use Rattle.ncp_slot.proofs.Places.{slot_at-with_slot_same, slot_at-with_slot_other}
-use Rattle.ncp_host.specs.PeerState.{PeerState}
-use Rattle.ncp_host.specs.Output.{links, output_by, output_on, first_or, first_output, next_of, after_output}
+use Rattle.ncp_peer.specs.PeerState.{PeerState}
+use Rattle.ncp_peer.specs.Output.{links, output_by, output_on, first_or, first_output, next_of, after_output}
 use Rattle.ncp_host.specs.Host.{Host}
 use Rattle.ncp_host.specs.Turns.{first_message, message_in_turn, after_turn, next_output, after_next_output}
-use Rattle.ncp_host.proofs.Outputs.{first_none, first_more}
+use Rattle.ncp_peer.proofs.Outputs.{first_none, first_more}
 use Rattle.ncp_host.proofs.Turns.{message_cons, message_nil, after_cons}
 use Rattle.ncp_play_feed.specs.Going.{may_go, link_goes_on, links_to_peers, open_links}
 

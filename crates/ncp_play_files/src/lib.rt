@@ -10,7 +10,8 @@
 //! - *Proved:* what is written is a function of what is read (clause `told` of each; the lines are `specs/Lines.antt`),
 //!   up to the first fault, which is the first that holds; bytes have one reading (`laws::files_have_one_reading`), and
 //!   what is written is read again (`written_files_are_read`).
-//! - *Tests:* `files`, `conversions`, `failures` and `breaks` of `ncp_test_files`; `examples/` byte for byte.
+//! - *Tests:* the cases `show_*` and `convert` of `ncp_test_cases`; `failures` and `breaks` of `ncp_test_files`; `examples/` byte
+//!   for byte.
 #![tactic(auto)]
 
 mod checking;

@@ -6,7 +6,7 @@
 //!   letters only if they are asked for; the bytes are those of the text, and the answer says whether there is such a
 //!   connection (`follow` and `follow_text`, clause `told`). A word behind `by=` means the text beside it
 //!   (`end_meaning`), and has one meaning (`each_end_has_one_meaning`).
-//! - *Tests:* `follows` of `ncp_test_files`.
+//! - *Tests:* the cases `follow_*` of `ncp_test_cases`; a long text in `follows` of `ncp_test_files`.
 #![tactic(auto)]
 
 mod connection_line;

@@ -8,9 +8,9 @@ use Rattle.ncp_model.specs.declared.pair.Pair.{Pair}
 use Rattle.ncp_leader.specs.declared.fault.MessageFault.TheVariants.{TextMissing}
 use Rattle.ncp_conn.specs.declared.record.End.TheVariants.{Send, Receive}
 use Rattle.ncp_conn.specs.declared.record.Record.{Record}
-use Rattle.ncp_host.specs.declared.flags.Flags.{Flags}
-use Rattle.ncp_host.specs.declared.received.Received.{Received}
-use Rattle.ncp_host.specs.declared.received.Received.TheVariants as received
+use Rattle.ncp_phase.specs.declared.flags.Flags.{Flags}
+use Rattle.ncp_peer.specs.declared.received.Received.{Received}
+use Rattle.ncp_peer.specs.declared.received.Received.TheVariants as received
 use Rattle.ncp_transcript.specs.declared.call.Call.TheVariants as calls
 use Rattle.ncp_transcript.specs.declared.note.HostNote.{HostNote}
 use Rattle.ncp_transcript.specs.declared.note.HostNote.TheVariants as notes

@@ -10,9 +10,9 @@ use Rattle.ncp_model.specs.Faults.{name_of_call_fault}
 use Rattle.ncp_conn.specs.declared.record.End.{End}
 use Rattle.ncp_conn.specs.declared.record.End.TheVariants.{Send, Receive}
 use Rattle.ncp_conn.specs.declared.record.Record.{Record}
-use Rattle.ncp_host.specs.declared.counts.Counts.{Counts}
-use Rattle.ncp_host.specs.declared.counts.Ignored.{Ignored}
-use Rattle.ncp_host.specs.declared.flags.Flags.{Flags}
+use Rattle.ncp_peer.specs.declared.counts.Counts.{Counts}
+use Rattle.ncp_host.specs.declared.ignored.Ignored.{Ignored}
+use Rattle.ncp_phase.specs.declared.flags.Flags.{Flags}
 use Rattle.ncp_transcript.specs.declared.note.HostNote.{HostNote}
 use Rattle.ncp_transcript.specs.declared.note.HostNote.TheVariants as notes
 use Rattle.ncp_play_page.specs.Lines.{field}

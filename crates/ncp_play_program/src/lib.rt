@@ -5,7 +5,7 @@
 //! - *Use:* `ncp` is a `main` that calls `run`; `ncp_test_program` does what words say by `obey`, over bytes in memory.
 //! - *Proved:* each subcommand does what its part promises, with its status, and no failure is hidden (`obey`, clauses
 //!   `obeyed`, `read_failed` and `write_failed`; `specs/Orders.antt`).
-//! - *Tests:* `program` of `ncp_test_files`, and the stored runs `ncp_test_program`.
+//! - *Tests:* the cases of `ncp_test_cases`, and the stored runs `ncp_test_program`.
 #![tactic(auto)]
 
 pub mod examples;

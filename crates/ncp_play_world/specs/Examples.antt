@@ -5,7 +5,7 @@ use Rattle.ncp_terms.specs.declared.answer.Answer.TheVariants as answers
 use Rattle.ncp_model.specs.declared.call_fault.CallFault.TheVariants.{NoEntry}
 use Rattle.ncp_model.specs.declared.outcomes.Took.TheVariants.{Admitted}
 use Rattle.ncp_model.specs.declared.pair.Pair.{Pair}
-use Rattle.ncp_host.specs.declared.received.Received.TheVariants as received
+use Rattle.ncp_peer.specs.declared.received.Received.TheVariants as received
 use Rattle.ncp_transcript.specs.declared.call.Call.TheVariants as calls
 use Rattle.ncp_transcript.specs.declared.note.HostNote.{HostNote}
 use Rattle.ncp_transcript.specs.declared.note.HostNote.TheVariants as host_notes

@@ -25,7 +25,7 @@ impl<S: BitStore> Model for ManyStaged<S> {
     ghost use Rattle.std.specs.Prelude.{◌≡◌, ◌+◌, length};
     ghost use Rattle.std.specs.Coded.{codes};
     ghost use Rattle.ncp_slot.specs.Slots.{coded_slots};
-    ghost use Rattle.ncp_host.specs.Codes.{coded_ends};
+    ghost use Rattle.ncp_peer.specs.Codes.{coded_ends};
     ghost use Rattle.ncp_subnet.specs.Codes.{coded_in_transit};
     ghost use Rattle.ncp_play_world.specs.Traces.{traces_of, notes_marked};
     ghost use Rattle.ncp_play_world.specs.ManyRules.{StagedMany};

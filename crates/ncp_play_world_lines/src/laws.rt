@@ -4,8 +4,8 @@ ghost use Rattle.ncp_leader.specs.declared.kinds.TheConstants.{RFNM, DESTINATION
 ghost use Rattle.ncp_subnet.specs.Messages.{answer_bits};
 ghost use Rattle.ncp_terms.specs.declared.answer.Answer.TheVariants as answers;
 ghost use Rattle.ncp_model.specs.declared.outcomes.Took.TheVariants.{Admitted};
-ghost use Rattle.ncp_host.specs.declared.received.Received.{Received};
-ghost use Rattle.ncp_host.specs.declared.received.Received.TheVariants.{Answered, Text};
+ghost use Rattle.ncp_peer.specs.declared.received.Received.{Received};
+ghost use Rattle.ncp_peer.specs.declared.received.Received.TheVariants.{Answered, Text};
 ghost use Rattle.ncp_transcript.specs.declared.note.HostNote.TheVariants as host_notes;
 ghost use Rattle.ncp_transcript_many.specs.declared.many_event.ManyEvent.TheVariants as events;
 ghost use Rattle.ncp_transcript_many.specs.declared.many_note.ManyNote.TheVariants as many;

@@ -16,7 +16,7 @@
 //! - *Use:* `worked` of `ncp_test_program` goes through the players and the files.
 //! - *Proved:* what is written is a stated function of what is read (clause `told` of each call), and no failure of a
 //!   read or a write is hidden (`read_failed`, `write_failed`).
-//! - *Tests:* `ncp_test_play`, `ncp_test_files`, and the runs of `ncp_test_program`.
+//! - *Tests:* `ncp_test_play`, `ncp_test_files`, the cases of `ncp_test_cases`, and the runs of `ncp_test_program`.
 #![tactic(auto)]
 
 pub use ncp_follow::Follower;

@@ -2,7 +2,7 @@
 use Rattle.std.proofs.Common.{◌≡◌, ◌≢◌, ◌<◌, ℕ, ◌==◌, Bool, true, false, not, ◌||◌, if◌then◌else◌, List, [], ◌∷◌, Some, refl, sym, ap, ◌∙◌, subst}
 use Rattle.std.proofs.lemmas.Bool.{and_parts, eq-eqb, eqb-true}
 use Rattle.ncp_host.specs.Host.{Host, numbers_of, state_of, is_one_of, are_peers, new_host}
-use Rattle.ncp_host.specs.PeerState.{new_state}
+use Rattle.ncp_peer.specs.PeerState.{new_state}
 use Rattle.ncp_transcript.specs.After.{after_notes}
 use Rattle.ncp_transcript_two.specs.Seen.{state_or_new, had_for}
 use Rattle.ncp_transcript.specs.declared.note.HostNote.{HostNote}

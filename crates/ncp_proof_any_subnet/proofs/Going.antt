@@ -10,14 +10,14 @@ use Rattle.ncp_terms.specs.Spelling.{spellings, IsCommand}
 use Rattle.ncp_slot.specs.Slots.{LinkSlot, is_quiet, no_slots}
 use Rattle.ncp_slot.proofs.Places.{slot_at-no_slots, is_quiet-tells}
 use Rattle.ncp_subnet.specs.Messages.{from_host, link_in}
-use Rattle.ncp_host.specs.declared.received.Received.{Received}
-use Rattle.ncp_host.specs.PeerState.{PeerState, new_state, state_calls_reset}
+use Rattle.ncp_peer.specs.declared.received.Received.{Received}
+use Rattle.ncp_peer.specs.PeerState.{PeerState, new_state, state_calls_reset}
 use Rattle.ncp_host.specs.Host.{Host, new_host, numbers_of, state_of}
-use Rattle.ncp_host.specs.Hearing.{answer_received}
+use Rattle.ncp_peer.specs.Hearing.{answer_received}
 use Rattle.ncp_host.specs.Arrivals.{received_in}
 use Rattle.ncp_model.specs.Peers.{new_peer, calls_reset}
 use Rattle.ncp_slot.specs.Slots.{data_links}
-use Rattle.ncp_host.specs.Output.{first_output, first_or, output_on, output_by, made_on, next_of, message_on, leader_to}
+use Rattle.ncp_peer.specs.Output.{first_output, first_or, output_on, output_by, made_on, next_of, message_on, leader_to}
 use Rattle.ncp_host.specs.Turns.{next_output}
 use Rattle.ncp_transcript.specs.declared.call.Call.{Call}
 use Rattle.ncp_transcript.specs.declared.note.HostNote.{HostNote}

@@ -7,9 +7,9 @@ use Rattle.ncp_leader.specs.declared.leader.Short.{Short}
 use Rattle.ncp_leader.specs.Leader.{leader_in}
 use Rattle.ncp_leader.proofs.Leaders.{leader_in-bits}
 use Rattle.ncp_terms.specs.declared.answer.Answer.TheVariants.{Incomplete}
-use Rattle.ncp_host.specs.declared.received.Received.{Received}
-use Rattle.ncp_host.specs.PeerState.{PeerState, is_answered, answer_comes}
-use Rattle.ncp_host.specs.Output.{links}
+use Rattle.ncp_peer.specs.declared.received.Received.{Received}
+use Rattle.ncp_peer.specs.PeerState.{PeerState, is_answered, answer_comes}
+use Rattle.ncp_peer.specs.Output.{links}
 use Rattle.ncp_host.specs.Host.{Host, state_of, changed}
 use Rattle.ncp_host.specs.Arrivals.{after_with, after_from, after_received}
 use Rattle.ncp_host.specs.Restarting.{incomplete_leader, incomplete_bits, is_message_out, incomplete_comes, incompletes_come, after_restart}

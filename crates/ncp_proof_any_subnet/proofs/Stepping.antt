@@ -11,7 +11,7 @@ use Rattle.ncp_subnet.specs.Messages.{link_in, from_host, answer_bits, answer_ab
 use Rattle.ncp_subnet.specs.Ways.{OnLink}
 use Rattle.ncp_subnet.specs.Subnet.{Subnet, transit_at, with_transit}
 use Rattle.ncp_subnet.proofs.Places.{transit_at-same, transit_at-others}
-use Rattle.ncp_host.specs.declared.received.Received.{Received}
+use Rattle.ncp_peer.specs.declared.received.Received.{Received}
 use Rattle.ncp_host.specs.Host.{Host, state_of}
 use Rattle.ncp_host.specs.Arrivals.{received_in}
 use Rattle.ncp_host.specs.Turns.{next_output}

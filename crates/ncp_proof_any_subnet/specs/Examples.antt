@@ -5,10 +5,10 @@ use Rattle.ncp_terms.specs.declared.command.Command.{Command}
 use Rattle.ncp_terms.specs.declared.answer.Answer.TheVariants.{Rfnm}
 use Rattle.ncp_terms.specs.Spelling.{spellings}
 use Rattle.ncp_subnet.specs.Messages.{from_host}
-use Rattle.ncp_host.specs.declared.received.Received.{Received}
-use Rattle.ncp_host.specs.Hearing.{control_size}
-use Rattle.ncp_host.specs.PeerState.{control_link}
-use Rattle.ncp_host.specs.Output.{message_to}
+use Rattle.ncp_peer.specs.declared.received.Received.{Received}
+use Rattle.ncp_peer.specs.Hearing.{control_size}
+use Rattle.ncp_peer.specs.PeerState.{control_link}
+use Rattle.ncp_peer.specs.Output.{message_to}
 use Rattle.ncp_transcript.specs.declared.call.Call.{Call}
 use Rattle.ncp_transcript.specs.declared.note.HostNote.{HostNote}
 use Rattle.ncp_transcript_two.specs.declared.side.Side.TheVariants.{A, B}

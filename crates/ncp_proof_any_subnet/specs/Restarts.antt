@@ -2,9 +2,9 @@
 -- lowest link on.
 use Rattle.std.specs.Prelude.{ℕ, Bool, true, false, List, [], ◌∷◌}
 use Rattle.ncp_terms.specs.declared.answer.Answer.TheVariants.{Incomplete}
-use Rattle.ncp_host.specs.declared.received.Received.{Received}
+use Rattle.ncp_peer.specs.declared.received.Received.{Received}
 use Rattle.ncp_host.specs.Host.{Host, state_of}
-use Rattle.ncp_host.specs.Output.{links}
+use Rattle.ncp_peer.specs.Output.{links}
 use Rattle.ncp_host.specs.Restarting.{is_message_out, incomplete_comes}
 use Rattle.ncp_transcript.specs.declared.note.HostNote.{HostNote}
 

@@ -1,5 +1,5 @@
 //! What the premise admits, and what it refuses.
-ghost use Rattle.ncp_host.specs.declared.received.Received.{Received};
+ghost use Rattle.ncp_peer.specs.declared.received.Received.{Received};
 ghost use Rattle.ncp_proof_any_subnet.specs.HonestRuns.{IsHonestRun};
 ghost use Rattle.ncp_proof_any_subnet.specs.Examples.{delivered_once, delivered_twice};
 

@@ -3,7 +3,7 @@
 //!
 //! - *Use:* the two ends of a pipe, `ncp record | ncp audit`, as bytes.
 //! - *Proved:* the laws of `recorded`.
-//! - *Tests:* recordings of scripts are audited in `audits` of `ncp_test_files`.
+//! - *Tests:* a recording is audited in the cases `audit_rules` of `ncp_test_cases`.
 #![tactic(auto)]
 
 pub mod recorded;

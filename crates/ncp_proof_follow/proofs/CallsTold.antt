@@ -7,7 +7,7 @@ use Rattle.ncp_model.specs.declared.pair.Pair.{Pair}
 use Rattle.ncp_model.specs.End.{is_live}
 use Rattle.ncp_model.specs.Phase.{up}
 use Rattle.ncp_proof_machine.specs.Hosts.{Pasts}
-use Rattle.ncp_host.specs.PeerState.{PeerState}
+use Rattle.ncp_peer.specs.PeerState.{PeerState}
 use Rattle.ncp_transcript.specs.Asked.{Asked, state_after_asked}
 use Rattle.ncp_transcript_two.specs.Watch.{pasts_after_asked}
 use Rattle.ncp_umpire.specs.Lives.{SeenBooks}

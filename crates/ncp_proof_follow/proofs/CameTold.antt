@@ -16,9 +16,9 @@ use Rattle.ncp_model.specs.Phase.{Phase, up}
 use Rattle.ncp_model.specs.Peers.{takes_text}
 use Rattle.ncp_proof_machine.specs.Hosts.{Pasts}
 use Rattle.ncp_proof_machine.proofs.EndsGood.{Good}
-use Rattle.ncp_host.specs.PeerState.{PeerState}
-use Rattle.ncp_host.specs.Hearing.{state_hears_text, state_after_text, message_after}
-use Rattle.ncp_host.specs.Soundness.{SoundPeer}
+use Rattle.ncp_peer.specs.PeerState.{PeerState}
+use Rattle.ncp_peer.specs.Hearing.{state_hears_text, state_after_text, message_after}
+use Rattle.ncp_peer.specs.Soundness.{SoundPeer}
 use Rattle.ncp_transcript_two.specs.Watch.{of_commands, pasts_after_text, pasts_after_message}
 use Rattle.ncp_umpire.specs.declared.books.TheConstants.{MAX_BOOKS}
 use Rattle.ncp_umpire.specs.declared.finding.Finding.{Finding}

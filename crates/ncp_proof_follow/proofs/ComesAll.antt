@@ -12,9 +12,9 @@ use Rattle.ncp_model.specs.Phase.{is_other}
 use Rattle.ncp_model.specs.Peers.{Peer, echo_replies}
 use Rattle.ncp_proof_machine.specs.Hosts.{Pasts}
 use Rattle.ncp_proof_machine.proofs.EndsGood.{Good}
-use Rattle.ncp_host.specs.PeerState.{PeerState}
-use Rattle.ncp_host.specs.Hearing.{state_hears, state_hears_text}
-use Rattle.ncp_host.specs.Soundness.{SoundPeer}
+use Rattle.ncp_peer.specs.PeerState.{PeerState}
+use Rattle.ncp_peer.specs.Hearing.{state_hears, state_hears_text}
+use Rattle.ncp_peer.specs.Soundness.{SoundPeer}
 use Rattle.ncp_host.proofs.Sound.{sound-hears}
 use Rattle.ncp_transcript_two.specs.Watch.{of_command, of_commands}
 use Rattle.ncp_umpire.specs.declared.books.TheConstants.{MAX_BOOKS}

@@ -10,9 +10,9 @@ use Rattle.ncp_leader.specs.Message.{Message, message_in, message_with}
 use Rattle.ncp_terms.specs.Spelling.{spellings}
 use Rattle.ncp_slot.specs.Slots.{slot_at, is_quiet}
 use Rattle.ncp_proof_machine.specs.Hosts.{Pasts}
-use Rattle.ncp_host.specs.PeerState.{PeerState}
-use Rattle.ncp_host.specs.Hearing.{message_after}
-use Rattle.ncp_host.specs.Output.{leader_to}
+use Rattle.ncp_peer.specs.PeerState.{PeerState}
+use Rattle.ncp_peer.specs.Hearing.{message_after}
+use Rattle.ncp_peer.specs.Output.{leader_to}
 use Rattle.ncp_transcript_two.specs.Subnet.{Accepted, from_host}
 use Rattle.ncp_transcript_two.specs.World.{state_after_with, state_after_received}
 use Rattle.ncp_transcript_two.specs.Watch.{pasts_after_message}

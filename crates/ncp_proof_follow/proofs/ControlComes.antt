@@ -19,8 +19,8 @@ use Rattle.ncp_model.specs.Peers.{Peer, hears, hears_other}
 use Rattle.ncp_proof_watch.specs.Sound.{SoundAt}
 use Rattle.ncp_proof_machine.specs.Hosts.{Pasts, past_of}
 use Rattle.ncp_proof_machine.proofs.EndsGood.{Good}
-use Rattle.ncp_host.specs.PeerState.{PeerState}
-use Rattle.ncp_host.specs.Hearing.{state_hears}
+use Rattle.ncp_peer.specs.PeerState.{PeerState}
+use Rattle.ncp_peer.specs.Hearing.{state_hears}
 use Rattle.ncp_transcript_two.specs.Watch.{of_command}
 use Rattle.ncp_umpire.specs.declared.books.TheConstants.{MAX_BOOKS}
 use Rattle.ncp_umpire.specs.declared.kept.Kept.{Kept}

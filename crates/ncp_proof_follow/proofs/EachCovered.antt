@@ -5,7 +5,7 @@ use Rattle.ncp_leader.specs.Leader.{leader_in}
 use Rattle.ncp_subnet.specs.Messages.{arriving, answering, answer_about}
 use Rattle.ncp_subnet.specs.Transit.{answer_kind}
 use Rattle.ncp_subnet.specs.Ways.{OnLink}
-use Rattle.ncp_host.specs.Output.{leader_to}
+use Rattle.ncp_peer.specs.Output.{leader_to}
 use Rattle.ncp_host.specs.Turns.{next_output}
 use Rattle.ncp_transcript.specs.Noting.{note_of_message, note_of_output}
 use Rattle.ncp_transcript_two.specs.Subnet.{Free, Accepted, Delivered, Lost, Dead, from_host, answer_bits}

@@ -15,9 +15,9 @@ use Rattle.ncp_model.specs.Peers.{Take}
 use Rattle.ncp_proof_watch.specs.Sound.{SoundAt}
 use Rattle.ncp_proof_machine.specs.Hosts.{Pasts, past_of}
 use Rattle.ncp_proof_resets.specs.Resets.{This, That}
-use Rattle.ncp_host.specs.PeerState.{PeerState, answer_comes}
-use Rattle.ncp_host.specs.Hearing.{answer_of}
-use Rattle.ncp_host.specs.Output.{leader_to, next_of}
+use Rattle.ncp_peer.specs.PeerState.{PeerState, answer_comes}
+use Rattle.ncp_peer.specs.Hearing.{answer_of}
+use Rattle.ncp_peer.specs.Output.{leader_to, next_of}
 use Rattle.ncp_host.specs.Turns.{next_output}
 use Rattle.ncp_transcript.specs.declared.call.Call.{Call}
 use Rattle.ncp_transcript.specs.declared.note.HostNote.{HostNote}

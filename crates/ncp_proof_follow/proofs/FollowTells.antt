@@ -4,7 +4,7 @@ use Rattle.std.proofs.Common.{◌≡◌, ◌≢◌, ◌<◌, ℕ, zero, suc, tru
 use Rattle.std.specs.FinMap.{get, get-empty}
 use Rattle.ncp_model.specs.Pairs.{pair_cmp}
 use Rattle.ncp_model.specs.End.{is_live}
-use Rattle.ncp_host.specs.PeerState.{PeerState, new_state}
+use Rattle.ncp_peer.specs.PeerState.{PeerState, new_state}
 use Rattle.ncp_transcript_two.specs.Between.{Hosts, new_hosts}
 use Rattle.ncp_transcript_two.specs.Watch.{no_histories}
 use Rattle.ncp_transcript_two.specs.Watch.{Both}

@@ -26,9 +26,9 @@ use Rattle.ncp_model.specs.Sending.{fitting, next_commands}
 use Rattle.ncp_model.proofs.ResetLists.{rsts, rsts-append, bit}
 use Rattle.ncp_proof_watch.specs.Sound.{SoundAt}
 use Rattle.ncp_proof_machine.specs.Hosts.{Pasts}
-use Rattle.ncp_host.specs.PeerState.{PeerState}
-use Rattle.ncp_host.specs.Hearing.{is_wrong_link}
-use Rattle.ncp_host.specs.Output.{leader_to, message_to, control_message, text_message, output_by, after_next, after_output}
+use Rattle.ncp_peer.specs.PeerState.{PeerState}
+use Rattle.ncp_peer.specs.Hearing.{is_wrong_link}
+use Rattle.ncp_peer.specs.Output.{leader_to, message_to, control_message, text_message, output_by, after_next, after_output}
 use Rattle.ncp_host.specs.Turns.{next_output, after_next_output}
 use Rattle.ncp_transcript_two.specs.Tie.{AreCommands, IsText}
 use Rattle.ncp_transcript_two.specs.Between.{Hosts}

@@ -19,8 +19,8 @@ use Rattle.ncp_model.proofs.LinksLead.{cut-led}
 use Rattle.ncp_proof_watch.specs.Sound.{SoundAt}
 use Rattle.ncp_proof_machine.specs.Hosts.{Pasts}
 use Rattle.ncp_proof_machine.proofs.EndsGood.{Changes, same_or, put-changes, act-changes}
-use Rattle.ncp_host.specs.PeerState.{PeerState, control_link}
-use Rattle.ncp_host.specs.Output.{after_by, after_output}
+use Rattle.ncp_peer.specs.PeerState.{PeerState, control_link}
+use Rattle.ncp_peer.specs.Output.{after_by, after_output}
 use Rattle.ncp_transcript.specs.Asked.{Asked, Asks, Asks_echo, Asks_reset, Asks_wake, state_after_asked}
 use Rattle.ncp_proof_follow.proofs.PeerLives.{SoundAll, same_pair, is_ask}
 use Rattle.ncp_proof_follow.proofs.HostLives.{asked_lives, asks_for}

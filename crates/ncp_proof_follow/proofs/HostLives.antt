@@ -14,10 +14,10 @@ use Rattle.ncp_model.specs.Act.{answer}
 use Rattle.ncp_model.specs.Ends.{sender_on, receiver_on, pair_of, leads_to, text_in, cut_in}
 use Rattle.ncp_model.specs.Phase.{up}
 use Rattle.ncp_model.specs.Peers.{happened_at, peer_sends, frees, cuts}
-use Rattle.ncp_host.specs.PeerState.{PeerState, control_link, is_answered, frees_on, after_answer, answer_taken, answer_comes}
-use Rattle.ncp_host.specs.Counting.{one_more}
-use Rattle.ncp_host.specs.Hearing.{state_hears, state_hears_fault, state_after_text}
-use Rattle.ncp_host.specs.Output.{after_by, after_output}
+use Rattle.ncp_peer.specs.PeerState.{PeerState, control_link, is_answered, frees_on, after_answer, answer_taken, answer_comes}
+use Rattle.ncp_peer.specs.Counting.{one_more}
+use Rattle.ncp_peer.specs.Hearing.{state_hears, state_hears_fault, state_after_text}
+use Rattle.ncp_peer.specs.Output.{after_by, after_output}
 use Rattle.ncp_transcript.specs.Asked.{Asked, Asks, Asks_echo, Asks_reset, Asks_wake, state_after_asked}
 use Rattle.ncp_transcript_two.specs.Watch.{pasts_after_asked, of_command, pasts_after_text}
 use Rattle.ncp_proof_machine.specs.Hosts.{Pasts}

@@ -16,8 +16,8 @@ use Rattle.ncp_model.specs.Texts.{bytes_to_send, can_send, cut_bits}
 use Rattle.ncp_proof_watch.specs.Sound.{SoundEnd, SoundAt}
 use Rattle.ncp_proof_machine.specs.Hosts.{past_of, Pasts}
 use Rattle.ncp_proof_machine.proofs.EndsGood.{Good}
-use Rattle.ncp_host.specs.PeerState.{PeerState}
-use Rattle.ncp_host.specs.Output.{after_output}
+use Rattle.ncp_peer.specs.PeerState.{PeerState}
+use Rattle.ncp_peer.specs.Output.{after_output}
 use Rattle.ncp_umpire.specs.declared.life.Life.{Life}
 use Rattle.ncp_umpire.specs.declared.life.Topic.{Topic}
 use Rattle.ncp_umpire.specs.Lives.{SeenBooks, unasked_life, life_in_place, is_marked}

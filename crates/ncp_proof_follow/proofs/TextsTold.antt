@@ -19,8 +19,8 @@ use Rattle.ncp_model.specs.declared.outcomes.Took.{Took}
 use Rattle.ncp_proof_watch.specs.Histories.{IsBeginning}
 use Rattle.ncp_proof_machine.specs.Hosts.{past_of, Pasts}
 use Rattle.ncp_proof_machine.proofs.EndsGood.{Good}
-use Rattle.ncp_host.specs.PeerState.{PeerState}
-use Rattle.ncp_host.specs.Hearing.{state_after_text}
+use Rattle.ncp_peer.specs.PeerState.{PeerState}
+use Rattle.ncp_peer.specs.Hearing.{state_after_text}
 use Rattle.ncp_transcript_two.specs.Watch.{pasts_after_text}
 use Rattle.ncp_umpire.specs.declared.life.Life.{Life}
 use Rattle.ncp_umpire.specs.Lives.{SeenBooks, unasked_life, life_in_place}

@@ -4,7 +4,7 @@
 //! - *Use:* what `ncp follow` says of a file that `ncp record` wrote rests on it.
 //! - *Proved:* the law of `told`: at the receiver's interface the text that is told of a connection is what its receiver got,
 //!   at the sender's a beginning of what was given, and the one a beginning of the other.
-//! - *Tests:* what is told of recordings is in `follows` of `ncp_test_files`.
+//! - *Tests:* what is told of recordings is in the cases `follow_*` of `ncp_test_cases`.
 #![tactic(auto)]
 
 pub mod told;

@@ -4,7 +4,7 @@
 //! - *Use:* what `follow` tells of the file of two hosts rests on it (`ncp_proof_follow`).
 //! - *Proved:* the laws of `texts`: what the text is that is told of a connection, and that a record adds to it at its own
 //!   interface alone; and lemmas for the crate above.
-//! - *Tests:* what is told of recordings is in `follows` of `ncp_test_files`.
+//! - *Tests:* what is told of recordings is in the cases `follow_*` of `ncp_test_cases`.
 #![tactic(auto)]
 
 pub mod texts;

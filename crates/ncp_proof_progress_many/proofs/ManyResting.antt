@@ -10,10 +10,10 @@ use Rattle.ncp_proof_machine.specs.Hosts.{Node}
 use Rattle.ncp_subnet.specs.Transit.{is_accepted, answer_kind}
 use Rattle.ncp_subnet.specs.Messages.{arriving, answer_about}
 use Rattle.ncp_subnet.specs.Subnet.{transit_at}
-use Rattle.ncp_host.specs.PeerState.{PeerState}
+use Rattle.ncp_peer.specs.PeerState.{PeerState}
 use Rattle.ncp_host.specs.Host.{Host, state_in, state_of, if_known}
-use Rattle.ncp_host.specs.Calls.{kept_for}
-use Rattle.ncp_host.specs.Output.{next_of}
+use Rattle.ncp_peer.specs.PeerCalls.{kept_for}
+use Rattle.ncp_peer.specs.Output.{next_of}
 use Rattle.ncp_host.specs.Turns.{first_message, message_in_turn, next_output}
 use Rattle.ncp_proof_runs.proofs.States.{message_cons}
 use Rattle.ncp_transcript.specs.declared.call.Call.{Call}

@@ -2,7 +2,7 @@
 use Rattle.std.proofs.Common.{◌≡◌, List, [], ◌∷◌, ◌++◌, Bool, None, Some, refl, sym, ap, ◌∙◌, subst}
 use Rattle.std.proofs.lemmas.List.{append_assoc}
 use Rattle.ncp_host.specs.Host.{Host, numbers_of}
-use Rattle.ncp_host.specs.Readiness.{IsNext}
+use Rattle.ncp_peer.specs.Readiness.{IsNext}
 use Rattle.ncp_transcript.specs.declared.note.HostNote.{HostNote}
 use Rattle.ncp_transcript.specs.After.{after_notes}
 use Rattle.ncp_transcript.specs.Runs.{IsHostTranscript, host_began}

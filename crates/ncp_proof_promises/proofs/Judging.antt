@@ -25,9 +25,9 @@ use Rattle.ncp_proof_machine.specs.Hosts.{Node, NodeEvent, NodeStep, TwoNodes, m
 use Rattle.ncp_proof_machine.proofs.HostsStand.{hearing-stands}
 use Rattle.ncp_proof_machine.proofs.HostsStand.{NodesStand}
 use Rattle.ncp_proof_headline.proofs.HostsHeld.{ever}
-use Rattle.ncp_host.specs.declared.received.Received.{Received}
-use Rattle.ncp_host.specs.PeerState.{PeerState}
-use Rattle.ncp_host.specs.Hearing.{state_hears, state_hears_all}
+use Rattle.ncp_peer.specs.declared.received.Received.{Received}
+use Rattle.ncp_peer.specs.PeerState.{PeerState}
+use Rattle.ncp_peer.specs.Hearing.{state_hears, state_hears_all}
 use Rattle.ncp_transcript_two.specs.Subnet.{Holds, Free, Accepted, Delivered, Lost, Dead, TransitByLink, from_host}
 use Rattle.ncp_transcript.specs.Asked.{Asked, Reply}
 use Rattle.ncp_transcript_two.specs.World.{World, Told, Call_is_made, Goes_out, Is_delivered, Is_lost, Finds_dead, Is_answered, moves, goes, delivers, loses, dies, answers_for, WorldEvent, WorldStep, received, state_after_received}
@@ -39,7 +39,7 @@ use Rattle.ncp_transcript_two.proofs.Written.{read, control_text, from_host-mess
 use Rattle.ncp_transcript_two.proofs.Comings.{hears-stands, control-heard}
 use Rattle.ncp_transcript_two.proofs.Reaching.{of-reached, stands-there}
 use Rattle.ncp_transcript_two.proofs.Refusals.{none-refused}
-use Rattle.ncp_host.specs.Output.{next_of}
+use Rattle.ncp_peer.specs.Output.{next_of}
 use Rattle.ncp_proof_promises.specs.Judged.{ActsOnce, MakesNoErr, NoneErrs, is_error}
 
 -- a control message that comes, as the model has it

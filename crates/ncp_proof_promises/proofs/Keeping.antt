@@ -33,9 +33,9 @@ use Rattle.ncp_proof_machine.specs.Watching.{Watch, watch_of, sees_call, sees_ec
 use Rattle.ncp_proof_machine.proofs.HostsBase.{either, reactions, hears_all-host}
 use Rattle.ncp_proof_machine.proofs.Seeing.{calls_agree, echoes_agree, resets_agree, messages_agree, texts_agree, frees_agree}
 use Rattle.ncp_proof_machine.proofs.Watches.{watches_agree}
-use Rattle.ncp_host.specs.PeerState.{PeerState, after_answer, answer_comes}
-use Rattle.ncp_host.specs.Hearing.{is_wrong_link, state_hears, state_hears_all}
-use Rattle.ncp_host.specs.Output.{next_of, links, output_by, made_on, control_message, after_by}
+use Rattle.ncp_peer.specs.PeerState.{PeerState, after_answer, answer_comes}
+use Rattle.ncp_peer.specs.Hearing.{is_wrong_link, state_hears, state_hears_all}
+use Rattle.ncp_peer.specs.Output.{next_of, links, output_by, made_on, control_message, after_by}
 use Rattle.ncp_transcript_two.specs.Subnet.{Holds, Free, Accepted, Delivered, Lost, TransitByLink, from_host, link_in, set_at}
 use Rattle.ncp_transcript_two.specs.Subnet
 use Rattle.ncp_transcript.specs.Asked.{Asked, Asks, Asks_echo, Asks_reset, Asks_wake, state_after_asked}

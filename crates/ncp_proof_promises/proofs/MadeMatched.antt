@@ -23,8 +23,8 @@ use Rattle.ncp_model.specs.Sending.{is_full}
 use Rattle.ncp_model.specs.Phase.{Phase, Reaction, up, is_rst, is_rrp, is_other, is_resetting, has_place, wants_reset, owes_answer, goes_down, queued, makes_all, phase_answers, phase_hears}
 use Rattle.ncp_model.specs.Peers.{Peer, PairCall, happened_at, is_full_up, echo_replies, hears_other, reaction}
 use Rattle.ncp_proof_machine.specs.Watching.{Watch, begins_anew, sees_call, sees_echo, sees_command, sees_each, sees_taken}
-use Rattle.ncp_host.specs.PeerState.{PeerState, control_link, is_answered, frees_on}
-use Rattle.ncp_host.specs.Hearing.{control_size, is_wrong_link, state_hears, state_hears_all}
+use Rattle.ncp_peer.specs.PeerState.{PeerState, control_link, is_answered, frees_on}
+use Rattle.ncp_peer.specs.Hearing.{control_size, is_wrong_link, state_hears, state_hears_all}
 use Rattle.ncp_proof_runs.specs.Making.{Made, made, made_heard, not_struck, struck, went_down, made_in, all_made_in, answer_made, settling_made, by_pair_call, by_echo, by_reset, by_other, by_command, by_commands, by_fault, by_control, by_text, by_message, by_freeing, by_answer, by_answered, counts_rrp, counts_rst, reset_asked, made_rst_came, made_since}
 use Rattle.ncp_proof_promises.specs.Since.{watch_after_text, of_answer}
 

@@ -2,7 +2,7 @@
 use Rattle.std.proofs.Common.{◌≡◌, ◌<◌, ℕ, ◌==◌, Bool, true, false, ◌||◌, if◌then◌else◌, List, [], ◌∷◌, ◌++◌, None, Some, refl, sym, ap, ◌∙◌, subst, arith}
 use Rattle.std.proofs.lemmas.Bool.{eqb-true, eq-eqb}
 use Rattle.std.proofs.lemmas.List.Elements.{filter-append}
-use Rattle.ncp_host.specs.PeerState.{PeerState, new_state}
+use Rattle.ncp_peer.specs.PeerState.{PeerState, new_state}
 use Rattle.ncp_host.specs.Host.{Host, state_of, is_one_of}
 use Rattle.ncp_transcript.specs.declared.note.HostNote.{HostNote}
 use Rattle.ncp_transcript.specs.After.{after_note, after_notes}
@@ -24,7 +24,7 @@ use Rattle.ncp_transcript_two.proofs.Runs.{new-ties}
 use Rattle.ncp_transcript_two.proofs.Headlines.{stands, new}
 use Rattle.ncp_transcript_two.proofs.Growing.{began_noted}
 use Rattle.ncp_transcript_two.proofs.OneSide.{of_event}
-use Rattle.ncp_host.specs.PeerState.{control_link}
+use Rattle.ncp_peer.specs.PeerState.{control_link}
 use Rattle.ncp_proof_runs.specs.Links.{LinkSoFar, nothing_told, told_by, link_told_from}
 use Rattle.ncp_proof_runs.specs.Making.{Made, made_by_note, made_from, nothing_made, made_of}
 use Rattle.ncp_proof_promises.specs.Since.{Watches, watch_at, none_watched, watches_if_told, watched_from}

@@ -10,13 +10,13 @@ use Rattle.ncp_model.specs.declared.call_fault.CallFault.{CallFault}
 use Rattle.ncp_model.specs.Peers.{Take}
 use Rattle.ncp_proof_resets.specs.Resets.{This, That}
 use Rattle.ncp_proof_machine.specs.Hosts.{TwoNodes, nodes_swapped}
-use Rattle.ncp_host.specs.PeerState.{PeerState, control_link}
-use Rattle.ncp_host.specs.Hearing.{control_size, is_wrong_link, message_received, control_received, text_received}
+use Rattle.ncp_peer.specs.PeerState.{PeerState, control_link}
+use Rattle.ncp_peer.specs.Hearing.{control_size, is_wrong_link, message_received, control_received, text_received}
 use Rattle.ncp_host.specs.Host.{Host}
 use Rattle.ncp_host.specs.Arrivals.{received_in}
-use Rattle.ncp_host.specs.Output.{leader_to}
+use Rattle.ncp_peer.specs.Output.{leader_to}
 use Rattle.ncp_host.specs.Turns.{next_output}
-use Rattle.ncp_host.specs.declared.received.Received.{Received}
+use Rattle.ncp_peer.specs.declared.received.Received.{Received}
 use Rattle.ncp_numbers.specs.Bytes.{bytes_of}
 use Rattle.ncp_subnet.specs.Messages.{arriving, answer_about}
 use Rattle.ncp_transcript.specs.declared.call.Call.{Call}
@@ -50,7 +50,7 @@ use Rattle.ncp_slot.specs.Slot.{is_travelling}
 use Rattle.ncp_slot.specs.Slots.{is_quiet}
 use Rattle.ncp_model.specs.declared.pair.Pair.{Pair}
 use Rattle.ncp_proof_machine.specs.Watching.{Watch, sees_each}
-use Rattle.ncp_host.specs.PeerState.{is_answered}
+use Rattle.ncp_peer.specs.PeerState.{is_answered}
 use Rattle.ncp_proof_runs.specs.Links.{LinkSoFar, goes_fresh, link_of_leader}
 use Rattle.ncp_proof_runs.specs.Making.{Made, made_sent, by_asked, by_message, by_bits, by_out, made_by_note, made_from}
 use Rattle.ncp_transcript_two.specs.Refused.{is_refused}

@@ -20,7 +20,7 @@ use Rattle.ncp_model.specs.Sending.{is_full}
 use Rattle.ncp_model.specs.Peers.{Peer, PairCall, Ask_to_send, Ask_to_receive, Close, Give, Take, Allocate, Call_back, Interrupt, called, echoes_after}
 use Rattle.ncp_proof_machine.specs.Hosts.{Node, TextOut, node_reaction, quiet, node_cleared, node_kept_echoes, happens_at, node_calls, node_echo_called, node_calls_echo, node_calls_reset, node_hears, node_hears_other, node_hears_all, node_takes_text, node_hears_text, node_cuts, node_sends_text, node_frees, node_settles, text_answered, control_answered, node_text_comes, message_comes, base, TwoNodes, nodes_swapped, NodeStep, Calls_reset, Calls, Calls_echo, Falls, Sends, Sends_text, Hears, Hears_text, Loses, Loses_text, Dies, Text_dies, Is_answered, Text_is_answered, Wakes, node_steps, node_at, NodeEvent, new_node}
 use Rattle.ncp_proof_headline.proofs.HostsHeld.{ever}
-use Rattle.ncp_host.specs.PeerState.{PeerState}
+use Rattle.ncp_peer.specs.PeerState.{PeerState}
 use Rattle.ncp_transcript_two.specs.Tie.{Stands, Reached, Begins, Goes_on, Tied}
 use Rattle.ncp_transcript_two.specs.Subnet.{TransitByLink}
 use Rattle.ncp_transcript_two.specs.World.{World}

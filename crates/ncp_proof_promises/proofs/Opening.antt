@@ -36,9 +36,9 @@ use Rattle.ncp_proof_headline.proofs.HostsHeld.{ever, ever-swapped, happening, a
 use Rattle.ncp_proof_headline.specs.Headline.{NoPairOpens, NoCommandOpens, SenderOpensAt, ReceiverOpensAt}
 use Rattle.ncp_proof_headline.proofs.OpensNot.{none-live-at}
 use Rattle.ncp_proof_headline.proofs.HostsHeadline.{sender-opens-not, receiver-opens-not, sender-hears-not, receiver-hears-not}
-use Rattle.ncp_host.specs.PeerState.{PeerState, after_answer, answer_comes}
-use Rattle.ncp_host.specs.Hearing.{state_hears}
-use Rattle.ncp_host.specs.Output.{next_of, after_by}
+use Rattle.ncp_peer.specs.PeerState.{PeerState, after_answer, answer_comes}
+use Rattle.ncp_peer.specs.Hearing.{state_hears}
+use Rattle.ncp_peer.specs.Output.{next_of, after_by}
 use Rattle.ncp_transcript_two.specs.Subnet.{Holds, Free, Accepted, Delivered, Lost, TransitByLink, from_host}
 use Rattle.ncp_transcript_two.specs.Subnet
 use Rattle.ncp_transcript.specs.Asked.{Asked, Asks, Asks_echo, Asks_reset, Asks_wake, state_after_asked}

@@ -4,7 +4,7 @@ use Rattle.ncp_proof_machine.specs.Hosts.{TwoNodes}
 use Rattle.ncp_transcript_two.specs.Subnet.{Holds, Free, Accepted, Delivered, Lost, Dead, TransitByLink, set_at, link_in}
 use Rattle.ncp_transcript_two.specs.World.{World, Told, Call_is_made, Goes_out, Is_delivered, Is_lost, Finds_dead, Is_answered, moves, goes, delivers, loses, dies, answers_for, WorldStep}
 use Rattle.ncp_transcript_two.specs.Tie.{Tied, IsMove}
-use Rattle.ncp_host.specs.Output.{next_of}
+use Rattle.ncp_peer.specs.Output.{next_of}
 use Rattle.ncp_proof_promises.specs.Taking.{IsTaken}
 
 same : (n : ℕ) → (n == n) ≡ true

@@ -1,7 +1,7 @@
 -- At the end of a transcript each host has something for the other, its only peer.
 use Rattle.std.proofs.Common.{◌≡◌, ℕ, Bool, if◌then◌else◌, List, [], ◌∷◌, Option, Some, sym, ap, ◌∙◌, subst}
 use Rattle.std.proofs.lemmas.Bool.{eq-eqb}
-use Rattle.ncp_host.specs.PeerState.{PeerState}
+use Rattle.ncp_peer.specs.PeerState.{PeerState}
 use Rattle.ncp_host.specs.Host.{numbers_of, state_in, state_of}
 use Rattle.ncp_transcript_two.specs.Seen.{state_or_new, had_for}
 use Rattle.ncp_transcript_two.specs.declared.side.Side.{Side}

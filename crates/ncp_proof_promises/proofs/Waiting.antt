@@ -17,10 +17,10 @@ use Rattle.ncp_model.specs.Peers.{Peer, cleared, cuts, frees, peer_sends, settle
 use Rattle.ncp_proof_machine.specs.Hosts.{Node, NodeEvent, TwoNodes}
 use Rattle.ncp_proof_machine.proofs.HostsBase.{reactions, hears_all-host}
 use Rattle.ncp_proof_headline.proofs.HostsHeld.{ever}
-use Rattle.ncp_host.specs.declared.received.Received.{Received}
-use Rattle.ncp_host.specs.PeerState.{PeerState, after_answer, answer_comes}
-use Rattle.ncp_host.specs.Hearing.{is_wrong_link, message_received, state_hears, state_hears_all, text_received}
-use Rattle.ncp_host.specs.Output.{leader_to, next_of, after_by}
+use Rattle.ncp_peer.specs.declared.received.Received.{Received}
+use Rattle.ncp_peer.specs.PeerState.{PeerState, after_answer, answer_comes}
+use Rattle.ncp_peer.specs.Hearing.{is_wrong_link, message_received, state_hears, state_hears_all, text_received}
+use Rattle.ncp_peer.specs.Output.{leader_to, next_of, after_by}
 use Rattle.ncp_transcript_two.specs.Subnet.{Holds, Free, Accepted, Delivered, Lost, TransitByLink, from_host}
 use Rattle.ncp_transcript_two.specs.Subnet
 use Rattle.ncp_transcript.specs.Asked.{Asked, Asks, Asks_echo, Asks_reset, Asks_wake, state_after_asked}

@@ -9,7 +9,7 @@ use Rattle.ncp_proof_resets.specs.Resets.{Party, This, That}
 use Rattle.ncp_proof_resets.proofs.ResetKept.{Kept}
 use Rattle.ncp_proof_resets.proofs.ResetRuns.{starting}
 use Rattle.ncp_proof_machine.specs.Hosts.{nodes_swapped}
-use Rattle.ncp_host.specs.PeerState.{PeerState, new_state}
+use Rattle.ncp_peer.specs.PeerState.{PeerState, new_state}
 use Rattle.ncp_transcript_two.specs.World.{World, swap, Told, WorldEvent, moves, at, step, world_run_from, notes_from, WorldNote}
 use Rattle.ncp_transcript_two.specs.Tie.{IsOfModel}
 use Rattle.ncp_transcript_two.specs.declared.note.Note.{Note}

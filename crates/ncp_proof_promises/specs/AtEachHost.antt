@@ -1,6 +1,6 @@
 -- What holds at each host of a transcript, beside its own notes.
 use Rattle.std.specs.Prelude.{List}
-use Rattle.ncp_host.specs.PeerState.{PeerState}
+use Rattle.ncp_peer.specs.PeerState.{PeerState}
 use Rattle.ncp_transcript.specs.declared.note.HostNote.{HostNote}
 use Rattle.ncp_proof_runs.specs.Peers.{notes_of_peer}
 use Rattle.ncp_transcript_two.specs.declared.note.Note.{Note}

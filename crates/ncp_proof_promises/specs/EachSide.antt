@@ -1,7 +1,7 @@
 -- What holds at each side of a transcript: of what its host has for the other, and of what is watched there.
 use Rattle.std.specs.Prelude.{ℕ, List}
 use Rattle.ncp_proof_machine.specs.Watching.{Watch}
-use Rattle.ncp_host.specs.PeerState.{PeerState}
+use Rattle.ncp_peer.specs.PeerState.{PeerState}
 use Rattle.ncp_transcript.specs.declared.note.HostNote.{HostNote}
 use Rattle.ncp_proof_runs.specs.Peers.{notes_of_peer}
 use Rattle.ncp_proof_runs.specs.Making.{Made, made_of}

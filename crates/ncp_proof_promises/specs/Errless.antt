@@ -1,7 +1,7 @@
 -- Between two hosts no ERR is ever underway, and none ever came.
 use Rattle.std.specs.Prelude.{◌≡◌, false, []}
 use Rattle.std.specs.List.{list_any}
-use Rattle.ncp_host.specs.PeerState.{PeerState}
+use Rattle.ncp_peer.specs.PeerState.{PeerState}
 use Rattle.ncp_transcript_two.specs.Subnet.{TransitByLink}
 use Rattle.ncp_transcript_two.specs.Underway.{underway}
 use Rattle.ncp_proof_promises.specs.Judged.{is_error}

@@ -5,7 +5,7 @@ use Rattle.ncp_model.specs.declared.pair.Pair.{Pair}
 use Rattle.ncp_model.specs.Phase.{up_phase}
 use Rattle.ncp_model.specs.Peers.{new_peer}
 use Rattle.ncp_proof_machine.specs.Watching.{Watch}
-use Rattle.ncp_host.specs.PeerState.{PeerState, new_state}
+use Rattle.ncp_peer.specs.PeerState.{PeerState, new_state}
 use Rattle.ncp_transcript_two.specs.World.{World, Told}
 use Rattle.ncp_transcript_two.specs.Watch.{Both}
 use Rattle.ncp_proof_promises.specs.Since.{nothing_seen}

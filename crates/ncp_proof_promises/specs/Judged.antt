@@ -7,9 +7,9 @@ use Rattle.ncp_terms.specs.declared.command.Command.{Command}
 use Rattle.ncp_slot.specs.Slots.{is_quiet}
 use Rattle.ncp_model.specs.Phase.{up}
 use Rattle.ncp_model.specs.Peers.{reaction}
-use Rattle.ncp_host.specs.declared.received.Received.{Received}
-use Rattle.ncp_host.specs.PeerState.{PeerState, control_link}
-use Rattle.ncp_host.specs.Hearing.{state_hears, state_hears_all}
+use Rattle.ncp_peer.specs.declared.received.Received.{Received}
+use Rattle.ncp_peer.specs.PeerState.{PeerState, control_link}
+use Rattle.ncp_peer.specs.Hearing.{state_hears, state_hears_all}
 use Rattle.ncp_transcript_two.specs.World.{World, Told, In}
 use Rattle.ncp_transcript_two.specs.Refused.{is_refused}
 use Rattle.ncp_transcript_two.specs.Underway.{text_of, commands_of}

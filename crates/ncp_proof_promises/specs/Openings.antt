@@ -10,8 +10,8 @@ use Rattle.ncp_model.specs.Ends.{hears_link, uses_link}
 use Rattle.ncp_model.specs.Leading.{passes}
 use Rattle.ncp_model.specs.Peers.{Peer}
 use Rattle.ncp_proof_watch.specs.Histories.{opens}
-use Rattle.ncp_host.specs.PeerState.{PeerState, control_link}
-use Rattle.ncp_host.specs.Hearing.{state_hears, state_hears_all}
+use Rattle.ncp_peer.specs.PeerState.{PeerState, control_link}
+use Rattle.ncp_peer.specs.Hearing.{state_hears, state_hears_all}
 use Rattle.ncp_transcript_two.specs.World.{World, Told, Called, Out, In, Answered}
 use Rattle.ncp_transcript_two.specs.Underway.{commands_of}
 

@@ -9,7 +9,7 @@ use Rattle.ncp_proof_watch.specs.Histories.{Past, no_past}
 use Rattle.ncp_proof_machine.specs.Watching.{Watch}
 use Rattle.ncp_proof_machine.specs.Hosts.{Hears, node_at, run, peer_of}
 use Rattle.ncp_proof_machine.specs.HostRuns.{meets, meets_there}
-use Rattle.ncp_host.specs.PeerState.{PeerState}
+use Rattle.ncp_peer.specs.PeerState.{PeerState}
 use Rattle.ncp_transcript_two.specs.Subnet.{TransitByLink, Accepted, link_in, set_at}
 use Rattle.ncp_transcript_two.specs.World.{World}
 use Rattle.ncp_transcript_two.specs.Honest.{IsBeginningWithin, sent, came}

@@ -5,9 +5,9 @@ use Rattle.std.specs.List.{filter, list_any}
 use Rattle.ncp_terms.specs.declared.command.Command.{Command}
 use Rattle.ncp_model.specs.Ends.{no_ends}
 use Rattle.ncp_model.specs.Phase.{is_rrp, is_other}
-use Rattle.ncp_host.specs.declared.received.Received.{Received}
-use Rattle.ncp_host.specs.PeerState.{PeerState, control_link}
-use Rattle.ncp_host.specs.Hearing.{state_hears, state_hears_all}
+use Rattle.ncp_peer.specs.declared.received.Received.{Received}
+use Rattle.ncp_peer.specs.PeerState.{PeerState, control_link}
+use Rattle.ncp_peer.specs.Hearing.{state_hears, state_hears_all}
 use Rattle.ncp_transcript_two.specs.World.{World, Told, Called, Out, In, Answered}
 use Rattle.ncp_transcript_two.specs.Underway.{commands_of}
 

@@ -13,7 +13,7 @@ use Rattle.ncp_slot.specs.Slots.{is_quiet}
 use Rattle.ncp_model.specs.Phase.{up, is_reset, is_other, is_resetting}
 use Rattle.ncp_proof_resets.specs.Resets.{Party, This, That}
 use Rattle.ncp_proof_machine.specs.Watching.{Watch, begins_anew, sees_call, sees_echo, sees_each, sees_text, sees_taken}
-use Rattle.ncp_host.specs.PeerState.{PeerState, control_link}
+use Rattle.ncp_peer.specs.PeerState.{PeerState, control_link}
 use Rattle.ncp_transcript.specs.Asked.{Asked, Asks, Asks_echo, Asks_reset, Asks_wake}
 use Rattle.ncp_transcript_two.specs.World.{World, swap, Told, Called, In, Answered}
 use Rattle.ncp_transcript_two.specs.Underway.{commands_of, underway}

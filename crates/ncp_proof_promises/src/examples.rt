@@ -19,7 +19,7 @@ ghost use Rattle.ncp_model.specs.Rows.{outward, inward, counting};
 ghost use Rattle.ncp_proof_resets.specs.Resets.{This, That};
 ghost use Rattle.ncp_proof_watch.specs.Histories.{no_past};
 ghost use Rattle.ncp_proof_machine.specs.Hosts.{past_of};
-ghost use Rattle.ncp_host.specs.PeerState.{PeerState};
+ghost use Rattle.ncp_peer.specs.PeerState.{PeerState};
 ghost use Rattle.ncp_transcript.specs.declared.call.Call.{Call};
 ghost use Rattle.ncp_transcript.specs.declared.note.HostNote.{HostNote};
 ghost use Rattle.ncp_transcript.specs.Asked.{Asks_echo, Asks_reset, Reply, Asked};
@@ -46,7 +46,7 @@ ghost use Rattle.ncp_proof_promises.specs.PromiseRows.{before_meeting, after_mee
 ghost use Rattle.ncp_transcript_two.specs.declared.note.Note.TheVariants.{Lost};
 ghost use Rattle.ncp_transcript_two.specs.declared.side.Side.TheVariants.{A, B};
 ghost use Rattle.ncp_terms.specs.declared.command.Command.TheVariants.{Eco, Rrp, Rst};
-ghost use Rattle.ncp_host.specs.declared.received.Received.TheVariants.{Control, Text};
+ghost use Rattle.ncp_peer.specs.declared.received.Received.TheVariants.{Control, Text};
 ghost use Rattle.ncp_model.specs.declared.outcomes.Took.TheVariants.{Admitted, Over};
 
 use ncp_proof_headline::headline::openings_and_texts_out_happen;

@@ -1,6 +1,6 @@
 //! Laws of every transcript of a world, each the contract of a function that does nothing.
 ghost use Rattle.std.specs.Prelude.{List, None, Some};
-ghost use Rattle.ncp_host.specs.Readiness.{IsNext};
+ghost use Rattle.ncp_peer.specs.Readiness.{IsNext};
 ghost use Rattle.ncp_transcript_two.specs.declared.note.Note.{Note};
 ghost use Rattle.ncp_transcript_two.specs.Between.{Hosts, hosts_after_notes};
 ghost use Rattle.ncp_transcript_two.specs.Transcript.{began, IsTranscript};

@@ -7,8 +7,8 @@ use Rattle.ncp_model.specs.Phase.{Phase, is_resetting, reset_answer, up}
 use Rattle.ncp_model.specs.Peers.{Peer}
 use Rattle.ncp_proof_resets.specs.Resets.{Party, This, That}
 use Rattle.ncp_proof_machine.specs.Hosts.{Node, peer_of, NodeStep, TwoNodes, node_at, nodes_swapped}
-use Rattle.ncp_host.specs.PeerState.{PeerState}
-use Rattle.ncp_host.specs.Output.{next_of}
+use Rattle.ncp_peer.specs.PeerState.{PeerState}
+use Rattle.ncp_peer.specs.Output.{next_of}
 use Rattle.ncp_proof_headline.proofs.HostsHeld.{Ever, ever, after_step}
 use Rattle.ncp_transcript_two.specs.Subnet.{TransitByLink, Holds, Free, Accepted, Delivered, Lost, Dead}
 use Rattle.ncp_transcript.specs.Asked.{Asks, Asks_echo, Asks_reset, Asks_wake, Reply, Replied}

@@ -7,7 +7,7 @@ ghost use Rattle.ncp_model.specs.Rows.{outward, opened_end, gone};
 ghost use Rattle.ncp_proof_resets.specs.Resets.{This, That, anew};
 ghost use Rattle.ncp_proof_machine.specs.Hosts.{Calls, Falls, Sends, Hears, Wakes, new_node};
 ghost use Rattle.ncp_proof_machine.specs.HostRuns.{by, comes_up};
-ghost use Rattle.ncp_host.specs.PeerState.{new_state};
+ghost use Rattle.ncp_peer.specs.PeerState.{new_state};
 ghost use Rattle.ncp_transcript.specs.declared.call.Call.{Call};
 ghost use Rattle.ncp_transcript.specs.declared.note.HostNote.{HostNote};
 ghost use Rattle.ncp_transcript_two.specs.declared.side.Side.{Side};

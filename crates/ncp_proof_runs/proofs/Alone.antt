@@ -4,12 +4,12 @@ use Rattle.std.proofs.lemmas.Bool.{eqb-true}
 use Rattle.ncp_leader.specs.declared.leader.Leader.{Leader}
 use Rattle.ncp_leader.specs.declared.leader.Short.{Short}
 use Rattle.ncp_leader.specs.Leader.{leader_in}
-use Rattle.ncp_host.specs.PeerState.{PeerState}
-use Rattle.ncp_host.specs.Hearing.{regular, is_kind}
-use Rattle.ncp_host.specs.Output.{next_of}
+use Rattle.ncp_peer.specs.PeerState.{PeerState}
+use Rattle.ncp_peer.specs.Hearing.{regular, is_kind}
+use Rattle.ncp_peer.specs.Output.{next_of}
 use Rattle.ncp_host.specs.Host.{Host, state_in, state_of, numbers_of, is_one_of, new_host}
 use Rattle.ncp_host.specs.Arrivals.{received_from, received_with}
-use Rattle.ncp_host.specs.declared.received.Received.{Received}
+use Rattle.ncp_peer.specs.declared.received.Received.{Received}
 use Rattle.ncp_host.specs.Turns.{message_in_turn, first_message, next_output}
 use Rattle.ncp_transcript.specs.declared.call.Call.{Call}
 use Rattle.ncp_transcript.specs.declared.note.HostNote.{HostNote}

@@ -25,11 +25,11 @@ use Rattle.ncp_model.specs.Commands.{errs, wrong_rts, wrong_str, heard_link, hea
 use Rattle.ncp_model.specs.Echo.{Echoes}
 use Rattle.ncp_model.specs.Phase.{up}
 use Rattle.ncp_model.specs.Peers.{Peer}
-use Rattle.ncp_host.specs.declared.counts.Counts.{Counts}
-use Rattle.ncp_host.specs.declared.received.Received.{Received}
-use Rattle.ncp_host.specs.Counting.{one_more, one_more_if, no_counts, is_late, counts_while_up, counts_after, counts_after_fault, counts_of_text}
-use Rattle.ncp_host.specs.PeerState.{PeerState, new_state, control_link, is_answered, answer_taken, answer_comes}
-use Rattle.ncp_host.specs.Hearing.{control_size, state_after_control, state_after_text, is_wrong_link, took, state_hears, state_hears_all, hears_last, message_after, message_received, answer_received}
+use Rattle.ncp_peer.specs.declared.counts.Counts.{Counts}
+use Rattle.ncp_peer.specs.declared.received.Received.{Received}
+use Rattle.ncp_peer.specs.Counting.{one_more, one_more_if, no_counts, is_late, counts_while_up, counts_after, counts_after_fault, counts_of_text}
+use Rattle.ncp_peer.specs.PeerState.{PeerState, new_state, control_link, is_answered, answer_taken, answer_comes}
+use Rattle.ncp_peer.specs.Hearing.{control_size, state_after_control, state_after_text, is_wrong_link, took, state_hears, state_hears_all, hears_last, message_after, message_received, answer_received}
 use Rattle.ncp_host.specs.Host.{state_of, new_host}
 use Rattle.ncp_transcript.specs.Asked.{asked_in, Asked, Asks, Asks_echo, Asks_reset, Asks_wake}
 use Rattle.ncp_transcript.specs.declared.note.HostNote.{HostNote}

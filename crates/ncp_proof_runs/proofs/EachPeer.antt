@@ -5,8 +5,8 @@ use Rattle.ncp_leader.specs.declared.leader.Short.{Short}
 use Rattle.ncp_leader.specs.Leader.{leader_in}
 use Rattle.ncp_slot.specs.Slot.{kept_message}
 use Rattle.ncp_slot.proofs.Places.{slot_at-no_slots}
-use Rattle.ncp_host.specs.PeerState.{PeerState, new_state}
-use Rattle.ncp_host.specs.Hearing.{is_kind, after_bits}
+use Rattle.ncp_peer.specs.PeerState.{PeerState, new_state}
+use Rattle.ncp_peer.specs.Hearing.{is_kind, after_bits}
 use Rattle.ncp_host.specs.Host.{Host, state_in, state_of, at_peer, numbers_of, is_one_of, are_distinct, new_host}
 use Rattle.ncp_host.specs.Arrivals.{after_with, after_from, one_other}
 use Rattle.ncp_transcript.specs.declared.note.HostNote.{HostNote}

@@ -7,9 +7,9 @@ use Rattle.ncp_model.specs.Echo.{Echoes, echo_answer}
 use Rattle.ncp_model.specs.Phase.{up}
 use Rattle.ncp_model.specs.Sending.{is_full}
 use Rattle.ncp_model.specs.Peers.{Peer, call_accepted, reply_of_echo}
-use Rattle.ncp_host.specs.declared.counts.Counts.{Counts}
+use Rattle.ncp_peer.specs.declared.counts.Counts.{Counts}
 use Rattle.ncp_host.specs.Calls.{echoed_told, errors_told, counts_told}
-use Rattle.ncp_host.specs.PeerState.{PeerState}
+use Rattle.ncp_peer.specs.PeerState.{PeerState}
 use Rattle.ncp_host.specs.Host.{Host, state_of, new_host, if_known}
 use Rattle.ncp_transcript.specs.declared.call.Call.{Call}
 use Rattle.ncp_transcript.specs.declared.note.HostNote.{HostNote}

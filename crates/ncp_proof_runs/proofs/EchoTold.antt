@@ -27,11 +27,11 @@ use Rattle.ncp_model.specs.Echo.{Echoes, echo_answer, echo_asked, hear_erp, hear
 use Rattle.ncp_model.specs.Sending.{is_full}
 use Rattle.ncp_model.specs.Phase.{Phase, up, is_rst, is_rrp, is_resetting, phase_asks, hears_rrp, hears_rst, reset_answer, phase_settles, resets}
 use Rattle.ncp_model.specs.Peers.{Peer, Take, kept_echoes, call_accepted, reply_of_echo, PairCall, calls, calls_echo, calls_reset, calls_up, cleared, cuts, echo_called, frees, frees_up, hears, hears_other, makes, peer_sends, takes_text}
-use Rattle.ncp_host.specs.declared.received.Received.{Received}
-use Rattle.ncp_host.specs.Counting.{one_more}
-use Rattle.ncp_host.specs.PeerState.{PeerState, new_state, control_link, after_answer, is_answered, answer_taken, answer_comes}
-use Rattle.ncp_host.specs.Hearing.{control_size, state_after_control, state_after_text, is_wrong_link, took, state_hears, state_hears_all, hears_last, message_after, message_received}
-use Rattle.ncp_host.specs.Output.{after_by}
+use Rattle.ncp_peer.specs.declared.received.Received.{Received}
+use Rattle.ncp_peer.specs.Counting.{one_more}
+use Rattle.ncp_peer.specs.PeerState.{PeerState, new_state, control_link, after_answer, is_answered, answer_taken, answer_comes}
+use Rattle.ncp_peer.specs.Hearing.{control_size, state_after_control, state_after_text, is_wrong_link, took, state_hears, state_hears_all, hears_last, message_after, message_received}
+use Rattle.ncp_peer.specs.Output.{after_by}
 use Rattle.ncp_host.specs.Host.{state_of, new_host}
 use Rattle.ncp_transcript.specs.Asked.{asked_in, Asked, Asks, Asks_echo, Asks_reset, Asks_wake}
 use Rattle.ncp_transcript.specs.declared.note.HostNote.{HostNote}

@@ -6,12 +6,12 @@ use Rattle.ncp_leader.specs.Leader.{leader_in}
 use Rattle.ncp_terms.specs.declared.answer.Answer.{Answer}
 use Rattle.ncp_terms.specs.declared.answer.Answer.TheVariants.{Rfnm, Incomplete, Dead}
 use Rattle.ncp_model.specs.Peers.{Take}
-use Rattle.ncp_host.specs.PeerState.{PeerState, new_state, state_calls, answer_comes}
-use Rattle.ncp_host.specs.Hearing.{rfnm, destination_dead, incomplete, is_kind, after_bits}
-use Rattle.ncp_host.specs.Output.{after_output}
+use Rattle.ncp_peer.specs.PeerState.{PeerState, new_state, state_calls, answer_comes}
+use Rattle.ncp_peer.specs.Hearing.{rfnm, destination_dead, incomplete, is_kind, after_bits}
+use Rattle.ncp_peer.specs.Output.{after_output}
 use Rattle.ncp_host.specs.Host.{Host, state_of, at_peer, new_host}
 use Rattle.ncp_host.specs.Arrivals.{after_with, after_from, one_other}
-use Rattle.ncp_host.specs.Readiness.{IsNext}
+use Rattle.ncp_peer.specs.Readiness.{IsNext}
 use Rattle.ncp_host.proofs.Sound.{sound-calls, sound-echo, sound-reset, sound-wakes, sound-bits, sound-output, sound-new}
 use Rattle.ncp_host.proofs.Short.{fit-calls, fit-echo, fit-reset, fit-bits, fit-output, fit-new}
 use Rattle.ncp_host.proofs.FirstReady.{IsWell, AreWell, is_next}

@@ -19,9 +19,9 @@ use Rattle.ncp_model.specs.Happenings.{Text_comes, happens, outcome_of_text}
 use Rattle.ncp_model.specs.Phase.{up}
 use Rattle.ncp_model.proofs.LinksLead.{led}
 use Rattle.ncp_proof_watch.specs.Histories.{Past, no_past, adds, opens}
-use Rattle.ncp_host.specs.declared.received.Received.{Received}
-use Rattle.ncp_host.specs.PeerState.{PeerState, new_state, control_link, is_answered}
-use Rattle.ncp_host.specs.Hearing.{regular, is_kind, is_wrong_link, control_size, took, message_received}
+use Rattle.ncp_peer.specs.declared.received.Received.{Received}
+use Rattle.ncp_peer.specs.PeerState.{PeerState, new_state, control_link, is_answered}
+use Rattle.ncp_peer.specs.Hearing.{regular, is_kind, is_wrong_link, control_size, took, message_received}
 use Rattle.ncp_host.specs.Host.{Host, state_of, new_host}
 use Rattle.ncp_host.specs.Arrivals.{received_with, received_from}
 use Rattle.ncp_transcript.specs.declared.note.HostNote.{HostNote}

@@ -8,10 +8,10 @@ use Rattle.ncp_leader.specs.Message.{message_in}
 use Rattle.ncp_model.specs.declared.pair.Pair.{Pair}
 use Rattle.ncp_model.specs.declared.call_fault.CallFault.{CallFault}
 use Rattle.ncp_model.specs.Peers.{Take, comes_of, reply_of_take}
-use Rattle.ncp_host.specs.declared.received.Received.{Received}
-use Rattle.ncp_host.specs.PeerState.{PeerState, state_calls, answer_comes}
-use Rattle.ncp_host.specs.Hearing.{regular, message_received, answer_received}
-use Rattle.ncp_host.specs.Output.{leader_to, links, after_output}
+use Rattle.ncp_peer.specs.declared.received.Received.{Received}
+use Rattle.ncp_peer.specs.PeerState.{PeerState, state_calls, answer_comes}
+use Rattle.ncp_peer.specs.Hearing.{regular, message_received, answer_received}
+use Rattle.ncp_peer.specs.Output.{leader_to, links, after_output}
 use Rattle.ncp_host.specs.Host.{Host, state_in, state_of, numbers_of, are_distinct, if_known}
 use Rattle.ncp_host.specs.Arrivals.{received_with, received_from}
 use Rattle.ncp_host.specs.Turns.{next_output}

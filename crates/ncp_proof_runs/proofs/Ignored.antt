@@ -8,11 +8,11 @@ use Rattle.ncp_leader.specs.declared.fault.MessageFault.{MessageFault}
 use Rattle.ncp_leader.specs.Leader.{leader_in}
 use Rattle.ncp_leader.specs.Message.{Message, message_in}
 use Rattle.ncp_model.specs.Phase.{up}
-use Rattle.ncp_host.specs.declared.counts.Ignored.{Ignored}
-use Rattle.ncp_host.specs.declared.received.Received.{Received}
-use Rattle.ncp_host.specs.Counting.{none_ignored}
-use Rattle.ncp_host.specs.PeerState.{PeerState, control_link, is_answered}
-use Rattle.ncp_host.specs.Hearing.{regular, is_kind, is_wrong_link, control_size, took, message_received, answer_received, received_of}
+use Rattle.ncp_host.specs.declared.ignored.Ignored.{Ignored}
+use Rattle.ncp_peer.specs.declared.received.Received.{Received}
+use Rattle.ncp_host.specs.Ignoring.{none_ignored}
+use Rattle.ncp_peer.specs.PeerState.{PeerState, control_link, is_answered}
+use Rattle.ncp_peer.specs.Hearing.{regular, is_kind, is_wrong_link, control_size, took, message_received, answer_received, received_of}
 use Rattle.ncp_host.specs.Host.{Host, state_of, new_host}
 use Rattle.ncp_host.specs.Arrivals.{received_with, received_from, after_with, after_from, one_other}
 use Rattle.ncp_transcript.specs.declared.note.HostNote.{HostNote}

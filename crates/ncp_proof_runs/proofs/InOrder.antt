@@ -25,12 +25,13 @@ use Rattle.ncp_model.specs.Echo.{echo_answer}
 use Rattle.ncp_model.specs.Phase.{Phase, up, is_resetting, wants_reset, makes_all, phase_settles, resets}
 use Rattle.ncp_model.specs.Sending.{is_full, next_commands}
 use Rattle.ncp_model.specs.Peers.{Peer, Take, happened_at, PairCall, calls, calls_echo, calls_reset, calls_up, cleared, cuts, echo_called, frees, frees_up, makes, peer_sends, takes_text}
-use Rattle.ncp_host.specs.Counting.{one_more}
-use Rattle.ncp_host.specs.PeerState.{PeerState, new_state, control_link, is_answered, answer_taken, answer_comes, frees_on, after_answer}
-use Rattle.ncp_host.specs.Hearing.{control_size, state_after_control, state_after_text, is_wrong_link, state_hears, state_hears_all, hears_last, message_after}
-use Rattle.ncp_host.specs.Output.{control_message, output_by, output_on, after_by}
-use Rattle.ncp_host.specs.declared.flags.Flags.{Flags}
-use Rattle.ncp_host.specs.Calls.{flags_of, flags_told}
+use Rattle.ncp_peer.specs.Counting.{one_more}
+use Rattle.ncp_peer.specs.PeerState.{PeerState, new_state, control_link, is_answered, answer_taken, answer_comes, frees_on, after_answer}
+use Rattle.ncp_peer.specs.Hearing.{control_size, state_after_control, state_after_text, is_wrong_link, state_hears, state_hears_all, hears_last, message_after}
+use Rattle.ncp_peer.specs.Output.{control_message, output_by, output_on, after_by}
+use Rattle.ncp_phase.specs.declared.flags.Flags.{Flags}
+use Rattle.ncp_phase.specs.Flags.{flags_of}
+use Rattle.ncp_host.specs.Calls.{flags_told}
 use Rattle.ncp_host.specs.Host.{Host, state_of, new_host, if_known}
 use Rattle.ncp_transcript.specs.Asked.{asked_in, Asked, Asks, Asks_echo, Asks_reset, Asks_wake}
 use Rattle.ncp_transcript.specs.Notes.{told_or_refused}

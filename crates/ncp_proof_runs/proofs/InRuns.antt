@@ -7,10 +7,10 @@ use Rattle.ncp_leader.specs.Leader.{leader_in}
 use Rattle.ncp_terms.specs.declared.answer.Answer.{Answer}
 use Rattle.ncp_terms.specs.declared.answer.Answer.TheVariants.{Dead}
 use Rattle.ncp_slot.specs.Slots.{slot_at}
-use Rattle.ncp_host.specs.declared.received.Received.{Received}
-use Rattle.ncp_host.specs.PeerState.{PeerState, new_state}
-use Rattle.ncp_host.specs.Hearing.{answer_received}
-use Rattle.ncp_host.specs.Output.{leader_to, links, output_on, next_of}
+use Rattle.ncp_peer.specs.declared.received.Received.{Received}
+use Rattle.ncp_peer.specs.PeerState.{PeerState, new_state}
+use Rattle.ncp_peer.specs.Hearing.{answer_received}
+use Rattle.ncp_peer.specs.Output.{leader_to, links, output_on, next_of}
 use Rattle.ncp_host.specs.Host.{Host, state_in, state_of, is_one_of, new_host}
 use Rattle.ncp_host.specs.Turns.{message_in_turn, first_message}
 use Rattle.ncp_transcript.specs.declared.note.HostNote.{HostNote}

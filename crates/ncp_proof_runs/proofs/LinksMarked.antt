@@ -7,7 +7,7 @@ use Rattle.ncp_model.specs.End.{End}
 use Rattle.ncp_model.specs.Ends.{hears_link, uses_link, pair_of, sender_on, receiver_on}
 use Rattle.ncp_model.specs.Leading.{passes}
 use Rattle.ncp_model.proofs.LinksLead.{led}
-use Rattle.ncp_host.specs.PeerState.{PeerState}
+use Rattle.ncp_peer.specs.PeerState.{PeerState}
 use Rattle.ncp_host.specs.Host.{state_of, new_host}
 use Rattle.ncp_transcript.specs.declared.note.HostNote.{HostNote}
 use Rattle.ncp_transcript.specs.After.{after_notes}

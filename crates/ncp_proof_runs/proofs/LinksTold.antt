@@ -13,11 +13,11 @@ use Rattle.ncp_slot.specs.Slots.{LinkSlot, LinkSlots, slot_at, with_slot, all_wo
 use Rattle.ncp_slot.proofs.Places.{slot_at-with_slot_same, slot_at-with_slot_other, slot_at-no_slots}
 use Rattle.ncp_slot.proofs.Waking.{slot_at-all_woken}
 use Rattle.ncp_model.specs.Peers.{Peer}
-use Rattle.ncp_host.specs.Counting.{one_more}
-use Rattle.ncp_host.specs.declared.received.Received.{Received}
-use Rattle.ncp_host.specs.PeerState.{PeerState, new_state, is_answered, answer_taken, answer_comes}
-use Rattle.ncp_host.specs.Hearing.{answer_received}
-use Rattle.ncp_host.specs.Output.{made_on, output_by, output_on}
+use Rattle.ncp_peer.specs.Counting.{one_more}
+use Rattle.ncp_peer.specs.declared.received.Received.{Received}
+use Rattle.ncp_peer.specs.PeerState.{PeerState, new_state, is_answered, answer_taken, answer_comes}
+use Rattle.ncp_peer.specs.Hearing.{answer_received}
+use Rattle.ncp_peer.specs.Output.{made_on, output_by, output_on}
 use Rattle.ncp_transcript.specs.Asked.{asked_in}
 use Rattle.ncp_transcript.specs.declared.call.Call.{Call}
 use Rattle.ncp_transcript.specs.declared.note.HostNote.{HostNote}

@@ -6,7 +6,7 @@ use Rattle.ncp_model.specs.declared.call_fault.CallFault.TheVariants.{Busy}
 use Rattle.ncp_model.specs.Phase.{Phase, up, is_resetting, reset_answer}
 use Rattle.ncp_model.specs.Sending.{is_full}
 use Rattle.ncp_model.specs.Peers.{Peer, PairCall, Ask_to_send, Ask_to_receive, Close, called, happened_at, reply, calls_up}
-use Rattle.ncp_host.specs.PeerState.{PeerState, new_state}
+use Rattle.ncp_peer.specs.PeerState.{PeerState, new_state}
 use Rattle.ncp_host.specs.Host.{state_of, new_host, if_known}
 use Rattle.ncp_transcript.specs.declared.call.Call.{Call}
 use Rattle.ncp_transcript.specs.declared.note.HostNote.{HostNote}

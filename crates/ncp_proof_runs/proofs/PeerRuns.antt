@@ -17,10 +17,10 @@ use Rattle.ncp_slot.specs.Slot.{kept_message, answered, woken}
 use Rattle.ncp_slot.specs.Slots.{LinkSlot, LinkSlots, slot_at, with_slot}
 use Rattle.ncp_slot.proofs.Places.{slot_at-with_slot_same, slot_at-with_slot_other}
 use Rattle.ncp_slot.proofs.Waking.{slot_at-all_woken}
-use Rattle.ncp_host.specs.Counting.{one_more}
-use Rattle.ncp_host.specs.PeerState.{PeerState, control_link, is_answered, answer_taken, answer_comes}
-use Rattle.ncp_host.specs.Hearing.{is_wrong_link, control_size, state_after_control, state_after_text, state_hears, state_hears_all, hears_last, message_after}
-use Rattle.ncp_host.specs.Output.{leader_to}
+use Rattle.ncp_peer.specs.Counting.{one_more}
+use Rattle.ncp_peer.specs.PeerState.{PeerState, control_link, is_answered, answer_taken, answer_comes}
+use Rattle.ncp_peer.specs.Hearing.{is_wrong_link, control_size, state_after_control, state_after_text, state_hears, state_hears_all, hears_last, message_after}
+use Rattle.ncp_peer.specs.Output.{leader_to}
 use Rattle.ncp_transcript.specs.Asked.{asked_in, Asked, Asks, Asks_echo, Asks_reset, Asks_wake}
 use Rattle.ncp_transcript.specs.declared.note.HostNote.{HostNote}
 use Rattle.ncp_proof_runs.specs.Peers.{state_asked, bits_for, out_for, note_for}

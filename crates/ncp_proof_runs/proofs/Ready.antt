@@ -17,8 +17,8 @@ use Rattle.ncp_model.specs.Act.{answer}
 use Rattle.ncp_model.specs.Ends.{cut_in}
 use Rattle.ncp_model.specs.Sending.{next_commands}
 use Rattle.ncp_model.specs.Peers.{Peer}
-use Rattle.ncp_host.specs.PeerState.{PeerState, control_link}
-use Rattle.ncp_host.specs.Output.{leader_to, message_to, links, control_message, text_message, made_on, output_by, output_on, first_or, first_output}
+use Rattle.ncp_peer.specs.PeerState.{PeerState, control_link}
+use Rattle.ncp_peer.specs.Output.{leader_to, message_to, links, control_message, text_message, made_on, output_by, output_on, first_or, first_output}
 use Rattle.ncp_host.specs.Host.{is_one_of}
 
 first_none : (n : ℕ) (s : PeerState) → first_output n [] s ≡ None

@@ -8,9 +8,10 @@ use Rattle.ncp_model.specs.End.{End, is_open}
 use Rattle.ncp_conn.specs.declared.record.Record.{Record}
 use Rattle.ncp_proof_watch.specs.Sound.{SoundEnd}
 use Rattle.ncp_conn.specs.Records.{record_if_any, record_in}
-use Rattle.ncp_host.specs.PeerState.{PeerState, new_state}
+use Rattle.ncp_peer.specs.PeerState.{PeerState, new_state}
 use Rattle.ncp_host.specs.Host.{Host, state_of, new_host, if_known}
-use Rattle.ncp_host.specs.Calls.{record_answer, record_told}
+use Rattle.ncp_peer.specs.PeerCalls.{record_answer}
+use Rattle.ncp_host.specs.Calls.{record_told}
 use Rattle.ncp_transcript.specs.declared.call.Call.{Call}
 use Rattle.ncp_transcript.specs.declared.note.HostNote.{HostNote}
 use Rattle.ncp_transcript.specs.Notes.{told_or_refused}

@@ -6,10 +6,10 @@ use Rattle.ncp_leader.specs.declared.leader.Short.{Short}
 use Rattle.ncp_leader.specs.Leader.{leader_in}
 use Rattle.ncp_leader.specs.Message.{message_in}
 use Rattle.ncp_model.specs.Peers.{Take, comes_of, reply_of_take}
-use Rattle.ncp_host.specs.declared.received.Received.{Received}
-use Rattle.ncp_host.specs.PeerState.{PeerState}
-use Rattle.ncp_host.specs.Hearing.{message_received, answer_received}
-use Rattle.ncp_host.specs.Output.{leader_to, links, output_on}
+use Rattle.ncp_peer.specs.declared.received.Received.{Received}
+use Rattle.ncp_peer.specs.PeerState.{PeerState}
+use Rattle.ncp_peer.specs.Hearing.{message_received, answer_received}
+use Rattle.ncp_peer.specs.Output.{leader_to, links, output_on}
 use Rattle.ncp_host.specs.Host.{is_one_of}
 use Rattle.ncp_transcript.specs.declared.note.HostNote.{HostNote}
 use Rattle.ncp_proof_runs.specs.Peers.{note_for}

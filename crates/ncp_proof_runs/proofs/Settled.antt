@@ -26,10 +26,10 @@ use Rattle.ncp_model.specs.Echo.{echo_answer}
 use Rattle.ncp_model.specs.Sending.{is_full}
 use Rattle.ncp_model.specs.Phase.{Phase, Reaction, up, is_rst, is_rrp, is_other, is_resetting, has_place, wants_reset, owes_answer, goes_down, queued, phase_answers, phase_asks, makes_all, phase_hears, phase_makes, phase_settles, resets}
 use Rattle.ncp_model.specs.Peers.{Peer, Take, happened_at, PairCall, calls_reset, calls_up, cleared, cuts, echo_called, hears, hears_other, makes, peer_sends, reaction, takes_text}
-use Rattle.ncp_host.specs.Counting.{one_more}
-use Rattle.ncp_host.specs.PeerState.{PeerState, new_state, state_calls, control_link, frees_on, is_answered, answer_taken, answer_comes}
-use Rattle.ncp_host.specs.Hearing.{control_size, state_after_control, state_after_text, is_wrong_link, state_hears, state_hears_all, hears_last, message_after}
-use Rattle.ncp_host.specs.Output.{after_by}
+use Rattle.ncp_peer.specs.Counting.{one_more}
+use Rattle.ncp_peer.specs.PeerState.{PeerState, new_state, state_calls, control_link, frees_on, is_answered, answer_taken, answer_comes}
+use Rattle.ncp_peer.specs.Hearing.{control_size, state_after_control, state_after_text, is_wrong_link, state_hears, state_hears_all, hears_last, message_after}
+use Rattle.ncp_peer.specs.Output.{after_by}
 use Rattle.ncp_host.specs.Host.{state_of, is_one_of, new_host}
 use Rattle.ncp_transcript.specs.Asked.{asked_in, Asked, Asks, Asks_echo, Asks_reset, Asks_wake}
 use Rattle.ncp_transcript.specs.declared.note.HostNote.{HostNote}

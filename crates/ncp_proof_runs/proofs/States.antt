@@ -3,9 +3,9 @@ use Rattle.std.proofs.Common.{◌≡◌, ℕ, ◌==◌, Bool, true, false, not, 
 use Rattle.std.proofs.lemmas.Bool.{eqb-true, and_parts}
 use Rattle.ncp_leader.specs.declared.leader.Leader.{Leader}
 use Rattle.ncp_leader.specs.declared.leader.Short.{Short}
-use Rattle.ncp_host.specs.PeerState.{PeerState, answer_comes}
-use Rattle.ncp_host.specs.Hearing.{regular, rfnm, destination_dead, incomplete, is_kind, answer_of, after_bits}
-use Rattle.ncp_host.specs.Output.{next_of, after_output}
+use Rattle.ncp_peer.specs.PeerState.{PeerState, answer_comes}
+use Rattle.ncp_peer.specs.Hearing.{regular, rfnm, destination_dead, incomplete, is_kind, answer_of, after_bits}
+use Rattle.ncp_peer.specs.Output.{next_of, after_output}
 use Rattle.ncp_host.specs.Host.{Host, state_in, state_of, at_peer, changed, numbers_of, is_one_of, are_distinct}
 use Rattle.ncp_host.specs.Arrivals.{one_other, after_with, after_hearing, after_from}
 use Rattle.ncp_host.specs.Turns.{message_in_turn, after_turn, first_message, first_goes}

@@ -12,7 +12,7 @@ use Rattle.ncp_model.specs.Peers.{Take, comes_of, happened_at, reply_of_take}
 use Rattle.ncp_proof_watch.specs.Histories.{Past, no_past, opens, taken_out}
 use Rattle.ncp_proof_watch.specs.Books.{Books, BooksAt}
 use Rattle.ncp_proof_watch.specs.Sound.{SoundEnd, SoundAt}
-use Rattle.ncp_host.specs.PeerState.{PeerState, new_state}
+use Rattle.ncp_peer.specs.PeerState.{PeerState, new_state}
 use Rattle.ncp_host.specs.Host.{state_of, new_host, if_known}
 use Rattle.ncp_transcript.specs.declared.call.Call.{Call}
 use Rattle.ncp_transcript.specs.declared.note.HostNote.{HostNote}

@@ -15,7 +15,7 @@ use Rattle.ncp_model.specs.Happenings.{happens, Outcome, Refused, outcome_of_cal
 use Rattle.ncp_model.specs.Phase.{up, is_resetting, reset_answer}
 use Rattle.ncp_model.specs.Sending.{is_full}
 use Rattle.ncp_model.specs.Peers.{Peer, called, Ask_to_send, Ask_to_receive, Close, Take, happened_at, comes_of, reply, reply_of_take, call_accepted, reply_of_echo, PairCall}
-use Rattle.ncp_host.specs.PeerState.{PeerState}
+use Rattle.ncp_peer.specs.PeerState.{PeerState}
 use Rattle.ncp_host.specs.Host.{Host, state_of, new_host, if_known}
 use Rattle.ncp_transcript.specs.declared.call.Call.{Call}
 use Rattle.ncp_transcript.specs.declared.note.HostNote.{HostNote}

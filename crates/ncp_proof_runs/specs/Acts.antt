@@ -31,8 +31,8 @@ use Rattle.ncp_model.specs.Leading.{suits, comes}
 use Rattle.ncp_model.specs.Phase.{Phase, up, is_resetting}
 use Rattle.ncp_model.specs.Sending.{is_full}
 use Rattle.ncp_model.specs.Peers.{Peer, Take, called, PairCall, calls_up, echo_called, frees_up, hears_fault, hears_other, takes_text}
-use Rattle.ncp_host.specs.PeerState.{PeerState, new_state, control_link, is_answered}
-use Rattle.ncp_host.specs.Hearing.{control_size, is_wrong_link, state_hears, state_hears_all}
+use Rattle.ncp_peer.specs.PeerState.{PeerState, new_state, control_link, is_answered}
+use Rattle.ncp_peer.specs.Hearing.{control_size, is_wrong_link, state_hears, state_hears_all}
 use Rattle.ncp_transcript.specs.declared.note.HostNote.{HostNote}
 use Rattle.ncp_transcript.specs.Asked.{Asked, Asks, Asks_echo, Asks_reset, asked_in}
 use Rattle.ncp_proof_runs.specs.Peers.{note_for}

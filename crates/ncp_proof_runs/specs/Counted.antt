@@ -17,11 +17,11 @@ use Rattle.ncp_model.specs.End.{End}
 use Rattle.ncp_model.specs.Ends.{Ends, sender_on, receiver_on}
 use Rattle.ncp_model.specs.Phase.{up}
 use Rattle.ncp_model.specs.Peers.{Peer}
-use Rattle.ncp_host.specs.declared.counts.Counts.{Counts}
-use Rattle.ncp_host.specs.declared.received.Received.{Received}
-use Rattle.ncp_host.specs.Counting.{no_counts}
-use Rattle.ncp_host.specs.PeerState.{PeerState, new_state}
-use Rattle.ncp_host.specs.Hearing.{state_hears, state_hears_all}
+use Rattle.ncp_peer.specs.declared.counts.Counts.{Counts}
+use Rattle.ncp_peer.specs.declared.received.Received.{Received}
+use Rattle.ncp_peer.specs.Counting.{no_counts}
+use Rattle.ncp_peer.specs.PeerState.{PeerState, new_state}
+use Rattle.ncp_peer.specs.Hearing.{state_hears, state_hears_all}
 use Rattle.ncp_transcript.specs.declared.note.HostNote.{HostNote}
 use Rattle.ncp_proof_runs.specs.Peers.{note_for}
 use Rattle.ncp_proof_runs.specs.Echoing.{EchoHistory, no_echo, while_up, echo_heard, commands_in_message, echo_by}

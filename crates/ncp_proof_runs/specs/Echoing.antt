@@ -13,9 +13,9 @@ use Rattle.ncp_model.specs.declared.outcomes.Error.{Error}
 use Rattle.ncp_model.specs.declared.limits.TheConstants.{MAX_ERRORS}
 use Rattle.ncp_model.specs.Echo.{Echoes}
 use Rattle.ncp_model.specs.Phase.{Phase, up}
-use Rattle.ncp_host.specs.declared.received.Received.{Received}
-use Rattle.ncp_host.specs.PeerState.{PeerState, new_state}
-use Rattle.ncp_host.specs.Hearing.{state_hears, state_hears_all}
+use Rattle.ncp_peer.specs.declared.received.Received.{Received}
+use Rattle.ncp_peer.specs.PeerState.{PeerState, new_state}
+use Rattle.ncp_peer.specs.Hearing.{state_hears, state_hears_all}
 use Rattle.ncp_transcript.specs.declared.note.HostNote.{HostNote}
 use Rattle.ncp_transcript.specs.Asked.{Asked, Asks_echo, Asks_reset, asked_in}
 use Rattle.ncp_proof_runs.specs.Peers.{note_for}

@@ -22,8 +22,8 @@ use Rattle.ncp_model.specs.Phase.{up}
 use Rattle.ncp_model.specs.Sending.{is_full}
 use Rattle.ncp_model.specs.Peers.{Take, called, PairCall}
 use Rattle.ncp_proof_watch.specs.Histories.{Past, no_past, adds, opens}
-use Rattle.ncp_host.specs.PeerState.{PeerState, new_state, control_link}
-use Rattle.ncp_host.specs.Hearing.{control_size, is_wrong_link, state_hears}
+use Rattle.ncp_peer.specs.PeerState.{PeerState, new_state, control_link}
+use Rattle.ncp_peer.specs.Hearing.{control_size, is_wrong_link, state_hears}
 use Rattle.ncp_transcript.specs.declared.note.HostNote.{HostNote}
 use Rattle.ncp_transcript.specs.Asked.{Asked, Asks, asked_in}
 use Rattle.ncp_proof_runs.specs.Peers.{note_for}

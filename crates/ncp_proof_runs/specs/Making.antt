@@ -29,9 +29,9 @@ use Rattle.ncp_model.specs.Echo.{echo_answer}
 use Rattle.ncp_model.specs.Phase.{Phase, up, is_rst, is_rrp, is_reset, is_other, is_resetting, has_place, wants_reset, owes_answer, phase_answers, phase_makes}
 use Rattle.ncp_model.specs.Sending.{is_full, next_commands}
 use Rattle.ncp_model.specs.Peers.{Peer, Take, happened_at, is_full_up, echo_replies, PairCall}
-use Rattle.ncp_host.specs.PeerState.{PeerState, new_state, control_link, is_answered, frees_on}
-use Rattle.ncp_host.specs.Hearing.{control_size, is_wrong_link, state_hears, state_hears_all}
-use Rattle.ncp_host.specs.Output.{message_to}
+use Rattle.ncp_peer.specs.PeerState.{PeerState, new_state, control_link, is_answered, frees_on}
+use Rattle.ncp_peer.specs.Hearing.{control_size, is_wrong_link, state_hears, state_hears_all}
+use Rattle.ncp_peer.specs.Output.{message_to}
 use Rattle.ncp_transcript.specs.declared.note.HostNote.{HostNote}
 use Rattle.ncp_transcript.specs.Asked.{Asked, Asks, Asks_echo, Asks_reset, asked_in}
 use Rattle.ncp_proof_runs.specs.Peers.{is_this_number, note_for}

@@ -6,12 +6,12 @@ use Rattle.ncp_leader.specs.declared.leader.Short.{Short}
 use Rattle.ncp_leader.specs.Leader.{leader_in}
 use Rattle.ncp_leader.specs.Message.{message_in}
 use Rattle.ncp_model.specs.Peers.{Take}
-use Rattle.ncp_host.specs.declared.counts.Ignored.{Ignored}
-use Rattle.ncp_host.specs.declared.received.Received.{Received}
-use Rattle.ncp_host.specs.Counting.{one_more}
-use Rattle.ncp_host.specs.PeerState.{PeerState, state_calls, answer_comes}
-use Rattle.ncp_host.specs.Hearing.{regular, message_after}
-use Rattle.ncp_host.specs.Output.{after_output}
+use Rattle.ncp_host.specs.declared.ignored.Ignored.{Ignored}
+use Rattle.ncp_peer.specs.declared.received.Received.{Received}
+use Rattle.ncp_peer.specs.Counting.{one_more}
+use Rattle.ncp_peer.specs.PeerState.{PeerState, state_calls, answer_comes}
+use Rattle.ncp_peer.specs.Hearing.{regular, message_after}
+use Rattle.ncp_peer.specs.Output.{after_output}
 use Rattle.ncp_host.specs.Host.{is_one_of, are_distinct, new_host}
 use Rattle.ncp_transcript.specs.declared.note.HostNote.{HostNote}
 use Rattle.ncp_transcript.specs.Asked.{Asked, asked_in, state_after_asked, peer_of_call}

@@ -6,8 +6,8 @@ use Rattle.ncp_model.specs.declared.pair.Pair.{Pair}
 use Rattle.ncp_model.specs.Pairs.{receives}
 use Rattle.ncp_model.specs.End.{End}
 use Rattle.ncp_proof_watch.specs.Histories.{Past}
-use Rattle.ncp_host.specs.PeerState.{PeerState}
-use Rattle.ncp_host.specs.Output.{leader_to}
+use Rattle.ncp_peer.specs.PeerState.{PeerState}
+use Rattle.ncp_peer.specs.Output.{leader_to}
 use Rattle.ncp_host.specs.Host.{Host, state_of, new_host}
 use Rattle.ncp_transcript.specs.declared.note.HostNote.{HostNote}
 use Rattle.ncp_transcript.specs.declared.note.HostNote.TheVariants.{Out}

@@ -13,10 +13,10 @@ use Rattle.ncp_model.specs.Phase.{Phase, up_phase}
 use Rattle.ncp_proof_watch.specs.Histories.{Past, no_past}
 use Rattle.ncp_conn.specs.declared.record.End.TheVariants.{Receive}
 use Rattle.ncp_conn.specs.declared.record.Record.{Record}
-use Rattle.ncp_host.specs.declared.counts.Counts.{Counts}
-use Rattle.ncp_host.specs.declared.flags.Flags.{Flags}
-use Rattle.ncp_host.specs.Counting.{no_counts}
-use Rattle.ncp_host.specs.PeerState.{PeerState, new_state}
+use Rattle.ncp_peer.specs.declared.counts.Counts.{Counts}
+use Rattle.ncp_phase.specs.declared.flags.Flags.{Flags}
+use Rattle.ncp_peer.specs.Counting.{no_counts}
+use Rattle.ncp_peer.specs.PeerState.{PeerState, new_state}
 use Rattle.ncp_transcript.specs.declared.call.Call.{Call}
 use Rattle.ncp_transcript.specs.declared.note.HostNote.{HostNote}
 use Rattle.ncp_proof_runs.specs.Acts.{Acted}

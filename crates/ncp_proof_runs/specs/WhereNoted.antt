@@ -12,11 +12,11 @@ use Rattle.ncp_model.specs.declared.outcomes.Took.TheVariants.{Admitted}
 use Rattle.ncp_model.specs.Ends.{pair_of, receiver_on}
 use Rattle.ncp_conn.specs.declared.record.Record.{Record}
 use Rattle.ncp_proof_watch.specs.Histories.{Past}
-use Rattle.ncp_host.specs.declared.counts.Counts.{Counts}
-use Rattle.ncp_host.specs.declared.flags.Flags.{Flags}
-use Rattle.ncp_host.specs.declared.received.Received.{Received}
-use Rattle.ncp_host.specs.PeerState.{new_state}
-use Rattle.ncp_host.specs.Output.{leader_to, links}
+use Rattle.ncp_peer.specs.declared.counts.Counts.{Counts}
+use Rattle.ncp_phase.specs.declared.flags.Flags.{Flags}
+use Rattle.ncp_peer.specs.declared.received.Received.{Received}
+use Rattle.ncp_peer.specs.PeerState.{new_state}
+use Rattle.ncp_peer.specs.Output.{leader_to, links}
 use Rattle.ncp_host.specs.Host.{Host, is_one_of, new_host}
 use Rattle.ncp_transcript.specs.declared.note.HostNote.{HostNote}
 use Rattle.ncp_transcript.specs.After.{after_notes}

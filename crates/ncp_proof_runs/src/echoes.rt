@@ -9,8 +9,8 @@ ghost use Rattle.ncp_model.specs.declared.limits.TheConstants.{MAX_ERRORS, MAX_C
 ghost use Rattle.ncp_model.specs.End.{new_end};
 ghost use Rattle.ncp_model.specs.Phase.{new_phase, up_phase};
 ghost use Rattle.ncp_model.specs.Rows.{outward};
-ghost use Rattle.ncp_host.specs.Counting.{no_counts};
-ghost use Rattle.ncp_host.specs.PeerState.{new_state};
+ghost use Rattle.ncp_peer.specs.Counting.{no_counts};
+ghost use Rattle.ncp_peer.specs.PeerState.{new_state};
 ghost use Rattle.ncp_transcript.specs.declared.note.HostNote.{HostNote};
 ghost use Rattle.ncp_proof_runs.specs.Reconstructed.{FromNotes, BeforeNote};
 ghost use Rattle.ncp_proof_runs.specs.Echoing.{no_echo, while_up, echo_heard_all, echo_from, echo_of, last_of};

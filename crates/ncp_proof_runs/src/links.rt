@@ -3,8 +3,8 @@ ghost use Rattle.std.specs.Prelude.{◌≡◌, ℕ, Bool, true, false, List, [],
 ghost use Rattle.ncp_slot.specs.declared.slot.Slot.TheVariants.{Empty, Ready, Travelling, Held};
 ghost use Rattle.ncp_slot.specs.Slots.{slot_at, is_quiet};
 ghost use Rattle.ncp_host.specs.Host.{is_one_of};
-ghost use Rattle.ncp_host.specs.Readiness.{IsNext};
-ghost use Rattle.ncp_host.specs.declared.received.Received.{Received};
+ghost use Rattle.ncp_peer.specs.Readiness.{IsNext};
+ghost use Rattle.ncp_peer.specs.declared.received.Received.{Received};
 ghost use Rattle.ncp_terms.specs.declared.answer.Answer.TheVariants.{Dead};
 ghost use Rattle.ncp_transcript.specs.declared.note.HostNote.{HostNote};
 ghost use Rattle.ncp_proof_runs.specs.Reconstructed.{FromNotes, WhenOut};

@@ -1,8 +1,8 @@
 //! Each peer by itself.
 ghost use Rattle.std.specs.Prelude.{◌≡◌, ℕ, true, List, [], ◌∷◌, ◌++◌, Some};
-ghost use Rattle.ncp_host.specs.PeerState.{new_state};
+ghost use Rattle.ncp_peer.specs.PeerState.{new_state};
 ghost use Rattle.ncp_host.specs.Host.{state_of, numbers_of, new_host};
-ghost use Rattle.ncp_host.specs.Counting.{none_ignored};
+ghost use Rattle.ncp_host.specs.Ignoring.{none_ignored};
 ghost use Rattle.ncp_transcript.specs.declared.call.Call.{Call};
 ghost use Rattle.ncp_transcript.specs.declared.note.HostNote.{HostNote};
 ghost use Rattle.ncp_transcript.specs.Answers.{takes_memory};

@@ -2,10 +2,10 @@
 ghost use Rattle.std.specs.Prelude.{◌≡◌, Bool, false, not, List, ◌++◌, Some, None};
 ghost use Rattle.ncp_model.specs.Phase.{up};
 ghost use Rattle.ncp_conn.specs.Records.{record_in};
-ghost use Rattle.ncp_host.specs.PeerState.{new_state};
+ghost use Rattle.ncp_peer.specs.PeerState.{new_state};
 ghost use Rattle.ncp_host.specs.Host.{numbers_of};
-ghost use Rattle.ncp_host.specs.Counting.{none_ignored};
-ghost use Rattle.ncp_host.specs.Readiness.{IsNext};
+ghost use Rattle.ncp_host.specs.Ignoring.{none_ignored};
+ghost use Rattle.ncp_peer.specs.Readiness.{IsNext};
 ghost use Rattle.ncp_transcript.specs.After.{after_notes};
 ghost use Rattle.ncp_proof_runs.specs.Reconstructed.{EachPeer};
 ghost use Rattle.ncp_proof_runs.specs.Peers.{FromBeginning, notes_for, ignored_by};

@@ -7,8 +7,8 @@ use Rattle.ncp_slot.proofs.Places.{slot_at-no_slots}
 use Rattle.ncp_model.specs.Act.{answer}
 use Rattle.ncp_model.specs.Ends.{no_ends, cut_in}
 use Rattle.ncp_proof_machine.proofs.Standing.{nothing_out}
-use Rattle.ncp_host.specs.PeerState.{PeerState, new_state}
-use Rattle.ncp_host.specs.Output.{next_of, links, first_or, first_output, output_by, output_on, text_message}
+use Rattle.ncp_peer.specs.PeerState.{PeerState, new_state}
+use Rattle.ncp_peer.specs.Output.{next_of, links, first_or, first_output, output_by, output_on, text_message}
 use Rattle.ncp_transcript_two.specs.Subnet.{TransitByLink, Free}
 use Rattle.ncp_transcript_two.specs.Between.{new_hosts}
 use Rattle.ncp_transcript_two.specs.Transcript.{IsTranscript}

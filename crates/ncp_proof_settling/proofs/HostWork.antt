@@ -15,16 +15,16 @@ use Rattle.ncp_control.specs.Reading.{commands_in, fault_in}
 use Rattle.ncp_slot.specs.declared.slot.Slot.TheVariants.{Empty}
 use Rattle.ncp_slot.specs.Slots.{LinkSlots, LinkSlot, slot_at, with_slot, is_quiet}
 use Rattle.ncp_slot.specs.Slot.{answered}
-use Rattle.ncp_host.specs.Counting.{one_more}
+use Rattle.ncp_peer.specs.Counting.{one_more}
 use Rattle.std.specs.Prelude.{take}
 use Rattle.ncp_model.specs.Act.{answer}
 use Rattle.ncp_model.specs.Ends.{cut_in}
 use Rattle.ncp_model.specs.Happenings.{of_cut}
 use Rattle.ncp_model.specs.Sending.{next_commands}
 use Rattle.ncp_model.specs.Peers.{Peer, cuts, frees, peer_sends}
-use Rattle.ncp_host.specs.PeerState.{PeerState, control_link, after_answer, answer_comes, answer_taken, frees_on, is_answered}
-use Rattle.ncp_host.specs.Hearing.{state_hears, state_hears_all, hears_last, state_hears_text, state_after_control, control_size, is_wrong_link, message_after, state_after_text, answer_of, after_bits, regular}
-use Rattle.ncp_host.specs.Output.{made_on, after_made, after_by, output_by, output_on, after_output, control_message, text_message}
+use Rattle.ncp_peer.specs.PeerState.{PeerState, control_link, after_answer, answer_comes, answer_taken, frees_on, is_answered}
+use Rattle.ncp_peer.specs.Hearing.{state_hears, state_hears_all, hears_last, state_hears_text, state_after_control, control_size, is_wrong_link, message_after, state_after_text, answer_of, after_bits, regular}
+use Rattle.ncp_peer.specs.Output.{made_on, after_made, after_by, output_by, output_on, after_output, control_message, text_message}
 use Rattle.ncp_proof_progress.specs.Work.{causes_all, queue_work, peer_work, takes_away}
 use Rattle.ncp_proof_progress.proofs.PeerWork.{comes-work, fault-work, text-work, cut-work, sends-work, free-work, settle-work}
 use Rattle.ncp_proof_settling.specs.HostWork.{fault_brings, control_brings, message_brings, bits_bring}

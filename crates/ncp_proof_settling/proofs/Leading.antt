@@ -4,7 +4,7 @@
 use Rattle.std.proofs.Common.{◌≡◌, ℕ, ◌+◌, ◌==◌, ◌≤◌, true, false, List, Option, Some, sym, ap, ◌∙◌, subst, arith}
 use Rattle.std.specs.FinMap.{get}
 use Rattle.ncp_terms.specs.declared.command.Command.{Command}
-use Rattle.ncp_host.specs.Hearing.{is_wrong_link}
+use Rattle.ncp_peer.specs.Hearing.{is_wrong_link}
 use Rattle.ncp_model.specs.Act.{is_data_link}
 use Rattle.ncp_model.specs.declared.pair.Pair.{Pair}
 use Rattle.ncp_model.specs.Peers.{Peer, PairCall}

@@ -4,7 +4,7 @@ use Rattle.std.specs.FinMap.{get}
 use Rattle.ncp_model.specs.declared.pair.Pair.{Pair}
 use Rattle.ncp_model.specs.Peers.{Peer}
 use Rattle.ncp_proof_machine.specs.Hosts.{Node, quiet, run}
-use Rattle.ncp_host.specs.PeerState.{PeerState}
+use Rattle.ncp_peer.specs.PeerState.{PeerState}
 use Rattle.ncp_transcript_two.specs.Subnet.{TransitByLink}
 use Rattle.ncp_transcript_two.specs.Tie.{Stands}
 use Rattle.ncp_transcript_two.specs.declared.note.Note.{Note}

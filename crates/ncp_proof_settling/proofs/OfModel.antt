@@ -21,9 +21,9 @@ use Rattle.ncp_proof_resets.specs.Delivery
 use Rattle.ncp_proof_resets.specs.Resets.{This, That}
 use Rattle.ncp_proof_machine.specs.Hosts.{TextOut, Node, nodes_swapped, NodeStep, Sends, Sends_text, Hears, Hears_text, Loses, Loses_text, Dies, Text_dies, Is_answered, Text_is_answered, Wakes, TwoNodes}
 use Rattle.ncp_proof_machine.specs.Moving.{put_if_any, first_waiting, as_text}
-use Rattle.ncp_host.specs.PeerState.{PeerState}
+use Rattle.ncp_peer.specs.PeerState.{PeerState}
 use Rattle.ncp_host.specs.Host.{is_one_of}
-use Rattle.ncp_host.specs.Output.{links, output_by, output_on, control_message, text_message}
+use Rattle.ncp_peer.specs.Output.{links, output_by, output_on, control_message, text_message}
 use Rattle.ncp_proof_runs.proofs.Ready.{none_is}
 use Rattle.ncp_transcript_two.specs.Subnet.{Holds, TransitByLink, Free}
 use Rattle.ncp_transcript_two.specs.World.{World}

@@ -14,7 +14,7 @@ use Rattle.ncp_leader.specs.declared.kinds.TheConstants.{RFNM, INCOMPLETE, DESTI
 use Rattle.ncp_subnet.specs.Transit.{is_accepted, answer_kind}
 use Rattle.ncp_subnet.specs.Messages.{arriving, answer_about}
 use Rattle.ncp_subnet.proofs.Places.{transit_at-same}
-use Rattle.ncp_host.specs.PeerState.{PeerState}
+use Rattle.ncp_peer.specs.PeerState.{PeerState}
 use Rattle.ncp_transcript.specs.declared.note.HostNote.{HostNote}
 use Rattle.ncp_transcript.specs.declared.call.Call.{Call}
 use Rattle.ncp_transcript.specs.Noting.{note_of_bits, note_of_message}

@@ -13,11 +13,11 @@ use Rattle.ncp_proof_machine.specs.Hosts.{Node, run}
 use Rattle.ncp_subnet.specs.Transit.{is_accepted, answer_kind}
 use Rattle.ncp_subnet.specs.Messages.{arriving, answer_about}
 use Rattle.ncp_proof_resets.specs.Delivery.{Link}
-use Rattle.ncp_host.specs.PeerState.{PeerState}
+use Rattle.ncp_peer.specs.PeerState.{PeerState}
 use Rattle.ncp_host.specs.Host.{Host, numbers_of, state_of, is_one_of, if_known}
-use Rattle.ncp_host.specs.Calls.{kept_for}
-use Rattle.ncp_host.specs.Hearing.{is_wrong_link}
-use Rattle.ncp_host.specs.Output.{next_of, message_on, output_by, output_on, links}
+use Rattle.ncp_peer.specs.PeerCalls.{kept_for}
+use Rattle.ncp_peer.specs.Hearing.{is_wrong_link}
+use Rattle.ncp_peer.specs.Output.{next_of, message_on, output_by, output_on, links}
 use Rattle.ncp_host.specs.Turns.{next_output}
 use Rattle.ncp_proof_runs.proofs.Ready.{none_is}
 use Rattle.ncp_transcript.specs.declared.call.Call.{Call}

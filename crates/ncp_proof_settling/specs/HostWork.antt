@@ -6,8 +6,8 @@ use Rattle.ncp_leader.specs.declared.fault.MessageFault.{MessageFault}
 use Rattle.ncp_leader.specs.Message.{Message, message_in}
 use Rattle.ncp_terms.specs.declared.fault.CommandFault.{CommandFault}
 use Rattle.ncp_control.specs.Reading.{commands_in, fault_in}
-use Rattle.ncp_host.specs.PeerState.{control_link}
-use Rattle.ncp_host.specs.Hearing.{control_size, is_wrong_link, regular}
+use Rattle.ncp_peer.specs.PeerState.{control_link}
+use Rattle.ncp_peer.specs.Hearing.{control_size, is_wrong_link, regular}
 use Rattle.ncp_proof_progress.specs.Work.{causes_all}
 
 abbrev pub fault_brings : Option CommandFault → ℕ

@@ -8,8 +8,8 @@ use Rattle.ncp_model.specs.Pairs.{sends, turned}
 use Rattle.ncp_model.specs.Ends.{no_ends}
 use Rattle.ncp_model.specs.Phase.{up}
 use Rattle.ncp_proof_machine.specs.Hosts.{past_of}
-use Rattle.ncp_host.specs.PeerState.{PeerState}
-use Rattle.ncp_host.specs.Output.{next_of}
+use Rattle.ncp_peer.specs.PeerState.{PeerState}
+use Rattle.ncp_peer.specs.Output.{next_of}
 use Rattle.ncp_transcript_two.specs.Subnet.{TransitByLink, Free}
 use Rattle.ncp_transcript_two.specs.World.{World, swap}
 use Rattle.ncp_transcript_two.specs.Watch.{Both, turn}

@@ -3,7 +3,7 @@
 use Rattle.std.specs.Prelude.{◌≡◌, ◌≤◌, ◌+◌, ℕ, Bool, true, false, List, [], ◌∷◌, ◌++◌, length}
 use Rattle.ncp_slot.specs.Slots.{slot_at}
 use Rattle.ncp_proof_machine.specs.Hosts.{TwoNodes}
-use Rattle.ncp_host.specs.PeerState.{PeerState}
+use Rattle.ncp_peer.specs.PeerState.{PeerState}
 use Rattle.ncp_transcript.specs.declared.call.Call.{Call}
 use Rattle.ncp_transcript.specs.declared.note.HostNote.{HostNote}
 use Rattle.ncp_transcript_two.specs.Subnet.{TransitByLink}

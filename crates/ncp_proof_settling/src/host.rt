@@ -3,10 +3,10 @@ ghost use Rattle.std.specs.Prelude.{◌≡◌, ℕ, ◌+◌, ◌≤◌, Bool, tr
 ghost use Rattle.ncp_leader.specs.declared.leader.Leader.{Leader};
 ghost use Rattle.ncp_slot.specs.declared.slot.Slot.TheVariants.{Empty};
 ghost use Rattle.ncp_slot.specs.Slots.{slot_at};
-ghost use Rattle.ncp_host.specs.PeerState.{PeerState, new_state};
-ghost use Rattle.ncp_host.specs.Hearing.{after_bits};
+ghost use Rattle.ncp_peer.specs.PeerState.{PeerState, new_state};
+ghost use Rattle.ncp_peer.specs.Hearing.{after_bits};
 ghost use Rattle.ncp_host.specs.Host.{is_one_of};
-ghost use Rattle.ncp_host.specs.Output.{output_on, after_output};
+ghost use Rattle.ncp_peer.specs.Output.{output_on, after_output};
 ghost use Rattle.ncp_transcript.specs.declared.note.HostNote.{HostNote};
 ghost use Rattle.ncp_proof_runs.specs.Peers.{FromBeginning, notes_of_peer, notes_for};
 ghost use Rattle.ncp_proof_progress.specs.Work.{peer_work};

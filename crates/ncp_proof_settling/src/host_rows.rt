@@ -6,7 +6,7 @@ ghost use Rattle.ncp_leader.specs.Leader.{leader_in};
 ghost use Rattle.ncp_slot.specs.declared.slot.Slot.TheVariants.{Empty, Ready};
 ghost use Rattle.ncp_slot.specs.Slots.{slot_at};
 ghost use Rattle.ncp_model.specs.End.{End};
-ghost use Rattle.ncp_host.specs.PeerState.{PeerState};
+ghost use Rattle.ncp_peer.specs.PeerState.{PeerState};
 ghost use Rattle.ncp_transcript.specs.declared.call.Call.{Call};
 ghost use Rattle.ncp_transcript.specs.declared.note.HostNote.{HostNote};
 ghost use Rattle.ncp_proof_settling.specs.Rows.{with_rst, with_rts, with_fault, text_on_link_2, on_link_1};

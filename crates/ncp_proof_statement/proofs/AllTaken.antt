@@ -11,7 +11,7 @@ use Rattle.ncp_model.specs.Leading.{suits}
 use Rattle.ncp_proof_watch.specs.Histories.{Past, no_past, adds, opens, is_outcome_accepted, taken_out}
 use Rattle.ncp_proof_watch.specs.Sound.{SoundAt}
 use Rattle.ncp_proof_watch.proofs.SoundEnds.{one_way}
-use Rattle.ncp_host.specs.PeerState.{new_state}
+use Rattle.ncp_peer.specs.PeerState.{new_state}
 use Rattle.ncp_transcript.specs.declared.note.HostNote.{HostNote}
 use Rattle.ncp_proof_runs.specs.Histories.{past_then, past_so_far}
 use Rattle.ncp_proof_runs.specs.Peers.{notes_for}

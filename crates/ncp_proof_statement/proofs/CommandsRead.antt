@@ -1,7 +1,7 @@
 -- Each command that came was read, and no text that came was complained of.
 use Rattle.std.proofs.Common.{◌≡◌, ℕ, ◌==◌, Bool, true, false, List, [], ◌∷◌, ◌||◌, length, Some, refl, ap, ◌∙◌}
 use Rattle.ncp_model.specs.declared.outcomes.Took.{Took}
-use Rattle.ncp_host.specs.declared.received.Received.{Received}
+use Rattle.ncp_peer.specs.declared.received.Received.{Received}
 use Rattle.ncp_transcript.specs.declared.note.HostNote.{HostNote}
 use Rattle.ncp_transcript_two.specs.World.{World, In}
 use Rattle.ncp_transcript_two.specs.Refused.{is_refused}

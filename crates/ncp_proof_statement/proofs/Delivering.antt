@@ -6,7 +6,7 @@ use Rattle.ncp_transcript.specs.Asked.{Asked, asked_in}
 use Rattle.ncp_transcript_two.specs.World.{WorldNote}
 use Rattle.std.proofs.lemmas.List.{append_assoc}
 use Rattle.ncp_terms.specs.declared.answer.Answer.{Answer}
-use Rattle.ncp_host.specs.declared.received.Received.{Received}
+use Rattle.ncp_peer.specs.declared.received.Received.{Received}
 use Rattle.ncp_transcript_two.specs.Between.{Hosts, other, side_number}
 use Rattle.ncp_transcript_two.specs.Transcript.{IsTranscript}
 use Rattle.ncp_transcript_two.specs.Naming.{IsAnswerAbout}

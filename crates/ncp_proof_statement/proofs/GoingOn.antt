@@ -7,7 +7,7 @@ use Rattle.ncp_model.specs.Pairs.{sends, receives, turned}
 use Rattle.ncp_model.specs.End.{End, is_live, or_new}
 use Rattle.ncp_proof_watch.specs.Histories.{Past, IsBeginning}
 use Rattle.ncp_proof_machine.specs.Hosts.{past_of}
-use Rattle.ncp_host.specs.PeerState.{PeerState, new_state}
+use Rattle.ncp_peer.specs.PeerState.{PeerState, new_state}
 use Rattle.ncp_host.specs.Host.{Host, numbers_of, state_of}
 use Rattle.ncp_transcript.specs.declared.note.HostNote.{HostNote}
 use Rattle.ncp_transcript.specs.Runs.{IsHostSaid}

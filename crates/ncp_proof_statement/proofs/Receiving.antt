@@ -21,7 +21,7 @@ use Rattle.ncp_proof_watch.specs.Sound.{SoundAt}
 use Rattle.ncp_proof_watch.specs.Books.{BooksAt}
 use Rattle.ncp_proof_watch.proofs.SoundEnds.{one_way}
 use Rattle.ncp_proof_watch.proofs.BooksKept.{books-kept}
-use Rattle.ncp_host.specs.PeerState.{PeerState, new_state}
+use Rattle.ncp_peer.specs.PeerState.{PeerState, new_state}
 use Rattle.ncp_transcript.specs.declared.note.HostNote.{HostNote}
 use Rattle.ncp_proof_runs.specs.Histories.{past_then, past_so_far}
 use Rattle.ncp_proof_runs.specs.Peers.{notes_for}

@@ -8,7 +8,7 @@ use Rattle.ncp_model.specs.Pairs.{pair_cmp}
 use Rattle.ncp_proof_watch.specs.Histories.{Past, no_past}
 use Rattle.ncp_proof_machine.specs.Hosts.{or_no_past}
 use Rattle.ncp_proof_machine.specs.Hosts.{past_of}
-use Rattle.ncp_host.specs.PeerState.{PeerState, new_state}
+use Rattle.ncp_peer.specs.PeerState.{PeerState, new_state}
 use Rattle.ncp_host.specs.Host.{Host, state_of, is_one_of}
 use Rattle.ncp_transcript.specs.declared.note.HostNote.{HostNote}
 use Rattle.ncp_transcript.specs.After.{after_note, after_notes}

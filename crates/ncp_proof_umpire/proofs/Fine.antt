@@ -34,10 +34,10 @@ use Rattle.ncp_proof_machine.proofs.EndsGood.{Good, none-good, good-after, put-c
 use Rattle.ncp_transcript_two.specs.Tie.{IsPair, IsCall, IsAsked, Well}
 use Rattle.ncp_transcript_two.specs.Seen.{done, told_call, NoteFits}
 use Rattle.ncp_transcript_two.proofs.Well.{makes-well, calls-well, echo-well, reset-well, settles-well, sends-well, hears-well, text-well, frees-well, cuts-well}
-use Rattle.ncp_host.specs.PeerState.{PeerState, control_link, frees_on, after_answer, is_answered, answer_taken, answer_comes}
-use Rattle.ncp_host.specs.Counting.{one_more}
-use Rattle.ncp_host.specs.Hearing.{state_hears, state_hears_all, hears_last, state_hears_text, control_size, state_after_control, state_after_text, is_wrong_link, message_after}
-use Rattle.ncp_host.specs.Output.{after_by}
+use Rattle.ncp_peer.specs.PeerState.{PeerState, control_link, frees_on, after_answer, is_answered, answer_taken, answer_comes}
+use Rattle.ncp_peer.specs.Counting.{one_more}
+use Rattle.ncp_peer.specs.Hearing.{state_hears, state_hears_all, hears_last, state_hears_text, control_size, state_after_control, state_after_text, is_wrong_link, message_after}
+use Rattle.ncp_peer.specs.Output.{after_by}
 use Rattle.ncp_transcript.specs.Asked.{Asked, Asks, Asks_echo, Asks_reset, Asks_wake, asked_in, state_after_asked}
 use Rattle.ncp_transcript.specs.declared.note.HostNote.{HostNote}
 use Rattle.ncp_proof_runs.specs.Peers.{state_asked, bits_for, out_for, note_for}

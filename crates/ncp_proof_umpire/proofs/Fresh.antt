@@ -8,8 +8,8 @@ use Rattle.ncp_slot.specs.Slot.{is_empty}
 use Rattle.ncp_slot.specs.Slots.{LinkSlot, is_quiet, slot_at}
 use Rattle.ncp_slot.proofs.Places.{is_quiet-tells}
 use Rattle.ncp_model.specs.Peers.{Peer}
-use Rattle.ncp_host.specs.PeerState.{PeerState}
-use Rattle.ncp_host.specs.Output.{output_by, links}
+use Rattle.ncp_peer.specs.PeerState.{PeerState}
+use Rattle.ncp_peer.specs.Output.{output_by, links}
 use Rattle.ncp_host.specs.Host.{is_one_of}
 use Rattle.ncp_umpire.specs.declared.kept.Kept.{Kept}
 use Rattle.ncp_umpire.specs.declared.kept.Slot.{Slot}

@@ -11,8 +11,8 @@ use Rattle.ncp_slot.specs.Slots.{LinkSlot, LinkSlots, slot_at}
 use Rattle.ncp_slot.proofs.Places.{slot_at-with_slot_same, slot_at-with_slot_other}
 use Rattle.ncp_slot.proofs.Waking.{slot_at-all_woken}
 use Rattle.ncp_model.specs.Peers.{Take}
-use Rattle.ncp_host.specs.Counting.{one_more}
-use Rattle.ncp_host.specs.PeerState.{PeerState, is_answered, answer_taken, answer_comes}
+use Rattle.ncp_peer.specs.Counting.{one_more}
+use Rattle.ncp_peer.specs.PeerState.{PeerState, is_answered, answer_taken, answer_comes}
 use Rattle.ncp_host.specs.Host.{Host, state_of}
 use Rattle.ncp_transcript.specs.Asked.{Asked, Asks, Asks_echo, Asks_reset, Asks_wake, asked_in}
 use Rattle.ncp_transcript.specs.declared.call.Call.{Call}

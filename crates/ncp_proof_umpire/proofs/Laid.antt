@@ -36,8 +36,8 @@ use Rattle.ncp_model.specs.Peers.{Peer}
 use Rattle.ncp_transcript_two.specs.Tie.{IsText}
 use Rattle.ncp_transcript_two.proofs.Well.{cut-written}
 use Rattle.ncp_transcript_two.proofs.Written.{read}
-use Rattle.ncp_host.specs.PeerState.{PeerState, control_link, answer_comes}
-use Rattle.ncp_host.specs.Output.{leader_to, message_to, links, control_message, text_message, made_on, output_by, after_output}
+use Rattle.ncp_peer.specs.PeerState.{PeerState, control_link, answer_comes}
+use Rattle.ncp_peer.specs.Output.{leader_to, message_to, links, control_message, text_message, made_on, output_by, after_output}
 use Rattle.ncp_host.specs.Host.{is_one_of}
 use Rattle.ncp_transcript.specs.declared.note.HostNote.{HostNote}
 use Rattle.ncp_proof_runs.specs.Peers.{out_for, note_for}

@@ -8,9 +8,9 @@ use Rattle.ncp_leader.specs.Leader.{leader_in}
 use Rattle.ncp_slot.specs.declared.slot.Slot.{Slot}
 use Rattle.ncp_slot.specs.Slots.{LinkSlot, slot_at}
 use Rattle.ncp_slot.proofs.Places.{slot_at-with_slot_same, slot_at-with_slot_other}
-use Rattle.ncp_host.specs.PeerState.{PeerState, answer_comes}
-use Rattle.ncp_host.specs.Hearing.{answer_of}
-use Rattle.ncp_host.specs.Output.{leader_to, after_output}
+use Rattle.ncp_peer.specs.PeerState.{PeerState, answer_comes}
+use Rattle.ncp_peer.specs.Hearing.{answer_of}
+use Rattle.ncp_peer.specs.Output.{leader_to, after_output}
 use Rattle.ncp_host.specs.Host.{Host, state_of, is_one_of}
 use Rattle.ncp_host.specs.Arrivals.{received_in}
 use Rattle.ncp_transcript.specs.declared.note.HostNote.{HostNote}

@@ -8,7 +8,7 @@ use Rattle.ncp_leader.specs.Leader.{leader_in, leader_at}
 use Rattle.ncp_leader.specs.Message.{Message, message_in}
 use Rattle.ncp_leader.proofs.Leaders.{IsLeader-at}
 use Rattle.ncp_slot.specs.Slots.{LinkSlot, slot_at}
-use Rattle.ncp_host.specs.PeerState.{PeerState}
+use Rattle.ncp_peer.specs.PeerState.{PeerState}
 use Rattle.ncp_host.specs.Host.{Host, state_of}
 use Rattle.ncp_umpire.specs.declared.kept.Kept.{Kept}
 use Rattle.ncp_umpire.specs.declared.umpire.Umpire.{Umpire}

@@ -31,10 +31,10 @@ use Rattle.ncp_model.specs.Peers.{Peer, cuts, frees, frees_up, peer_sends, settl
 use Rattle.ncp_model.proofs.LinksLead.{led}
 use Rattle.ncp_model.proofs.ResetLists.{rrps, rrps-append}
 use Rattle.ncp_proof_machine.proofs.EndsGood.{Good}
-use Rattle.ncp_host.specs.Counting.{one_more}
-use Rattle.ncp_host.specs.PeerState.{PeerState, control_link, is_answered, answer_taken, answer_comes}
-use Rattle.ncp_host.specs.Hearing.{state_hears, state_hears_text, message_after}
-use Rattle.ncp_host.specs.Output.{leader_to, links}
+use Rattle.ncp_peer.specs.Counting.{one_more}
+use Rattle.ncp_peer.specs.PeerState.{PeerState, control_link, is_answered, answer_taken, answer_comes}
+use Rattle.ncp_peer.specs.Hearing.{state_hears, state_hears_text, message_after}
+use Rattle.ncp_peer.specs.Output.{leader_to, links}
 use Rattle.ncp_host.specs.Host.{is_one_of}
 use Rattle.ncp_transcript.specs.Asked.{Asked, Asks, Asks_echo, Asks_reset, Asks_wake}
 use Rattle.ncp_transcript.specs.declared.note.HostNote.{HostNote}

@@ -31,9 +31,9 @@ use Rattle.ncp_model.specs.Peers.{cuts, peer_sends}
 use Rattle.ncp_transcript_two.specs.Tie.{IsText}
 use Rattle.ncp_transcript_two.proofs.Well.{cut-written}
 use Rattle.ncp_transcript_two.proofs.Written.{read}
-use Rattle.ncp_host.specs.PeerState.{PeerState, new_state, control_link, answer_comes}
-use Rattle.ncp_host.specs.Hearing.{message_after, answer_of}
-use Rattle.ncp_host.specs.Output.{leader_to, message_to, links, control_message, text_message, output_by, after_by, after_output}
+use Rattle.ncp_peer.specs.PeerState.{PeerState, new_state, control_link, answer_comes}
+use Rattle.ncp_peer.specs.Hearing.{message_after, answer_of}
+use Rattle.ncp_peer.specs.Output.{leader_to, message_to, links, control_message, text_message, output_by, after_by, after_output}
 use Rattle.ncp_host.specs.Host.{Host, state_of, is_one_of, new_host}
 use Rattle.ncp_host.specs.Arrivals.{received_in}
 use Rattle.ncp_transcript.specs.declared.note.HostNote.{HostNote}

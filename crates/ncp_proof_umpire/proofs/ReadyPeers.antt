@@ -5,7 +5,7 @@ use Rattle.ncp_leader.specs.declared.leader.Leader.{Leader}
 use Rattle.ncp_terms.specs.Spelling.{IsCommand}
 use Rattle.ncp_slot.specs.Slot.{kept_message}
 use Rattle.ncp_slot.proofs.Places.{slot_at-no_slots}
-use Rattle.ncp_host.specs.PeerState.{PeerState, new_state}
+use Rattle.ncp_peer.specs.PeerState.{PeerState, new_state}
 use Rattle.ncp_host.specs.Host.{Host, state_of, new_host}
 use Rattle.ncp_host.specs.Arrivals.{received_in}
 use Rattle.ncp_proof_machine.proofs.EndsGood.{none-good}

@@ -7,7 +7,7 @@ use Rattle.ncp_slot.specs.declared.slot.Slot.TheVariants.{Empty, Held, Ready, Tr
 use Rattle.ncp_slot.specs.Slot.{answered, woken}
 use Rattle.ncp_slot.specs.Slots.{LinkSlot}
 use Rattle.ncp_model.specs.Peers.{Peer}
-use Rattle.ncp_host.specs.Output.{output_by}
+use Rattle.ncp_peer.specs.Output.{output_by}
 use Rattle.ncp_umpire.specs.declared.kept.Kept.{Kept}
 use Rattle.ncp_umpire.specs.declared.kept.Slot.{Slot}
 use Rattle.ncp_umpire.specs.Slots.{is_of, same_bits, place_of, kept_at, kept_slot, same_at, gone_out, has_room, with_out, with_kept_slot, with_answered}

@@ -1,7 +1,7 @@
 -- Recordings at the interface of host 1 by which the laws show that they speak of something.
 use Rattle.std.specs.Prelude.{ℕ, Bool, true, false, List, [], ◌∷◌, ◌++◌, replicate}
 use Rattle.ncp_terms.specs.declared.answer.Answer.TheVariants.{Incomplete}
-use Rattle.ncp_host.specs.declared.received.Received.{Received}
+use Rattle.ncp_peer.specs.declared.received.Received.{Received}
 use Rattle.ncp_transcript.specs.declared.input.Input.{Input}
 use Rattle.ncp_transcript.specs.declared.note.HostNote.{HostNote}
 use Rattle.ncp_transcript_two.specs.declared.side.Side.TheVariants.{A}

@@ -5,7 +5,7 @@
 //! - *Proved:* the laws of `alarms`: by the rules of messages and the phase, in any file, and in that of two hosts with the
 //!   subnet; and by the rules of leaders and of links whatever numbers calls have. By all rules:
 //!   `ncp_proof_umpire_talk`.
-//! - *Tests:* what is found of wrong hosts is in `audits` of `ncp_test_files`.
+//! - *Tests:* what is found of wrong hosts is in the cases `audit_*` of `ncp_test_cases`.
 #![tactic(auto)]
 
 pub mod alarms;

@@ -3,7 +3,7 @@
 //!
 //! - *Use:* that nothing is found in the files of two to eight hosts rests on it (`ncp_proof_umpire_whole`).
 //! - *Proved:* the law of `owing`, and lemmas for the crates above.
-//! - *Tests:* what is found of wrong hosts is in `audits` of `ncp_test_files`.
+//! - *Tests:* what is found of wrong hosts is in the cases `audit_*` of `ncp_test_cases`.
 #![tactic(auto)]
 
 pub mod owing;

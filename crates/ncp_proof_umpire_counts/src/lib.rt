@@ -3,7 +3,7 @@
 //!
 //! - *Use:* that no host is blamed at its own interface rests on it (`ncp_proof_umpire_talk`).
 //! - *Proved:* the law of `errors`, and lemmas for the crates above.
-//! - *Tests:* what is found of wrong hosts is in `audits` of `ncp_test_files`.
+//! - *Tests:* what is found of wrong hosts is in the cases `audit_*` of `ncp_test_cases`.
 #![tactic(auto)]
 
 pub mod errors;

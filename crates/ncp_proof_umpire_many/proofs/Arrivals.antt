@@ -7,7 +7,7 @@ use Rattle.ncp_slot.specs.declared.slot.Slot.{Slot}
 use Rattle.ncp_slot.specs.Slot.{is_empty, answered}
 use Rattle.ncp_slot.specs.Slots.{LinkSlot, LinkSlots, slot_at, is_quiet}
 use Rattle.ncp_model.proofs.ResetLists.{others, after_rst}
-use Rattle.ncp_host.specs.PeerState.{PeerState, answer_comes}
+use Rattle.ncp_peer.specs.PeerState.{PeerState, answer_comes}
 use Rattle.ncp_transcript_two.specs.Subnet.{Holds, Free, Accepted, Delivered, set_at}
 use Rattle.ncp_transcript_two.specs.World.{World, swap}
 use Rattle.ncp_transcript_two.specs.Underway.{not_come, commands_out, underway}

@@ -11,7 +11,7 @@ use Rattle.ncp_terms.specs.Spelling.{IsCommand, spellings}
 use Rattle.ncp_control.specs.Texts.{items_of}
 use Rattle.ncp_control.specs.Reading.{commands_in, fault_in}
 use Rattle.ncp_control.proofs.Reading.{spellings_small, spelled_alone}
-use Rattle.ncp_host.specs.Output.{leader_to, message_to}
+use Rattle.ncp_peer.specs.Output.{leader_to, message_to}
 use Rattle.ncp_transcript_two.specs.Tie.{IsText}
 use Rattle.ncp_transcript_two.proofs.Written.{read}
 use Rattle.ncp_umpire.specs.declared.finding.Finding.{Finding}

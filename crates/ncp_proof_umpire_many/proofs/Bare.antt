@@ -13,9 +13,9 @@ use Rattle.ncp_model.specs.Peers.{Peer, PairCall, happened_at, calls_echo, calls
 use Rattle.ncp_model.specs.Peers
 use Rattle.ncp_model.proofs.ResetLists.{others}
 use Rattle.ncp_proof_machine.proofs.EndsGood.{Good}
-use Rattle.ncp_host.specs.Counting.{one_more}
-use Rattle.ncp_host.specs.PeerState.{PeerState, is_answered, answer_taken, answer_comes}
-use Rattle.ncp_host.specs.Hearing.{state_hears, state_hears_all}
+use Rattle.ncp_peer.specs.Counting.{one_more}
+use Rattle.ncp_peer.specs.PeerState.{PeerState, is_answered, answer_taken, answer_comes}
+use Rattle.ncp_peer.specs.Hearing.{state_hears, state_hears_all}
 use Rattle.ncp_transcript.specs.Asked.{Asked, Asks, Asks_echo, Asks_reset, Asks_wake}
 use Rattle.ncp_transcript.specs.declared.note.HostNote.{HostNote}
 use Rattle.ncp_proof_runs.specs.Peers.{state_asked, note_for}

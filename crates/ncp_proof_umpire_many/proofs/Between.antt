@@ -17,9 +17,9 @@ use Rattle.ncp_subnet.proofs.NewRows.{has_way-new, transit-new}
 use Rattle.ncp_proof_resets.specs.Delivery.{Link}
 use Rattle.ncp_proof_machine.specs.Hosts.{TwoNodes, nodes_swapped}
 use Rattle.ncp_model.specs.Peers.{Peer}
-use Rattle.ncp_host.specs.PeerState.{new_state}
-use Rattle.ncp_host.specs.Hearing.{is_wrong_link}
-use Rattle.ncp_host.specs.Output.{leader_to, message_to, links, next_of, message_on, output_by, after_output}
+use Rattle.ncp_peer.specs.PeerState.{new_state}
+use Rattle.ncp_peer.specs.Hearing.{is_wrong_link}
+use Rattle.ncp_peer.specs.Output.{leader_to, message_to, links, next_of, message_on, output_by, after_output}
 use Rattle.ncp_host.specs.Turns.{next_output}
 use Rattle.ncp_transcript.specs.declared.note.HostNote.{HostNote}
 use Rattle.ncp_transcript_two.specs.Subnet.{Holds, Free, Accepted, Delivered, Lost, Dead, set_at, from_host, answer_bits}

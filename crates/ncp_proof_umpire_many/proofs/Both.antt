@@ -23,12 +23,12 @@ use Rattle.ncp_proof_runs.specs.Peers.{names, note_for}
 use Rattle.ncp_proof_runs.proofs.HostRuns.{some_same}
 use Rattle.ncp_slot.specs.Slots.{no_slots}
 use Rattle.ncp_slot.proofs.Places.{slot_at-no_slots, is_quiet-tells}
-use Rattle.ncp_host.specs.PeerState.{PeerState, new_state, answer_comes}
-use Rattle.ncp_host.specs.Hearing.{answer_of}
-use Rattle.ncp_host.specs.Hearing.{is_wrong_link}
+use Rattle.ncp_peer.specs.PeerState.{PeerState, new_state, answer_comes}
+use Rattle.ncp_peer.specs.Hearing.{answer_of}
+use Rattle.ncp_peer.specs.Hearing.{is_wrong_link}
 use Rattle.ncp_host.specs.Host.{Host, numbers_of, state_of}
 use Rattle.ncp_transcript_two.proofs.Comings.{small}
-use Rattle.ncp_host.specs.Output.{leader_to, message_to, control_message, text_message, output_by, after_next, after_output}
+use Rattle.ncp_peer.specs.Output.{leader_to, message_to, control_message, text_message, output_by, after_next, after_output}
 use Rattle.ncp_host.specs.Turns.{next_output, after_next_output}
 use Rattle.ncp_transcript.specs.declared.input.Input.{Input}
 use Rattle.ncp_transcript.specs.declared.call.Call.{Call}

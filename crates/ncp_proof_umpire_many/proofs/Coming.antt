@@ -8,9 +8,9 @@ use Rattle.ncp_terms.specs.declared.command.Command.{Command}
 use Rattle.ncp_slot.specs.declared.slot.Slot.{Slot}
 use Rattle.ncp_slot.specs.Slots.{slot_at}
 use Rattle.ncp_subnet.specs.Subnet.{transit_at}
-use Rattle.ncp_host.specs.PeerState.{PeerState}
-use Rattle.ncp_host.specs.Hearing.{is_wrong_link, state_hears_all}
-use Rattle.ncp_host.specs.Output.{leader_to, message_to}
+use Rattle.ncp_peer.specs.PeerState.{PeerState}
+use Rattle.ncp_peer.specs.Hearing.{is_wrong_link, state_hears_all}
+use Rattle.ncp_peer.specs.Output.{leader_to, message_to}
 use Rattle.ncp_transcript.specs.declared.note.HostNote.{HostNote}
 use Rattle.ncp_transcript.specs.After.{after_note}
 use Rattle.ncp_transcript.specs.Noting.{note_of_bits}

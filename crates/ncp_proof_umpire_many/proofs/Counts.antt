@@ -10,7 +10,7 @@ use Rattle.ncp_proof_resets.specs.Resets.{on_line, commands_underway}
 use Rattle.ncp_proof_resets.proofs.ResetKept.{Kept}
 use Rattle.ncp_proof_machine.specs.Hosts.{NodeEvent, TwoNodes}
 use Rattle.ncp_proof_headline.proofs.HostsHeld.{ever}
-use Rattle.ncp_host.specs.PeerState.{PeerState}
+use Rattle.ncp_peer.specs.PeerState.{PeerState}
 use Rattle.ncp_transcript_two.specs.Subnet.{TransitByLink}
 use Rattle.ncp_transcript_two.specs.World.{World}
 use Rattle.ncp_transcript_two.specs.Tie.{Reached, IsOfModel}

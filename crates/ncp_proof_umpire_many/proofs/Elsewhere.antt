@@ -9,7 +9,7 @@ use Rattle.ncp_leader.specs.Leader.{leader_in}
 use Rattle.ncp_leader.specs.Message.{Message, message_in}
 use Rattle.ncp_slot.specs.Slots.{slot_at}
 use Rattle.ncp_subnet.specs.Ways.{OnLink}
-use Rattle.ncp_host.specs.PeerState.{PeerState}
+use Rattle.ncp_peer.specs.PeerState.{PeerState}
 use Rattle.ncp_host.specs.Host.{Host, state_of, is_one_of}
 use Rattle.ncp_proof_runs.proofs.States.{peer_there}
 use Rattle.ncp_proof_runs.proofs.HostRuns.{Holds}

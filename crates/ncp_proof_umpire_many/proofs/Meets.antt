@@ -8,7 +8,7 @@ use Rattle.ncp_terms.specs.declared.command.Command.{Command}
 use Rattle.ncp_terms.specs.Spelling.{IsCommand}
 use Rattle.ncp_control.specs.Texts.{items_of}
 use Rattle.ncp_model.specs.Phase.{Phase}
-use Rattle.ncp_host.specs.Output.{leader_to}
+use Rattle.ncp_peer.specs.Output.{leader_to}
 use Rattle.ncp_umpire.specs.declared.finding.Finding.{Finding}
 use Rattle.ncp_umpire.specs.declared.finding.Rule.{Rule}
 use Rattle.ncp_umpire.specs.declared.finding.Thing.{Thing}

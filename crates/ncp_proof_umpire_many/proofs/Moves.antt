@@ -18,8 +18,8 @@ use Rattle.ncp_model.specs.Ends.{cut_in}
 use Rattle.ncp_model.specs.Sending.{next_commands}
 use Rattle.ncp_model.specs.Peers.{Peer, cuts, peer_sends}
 use Rattle.ncp_model.proofs.ResetLists.{others}
-use Rattle.ncp_host.specs.PeerState.{PeerState}
-use Rattle.ncp_host.specs.Output.{after_by, after_output}
+use Rattle.ncp_peer.specs.PeerState.{PeerState}
+use Rattle.ncp_peer.specs.Output.{after_by, after_output}
 use Rattle.ncp_transcript_two.specs.Subnet.{Holds, Accepted, set_at}
 use Rattle.ncp_transcript_two.specs.World.{World, swap}
 use Rattle.ncp_transcript_two.specs.Tie.{control_bits, AreCommands}

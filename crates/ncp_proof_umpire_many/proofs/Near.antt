@@ -1,7 +1,7 @@
 -- A message as it comes is the same as it went out but for the host in its leader.
 use Rattle.std.proofs.Common.{◌≡◌, ℕ, Bool, true, false, ◌&&◌, ◌||◌, nat_lt, if◌then◌else◌, List, length, slice_range, refl, le-ltb, arith}
 use Rattle.ncp_numbers.specs.Numbers.{bits_of}
-use Rattle.ncp_host.specs.Output.{message_to}
+use Rattle.ncp_peer.specs.Output.{message_to}
 use Rattle.ncp_umpire.specs.Slots.{same_bits, same_but_host}
 use Rattle.ncp_proof_umpire.proofs.Shown.{all_same}
 

@@ -13,7 +13,7 @@ use Rattle.ncp_slot.specs.Slots.{LinkSlot}
 use Rattle.ncp_model.specs.Phase.{Phase}
 use Rattle.ncp_model.specs.Peers.{Peer}
 use Rattle.ncp_model.proofs.ResetLists.{bit, rsts}
-use Rattle.ncp_host.specs.Output.{leader_to, output_by}
+use Rattle.ncp_peer.specs.Output.{leader_to, output_by}
 use Rattle.ncp_umpire.specs.declared.umpire.Umpire.{Umpire}
 use Rattle.ncp_umpire.specs.declared.view.Side.{Side}
 use Rattle.ncp_umpire.specs.declared.view.View.{View}

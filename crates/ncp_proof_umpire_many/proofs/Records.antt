@@ -9,8 +9,8 @@ use Rattle.ncp_subnet.specs.Messages.{from_host, answer_bits, arriving, answerin
 use Rattle.ncp_subnet.specs.Subnet.{Subnet, transit_at}
 use Rattle.ncp_subnet.proofs.Places.{transit_at-same}
 use Rattle.ncp_subnet.specs.Ways.{OnLink}
-use Rattle.ncp_host.specs.Hearing.{answer_of}
-use Rattle.ncp_host.specs.Output.{leader_to, message_to}
+use Rattle.ncp_peer.specs.Hearing.{answer_of}
+use Rattle.ncp_peer.specs.Output.{leader_to, message_to}
 use Rattle.ncp_host.specs.Turns.{next_output}
 use Rattle.ncp_transcript.specs.declared.note.HostNote.{HostNote}
 use Rattle.ncp_transcript.specs.Noting.{note_of_message}

@@ -12,7 +12,7 @@ use Rattle.ncp_subnet.specs.Ways.{OnLink}
 use Rattle.ncp_subnet.specs.Subnet.{Subnet, transit_at, with_transit, new_subnet}
 use Rattle.ncp_subnet.proofs.Places.{transit_at-same, transit_at-others}
 use Rattle.ncp_subnet.proofs.NewRows.{transit-new}
-use Rattle.ncp_host.specs.Output.{leader_to}
+use Rattle.ncp_peer.specs.Output.{leader_to}
 use Rattle.ncp_transcript_two.proofs.Written.{answer_leader}
 use Rattle.ncp_umpire.specs.declared.kept.Kept.{Kept}
 use Rattle.ncp_umpire.specs.declared.umpire.Umpire.{Umpire}

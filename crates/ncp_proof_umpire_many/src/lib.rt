@@ -6,7 +6,7 @@
 //! - *Proved:* the laws of `two` and of `many`: by no rule of messages and the phase is a host blamed at any interface, or
 //!   the subnet; the file of two is that of a world of two; and each record has its place in a message file. The same of
 //!   all rules: `ncp_proof_umpire_whole`.
-//! - *Tests:* what is found of wrong hosts and of a wrong subnet is in `audits` of `ncp_test_files`.
+//! - *Tests:* what is found of wrong hosts and of a wrong subnet is in the cases `audit_*` of `ncp_test_cases`.
 #![tactic(auto)]
 
 pub mod many;

@@ -2,7 +2,7 @@
 ghost use Rattle.std.specs.Prelude.{◌≡◌, ◌∷◌, [], ℕ, Bool, List};
 ghost use Rattle.ncp_subnet.specs.Messages.{answer_bits};
 ghost use Rattle.ncp_terms.specs.declared.answer.Answer.TheVariants.{Rfnm, Incomplete, Dead};
-ghost use Rattle.ncp_host.specs.declared.received.Received.{Received};
+ghost use Rattle.ncp_peer.specs.declared.received.Received.{Received};
 ghost use Rattle.ncp_transcript.specs.declared.note.HostNote.{HostNote};
 ghost use Rattle.ncp_umpire.specs.declared.way.Way.TheVariants.{ToImp, FromImp};
 ghost use Rattle.ncp_transcript_many.specs.declared.many_note.ManyNote.{ManyNote};

@@ -28,7 +28,7 @@ use Rattle.ncp_proof_watch.specs.Sound.{SoundAt}
 use Rattle.ncp_proof_machine.proofs.EndsGood.{Changes, changed-each, put-changes, act-changes}
 use Rattle.ncp_proof_progress.specs.Idle.{LeavingAt}
 use Rattle.ncp_proof_progress.proofs.LeavingEnds.{leaving-after}
-use Rattle.ncp_host.specs.Soundness.{is_end_busy}
+use Rattle.ncp_peer.specs.Soundness.{is_end_busy}
 use Rattle.ncp_proof_umpire_seen.proofs.Proper.{has_right_parts, AllProper, IsProperEnd, ProperEnds, proper_append, proper_made, proper_after, call_link}
 use Rattle.ncp_proof_umpire_talk.proofs.BusySlots.{BusySlots, FillsNone, busy_less, is_kept, busy_put, busy_hears, busy_text, busy_cut, busy_freed}
 use Rattle.ncp_proof_umpire_talk.proofs.Carries.{is_unreset}

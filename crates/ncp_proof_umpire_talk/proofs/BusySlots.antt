@@ -19,7 +19,7 @@ use Rattle.ncp_model.proofs.PairOrder.{pairs_exact}
 use Rattle.ncp_model.proofs.EndsAfter.{after-at, after-elsewhere}
 use Rattle.ncp_model.proofs.LinksLead.{itself, led, command-led, cut-led}
 use Rattle.ncp_proof_watch.specs.Sound.{SoundAt}
-use Rattle.ncp_host.specs.Soundness.{is_end_busy, pair_hears_link}
+use Rattle.ncp_peer.specs.Soundness.{is_end_busy, pair_hears_link}
 use Rattle.ncp_host.proofs.Steady.{stays-heard}
 
 -- the end whose text is on the link

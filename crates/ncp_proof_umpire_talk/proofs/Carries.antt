@@ -8,7 +8,7 @@ use Rattle.ncp_model.specs.declared.pair.Pair.{Pair}
 use Rattle.ncp_model.specs.Phase.{Phase}
 use Rattle.ncp_model.specs.Peers.{Peer}
 use Rattle.ncp_proof_progress.specs.Idle.{LeavingAt}
-use Rattle.ncp_host.specs.Soundness.{Agree}
+use Rattle.ncp_peer.specs.Soundness.{Agree}
 use Rattle.ncp_umpire.specs.declared.kept.Kept.{Kept}
 use Rattle.ncp_umpire.specs.Requests.{is_busy_on}
 use Rattle.ncp_proof_umpire_seen.proofs.Proper.{AllProper, ProperEnds}

@@ -29,12 +29,12 @@ use Rattle.ncp_model.specs.Peers.{Peer, reaction, hears, hears_other, frees, pee
 use Rattle.ncp_proof_watch.specs.Sound.{SoundAt}
 use Rattle.ncp_proof_watch.proofs.SoundEnds.{sound-after}
 use Rattle.ncp_proof_machine.proofs.EndsGood.{changed-each, act-changes}
-use Rattle.ncp_host.specs.PeerState.{PeerState, new_state, control_link, frees_on, after_answer, is_answered, answer_taken, answer_comes}
-use Rattle.ncp_host.specs.Counting.{one_more}
-use Rattle.ncp_host.specs.Hearing.{state_hears, state_hears_all, hears_last, state_hears_text, control_size, state_after_control, state_after_text, is_wrong_link, message_after}
-use Rattle.ncp_host.specs.Output.{links, control_message, text_message, output_by, after_by, after_output}
+use Rattle.ncp_peer.specs.PeerState.{PeerState, new_state, control_link, frees_on, after_answer, is_answered, answer_taken, answer_comes}
+use Rattle.ncp_peer.specs.Counting.{one_more}
+use Rattle.ncp_peer.specs.Hearing.{state_hears, state_hears_all, hears_last, state_hears_text, control_size, state_after_control, state_after_text, is_wrong_link, message_after}
+use Rattle.ncp_peer.specs.Output.{links, control_message, text_message, output_by, after_by, after_output}
 use Rattle.ncp_host.specs.Host.{is_one_of}
-use Rattle.ncp_host.specs.Soundness.{Agree}
+use Rattle.ncp_peer.specs.Soundness.{Agree}
 use Rattle.ncp_transcript.specs.Asked.{Asked, Asks, Asks_echo, Asks_reset, Asks_wake}
 use Rattle.ncp_proof_runs.specs.Peers.{state_asked}
 use Rattle.ncp_proof_umpire.proofs.HostSlots.{empty_woken}

@@ -16,7 +16,7 @@ use Rattle.ncp_model.specs.Ends.{Ends, hears_link}
 use Rattle.ncp_model.specs.Leading.{passes}
 use Rattle.ncp_proof_watch.specs.Sound.{SoundAt}
 use Rattle.ncp_proof_progress.specs.Idle.{LeavingAt}
-use Rattle.ncp_host.specs.Soundness.{is_end_busy, pair_hears_link, Agree}
+use Rattle.ncp_peer.specs.Soundness.{is_end_busy, pair_hears_link, Agree}
 use Rattle.ncp_umpire.specs.declared.finding.Rule.{Rule}
 use Rattle.ncp_umpire.specs.declared.kept.Kept.{Kept}
 use Rattle.ncp_umpire.specs.declared.life.Life.{Life}

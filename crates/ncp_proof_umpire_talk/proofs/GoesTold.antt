@@ -10,7 +10,7 @@ use Rattle.ncp_model.specs.declared.pair.Pair.{Pair}
 use Rattle.ncp_model.specs.Ends.{Ends, link_of}
 use Rattle.ncp_proof_machine.proofs.EndsGood.{Good}
 use Rattle.ncp_proof_progress.specs.Idle.{LeavingAt}
-use Rattle.ncp_host.specs.Soundness.{Agree}
+use Rattle.ncp_peer.specs.Soundness.{Agree}
 use Rattle.ncp_umpire.specs.declared.finding.Rule.{Rule}
 use Rattle.ncp_umpire.specs.declared.kept.Kept.{Kept}
 use Rattle.ncp_umpire.specs.declared.life.Mark.{Mark}

@@ -10,7 +10,7 @@ use Rattle.ncp_model.specs.Ends.{Ends, hears_link}
 use Rattle.ncp_model.specs.Leading.{passes}
 use Rattle.ncp_model.specs.declared.pair.Pair.{Pair}
 use Rattle.ncp_proof_progress.specs.Idle.{LeavingAt}
-use Rattle.ncp_host.specs.Soundness.{is_end_busy, pair_hears_link, Agree}
+use Rattle.ncp_peer.specs.Soundness.{is_end_busy, pair_hears_link, Agree}
 use Rattle.ncp_umpire.specs.declared.kept.Kept.{Kept}
 use Rattle.ncp_umpire.specs.Requests.{is_busy_on}
 use Rattle.ncp_proof_umpire_seen.proofs.Changed.{pair_at}

@@ -16,9 +16,9 @@ use Rattle.ncp_model.specs.Echo.{Echoes}
 use Rattle.ncp_model.specs.Phase.{up, is_other, phase_hears}
 use Rattle.ncp_model.specs.Peers.{Peer, echo_replies, echoes_after, reaction, hears, hears_other}
 use Rattle.ncp_proof_machine.proofs.EndsGood.{Good, none-good}
-use Rattle.ncp_host.specs.PeerState.{PeerState}
-use Rattle.ncp_host.specs.Hearing.{state_hears, state_hears_text, message_after}
-use Rattle.ncp_host.specs.Soundness.{SoundPeer}
+use Rattle.ncp_peer.specs.PeerState.{PeerState}
+use Rattle.ncp_peer.specs.Hearing.{state_hears, state_hears_text, message_after}
+use Rattle.ncp_peer.specs.Soundness.{SoundPeer}
 use Rattle.ncp_host.proofs.Sound.{sound-hears}
 use Rattle.ncp_umpire.specs.declared.kept.Kept.{Kept}
 use Rattle.ncp_umpire.specs.declared.phase.Turn.{Turn}

@@ -19,7 +19,7 @@ use Rattle.ncp_model.specs.Sending.{next_commands}
 use Rattle.ncp_model.specs.Peers.{Peer, cuts, peer_sends}
 use Rattle.ncp_model.proofs.ResetLists.{bit, rrps}
 use Rattle.ncp_proof_machine.proofs.EndsGood.{Good}
-use Rattle.ncp_host.specs.Output.{leader_to, links}
+use Rattle.ncp_peer.specs.Output.{leader_to, links}
 use Rattle.ncp_host.specs.Host.{is_one_of}
 use Rattle.ncp_proof_runs.proofs.MadeOfRuns.{next-first}
 use Rattle.ncp_umpire.specs.declared.finding.Finding.{Finding}

@@ -24,8 +24,8 @@ use Rattle.ncp_model.proofs.EndsAfter.{after-at, after-elsewhere}
 use Rattle.ncp_model.proofs.LinksLead.{answered-led}
 use Rattle.ncp_proof_headline.proofs.HostsJoined.{AllOther}
 use Rattle.ncp_proof_machine.proofs.EndsGood.{Good, put-changes}
-use Rattle.ncp_host.specs.PeerState.{PeerState, control_link, frees_on, after_answer, is_answered, answer_taken, answer_comes}
-use Rattle.ncp_host.specs.Counting.{one_more}
+use Rattle.ncp_peer.specs.PeerState.{PeerState, control_link, frees_on, after_answer, is_answered, answer_taken, answer_comes}
+use Rattle.ncp_peer.specs.Counting.{one_more}
 use Rattle.ncp_transcript.specs.Asked.{Asked, Asks, Asks_echo, Asks_reset, Asks_wake}
 use Rattle.ncp_transcript.specs.declared.note.HostNote.{HostNote}
 use Rattle.ncp_proof_runs.specs.Peers.{state_asked, note_for}

@@ -17,8 +17,8 @@ use Rattle.ncp_model.specs.Ends.{cut_in}
 use Rattle.ncp_model.specs.Sending.{next_commands}
 use Rattle.ncp_model.specs.declared.limits.TheConstants.{MAX_CONTROL}
 use Rattle.ncp_model.specs.Peers.{cuts, peer_sends}
-use Rattle.ncp_host.specs.PeerState.{PeerState, new_state, control_link}
-use Rattle.ncp_host.specs.Output.{links, control_message, text_message, output_by, after_by, after_output}
+use Rattle.ncp_peer.specs.PeerState.{PeerState, new_state, control_link}
+use Rattle.ncp_peer.specs.Output.{links, control_message, text_message, output_by, after_by, after_output}
 use Rattle.ncp_host.specs.Host.{Host, state_of, is_one_of, new_host}
 use Rattle.ncp_host.proofs.Sound.{sound-output, sound-new}
 use Rattle.ncp_transcript.specs.declared.note.HostNote.{HostNote}

@@ -14,11 +14,11 @@ use Rattle.ncp_terms.specs.declared.answer.Answer.TheVariants.{Rfnm, Incomplete,
 use Rattle.ncp_slot.specs.Slots.{slot_at, is_quiet}
 use Rattle.ncp_model.specs.Act.{answer}
 use Rattle.ncp_model.specs.Peers.{Peer}
-use Rattle.ncp_host.specs.PeerState.{PeerState, answer_comes}
-use Rattle.ncp_host.specs.Hearing.{rfnm, destination_dead, incomplete, message_after, answer_of}
+use Rattle.ncp_peer.specs.PeerState.{PeerState, answer_comes}
+use Rattle.ncp_peer.specs.Hearing.{rfnm, destination_dead, incomplete, message_after, answer_of}
 use Rattle.ncp_host.specs.Host.{Host, state_of, is_one_of}
 use Rattle.ncp_host.specs.Arrivals.{received_in}
-use Rattle.ncp_host.specs.Soundness.{IsSound}
+use Rattle.ncp_peer.specs.Soundness.{IsSound}
 use Rattle.ncp_host.proofs.Sound.{sound-calls, sound-echo, sound-reset, sound-wakes, sound-bits}
 use Rattle.ncp_transcript.specs.Asked.{Asked, Asks, Asks_echo, Asks_reset, Asks_wake}
 use Rattle.ncp_transcript.specs.declared.note.HostNote.{HostNote}

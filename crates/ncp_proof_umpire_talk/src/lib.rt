@@ -4,7 +4,7 @@
 //!
 //! - *Use:* what `ncp audit` says against a host rests on it.
 //! - *Proved:* the law of `talk`, by all rules, in any file.
-//! - *Tests:* what is found of wrong hosts is in `audits` of `ncp_test_files`.
+//! - *Tests:* what is found of wrong hosts is in the cases `audit_*` of `ncp_test_cases`.
 #![tactic(auto)]
 
 pub mod talk;

@@ -9,7 +9,7 @@ use Rattle.ncp_terms.specs.Spelling.{IsCommand, spellings}
 use Rattle.ncp_slot.specs.Slot.{is_empty}
 use Rattle.ncp_slot.specs.Slots.{LinkSlot}
 use Rattle.ncp_model.specs.Peers.{Peer}
-use Rattle.ncp_host.specs.Output.{leader_to, output_by}
+use Rattle.ncp_peer.specs.Output.{leader_to, output_by}
 use Rattle.ncp_umpire.specs.declared.event.Event.{Event}
 use Rattle.ncp_umpire.specs.declared.finding.Thing.{Thing}
 use Rattle.ncp_umpire.specs.declared.phase.Turn.{Turn}

@@ -9,7 +9,7 @@ use Rattle.ncp_terms.specs.declared.command.Command.{Command}
 use Rattle.ncp_terms.specs.declared.fault.CommandFault.{CommandFault}
 use Rattle.ncp_terms.specs.Spelling.{IsCommand, spellings}
 use Rattle.ncp_control.specs.Texts.{items_of}
-use Rattle.ncp_host.specs.Output.{leader_to}
+use Rattle.ncp_peer.specs.Output.{leader_to}
 use Rattle.ncp_umpire.specs.declared.act.Act.TheVariants.{Other}
 use Rattle.ncp_umpire.specs.declared.finding.Thing.{Thing}
 use Rattle.ncp_umpire.specs.declared.phase.Turn.{Turn}

@@ -20,10 +20,10 @@ use Rattle.ncp_model.specs.Ends.{cut_in}
 use Rattle.ncp_model.specs.Sending.{next_commands}
 use Rattle.ncp_model.specs.declared.limits.TheConstants.{MAX_CONTROL}
 use Rattle.ncp_proof_runs.proofs.HostRuns.{some_same}
-use Rattle.ncp_host.specs.PeerState.{PeerState, new_state, answer_comes}
-use Rattle.ncp_host.specs.Hearing.{answer_of, is_wrong_link}
+use Rattle.ncp_peer.specs.PeerState.{PeerState, new_state, answer_comes}
+use Rattle.ncp_peer.specs.Hearing.{answer_of, is_wrong_link}
 use Rattle.ncp_host.specs.Host.{Host}
-use Rattle.ncp_host.specs.Output.{leader_to, message_to, control_message, text_message, output_by, after_next, after_output}
+use Rattle.ncp_peer.specs.Output.{leader_to, message_to, control_message, text_message, output_by, after_next, after_output}
 use Rattle.ncp_host.specs.Turns.{next_output, after_next_output}
 use Rattle.ncp_transcript.specs.declared.input.Input.{Input}
 use Rattle.ncp_transcript.specs.declared.call.Call.{Call}

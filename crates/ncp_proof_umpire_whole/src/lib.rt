@@ -4,7 +4,7 @@
 //!
 //! - *Use:* what `ncp audit` says of a file that `ncp record` wrote rests on it.
 //! - *Proved:* the laws of `two` and of `many`: by no rule at all is a host blamed at any interface, or the subnet.
-//! - *Tests:* what is found of wrong hosts and of a wrong subnet is in `audits` of `ncp_test_files`.
+//! - *Tests:* what is found of wrong hosts and of a wrong subnet is in the cases `audit_*` of `ncp_test_cases`.
 #![tactic(auto)]
 
 pub mod many;

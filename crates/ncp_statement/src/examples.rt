@@ -4,7 +4,7 @@ ghost use Rattle.ncp_terms.specs.declared.answer.Answer.TheVariants.{Rfnm, Incom
 ghost use Rattle.ncp_terms.specs.declared.command.Command.{Command as Order};
 ghost use Rattle.ncp_terms.specs.declared.command.Command.TheVariants as commands;
 ghost use Rattle.ncp_model.specs.declared.outcomes.Took.TheVariants as took;
-ghost use Rattle.ncp_host.specs.declared.received.Received.{Received};
+ghost use Rattle.ncp_peer.specs.declared.received.Received.{Received};
 ghost use Rattle.ncp_subnet.specs.Messages.{link_in, from_host};
 ghost use Rattle.ncp_subnet.specs.declared.transit.Transit.TheVariants.{Free};
 ghost use Rattle.ncp_transcript_two.specs.declared.side.Side.TheVariants.{A, B};

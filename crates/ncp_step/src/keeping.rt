@@ -2,7 +2,7 @@
 ghost use Rattle.std.specs.Prelude.{◌≡◌, ◌≤◌, ◌<◌, ℕ, true, None, is_some, IfSome, IfNone};
 ghost use Rattle.ncp_terms.specs.declared.links.TheConstants.{LAST_LINK};
 ghost use Rattle.ncp_host.specs.Host.{state_of};
-ghost use Rattle.ncp_host.specs.Calls.{kept_for};
+ghost use Rattle.ncp_peer.specs.PeerCalls.{kept_for};
 
 use ncp_bits::BitStore;
 use ncp_host::Host;

@@ -4,11 +4,11 @@ use Rattle.ncp_leader.specs.declared.leader.Leader.{Leader}
 use Rattle.ncp_leader.specs.declared.leader.Short.{Short}
 use Rattle.ncp_leader.specs.Leader.{leader_in}
 use Rattle.ncp_leader.specs.Message.{message_in}
-use Rattle.ncp_host.specs.PeerState.{PeerState, answer_comes}
-use Rattle.ncp_host.specs.Hearing.{regular, rfnm, destination_dead, incomplete, is_kind, answer_of, answer_received, message_after, message_received}
+use Rattle.ncp_peer.specs.PeerState.{PeerState, answer_comes}
+use Rattle.ncp_peer.specs.Hearing.{regular, rfnm, destination_dead, incomplete, is_kind, answer_of, answer_received, message_after, message_received}
 use Rattle.ncp_host.specs.Host.{Host, state_of, changed}
 use Rattle.ncp_host.specs.Arrivals.{after_from, after_with, after_received, received_from, received_with, received_in, one_other}
-use Rattle.ncp_host.specs.declared.received.Received.TheVariants as received
+use Rattle.ncp_peer.specs.declared.received.Received.TheVariants as received
 use Rattle.ncp_transcript.specs.Noting.{is_answer, if_peer, answer_with, answer_in}
 use Rattle.ncp_transcript.specs.Runs.{answer_told}
 

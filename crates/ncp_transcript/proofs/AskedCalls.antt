@@ -4,9 +4,11 @@ use Rattle.ncp_model.specs.declared.call_fault.CallFault.{CallFault}
 use Rattle.ncp_model.specs.declared.call_fault.CallFault.TheVariants.{UnknownPeer, NoEntry, OutOfMemory}
 use Rattle.ncp_model.specs.declared.pair.Pair.{Pair}
 use Rattle.ncp_model.specs.Peers.{Take, comes_of, reply_of_take, call_accepted}
-use Rattle.ncp_host.specs.PeerState.{PeerState}
+use Rattle.ncp_peer.specs.PeerState.{PeerState}
 use Rattle.ncp_host.specs.Host.{Host, state_of, if_known}
-use Rattle.ncp_host.specs.Calls.{record_answer, record_told, flags_of, flags_told, echoed_told, errors_told, counts_told, waiting_at, kept_for}
+use Rattle.ncp_phase.specs.Flags.{flags_of}
+use Rattle.ncp_peer.specs.PeerCalls.{record_answer, waiting_at, kept_for}
+use Rattle.ncp_host.specs.Calls.{record_told, flags_told, echoed_told, errors_told, counts_told}
 use Rattle.ncp_transcript.specs.declared.call.Call.{Call}
 use Rattle.ncp_transcript.specs.declared.call.Call.TheVariants as calls
 use Rattle.ncp_transcript.specs.declared.note.HostNote.{HostNote}

@@ -4,10 +4,10 @@ use Rattle.ncp_leader.specs.declared.leader.Leader.{Leader}
 use Rattle.ncp_leader.specs.declared.leader.Short.{Short}
 use Rattle.ncp_leader.specs.Leader.{leader_in}
 use Rattle.ncp_model.specs.Peers.{Take}
-use Rattle.ncp_host.specs.PeerState.{PeerState, new_state, state_calls, answer_comes}
-use Rattle.ncp_host.specs.Output.{next_of}
+use Rattle.ncp_peer.specs.PeerState.{PeerState, new_state, state_calls, answer_comes}
+use Rattle.ncp_peer.specs.Output.{next_of}
 use Rattle.ncp_host.specs.Host.{Host, numbers_of, at_peer, changed, is_one_of, new_host, state_of}
-use Rattle.ncp_host.specs.Hearing.{is_kind, after_bits}
+use Rattle.ncp_peer.specs.Hearing.{is_kind, after_bits}
 use Rattle.ncp_host.specs.Arrivals.{after_from, after_with, after_received, one_other}
 use Rattle.ncp_host.specs.Turns.{after_turn, first_goes}
 use Rattle.ncp_transcript.specs.declared.call.Call.{Call}

@@ -3,7 +3,7 @@ use Rattle.std.proofs.Common.{◌≡◌, true, Result, Ok, Err, inl, inr, refl, 
 use Rattle.std.specs.Result.{OnErr}
 use Rattle.ncp_model.specs.declared.call_fault.CallFault.{CallFault}
 use Rattle.ncp_host.specs.Host.{Host}
-use Rattle.ncp_host.specs.Calls.{DoneOrNoMemory}
+use Rattle.ncp_peer.specs.PeerCalls.{DoneOrNoMemory}
 use Rattle.ncp_transcript.specs.declared.call.Call.{Call}
 use Rattle.ncp_transcript.specs.declared.call.Call.TheVariants.{AskSend, AskReceive}
 use Rattle.ncp_transcript.specs.declared.note.HostNote.{HostNote}

@@ -1,7 +1,7 @@
 -- Where no link is ready nothing goes out, and nothing changes.
 use Rattle.std.proofs.Common.{◌≡◌, ℕ, Bool, List, [], ◌∷◌, Option, None, Some, refl, ap}
-use Rattle.ncp_host.specs.PeerState.{PeerState}
-use Rattle.ncp_host.specs.Output.{next_of}
+use Rattle.ncp_peer.specs.PeerState.{PeerState}
+use Rattle.ncp_peer.specs.Output.{next_of}
 use Rattle.ncp_host.specs.Host.{Host}
 use Rattle.ncp_host.specs.Turns.{message_in_turn, after_turn, first_goes, first_message, next_output, after_next_output}
 

@@ -2,7 +2,7 @@
 -- want of memory too, and what was only read, has not.
 use Rattle.std.specs.Prelude.{List, [], ◌∷◌}
 use Rattle.ncp_model.specs.Peers.{Take}
-use Rattle.ncp_host.specs.PeerState.{answer_comes}
+use Rattle.ncp_peer.specs.PeerState.{answer_comes}
 use Rattle.ncp_host.specs.Host.{Host, changed}
 use Rattle.ncp_host.specs.Calls.{after_call_to}
 use Rattle.ncp_host.specs.Arrivals.{after_received}

@@ -1,7 +1,8 @@
 -- What each call answers by the rules, as a note.
 use Rattle.std.specs.Prelude.{Bool, true, false}
 use Rattle.ncp_host.specs.Host.{Host, state_of}
-use Rattle.ncp_host.specs.Calls.{take_reply, record_told, flags_told, echoed_told, errors_told, counts_told, waiting_at, kept_for}
+use Rattle.ncp_peer.specs.PeerCalls.{waiting_at, kept_for}
+use Rattle.ncp_host.specs.Calls.{take_reply, record_told, flags_told, echoed_told, errors_told, counts_told}
 use Rattle.ncp_transcript.specs.declared.call.Call.{Call}
 use Rattle.ncp_transcript.specs.declared.call.Call.TheVariants as calls
 use Rattle.ncp_transcript.specs.declared.note.HostNote.{HostNote}

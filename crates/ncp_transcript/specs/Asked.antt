@@ -5,7 +5,7 @@ use Rattle.ncp_model.specs.declared.pair.Pair.{Pair}
 use Rattle.ncp_model.specs.declared.call_fault.CallFault.{CallFault}
 use Rattle.ncp_model.specs.Phase.{reset_answer}
 use Rattle.ncp_model.specs.Peers.{PairCall, Ask_to_send, Ask_to_receive, Close, Give, Take, Allocate, Call_back, Interrupt, comes_of, reply, reply_of_take, call_accepted, reply_of_echo}
-use Rattle.ncp_host.specs.PeerState.{PeerState, state_calls, state_calls_echo, state_calls_reset, state_calls_wake}
+use Rattle.ncp_peer.specs.PeerState.{PeerState, state_calls, state_calls_echo, state_calls_reset, state_calls_wake}
 use Rattle.ncp_host.specs.Host.{Host, state_of, changed, if_known}
 use Rattle.ncp_host.specs.Calls.{sockets}
 use Rattle.ncp_transcript.specs.declared.call.Call.{Call}

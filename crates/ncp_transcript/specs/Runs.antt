@@ -1,9 +1,9 @@
 -- A run of one host: each note says what the rules say at the state that the notes before it leave.
 use Rattle.std.specs.Prelude.{◌≡◌, ◌⊎◌, ◌<◌, ℕ, true, List, [], ◌∷◌, Option, None, Some}
-use Rattle.ncp_host.specs.declared.received.Received.{Received}
-use Rattle.ncp_host.specs.PeerState.{PeerState}
+use Rattle.ncp_peer.specs.declared.received.Received.{Received}
+use Rattle.ncp_peer.specs.PeerState.{PeerState}
 use Rattle.ncp_host.specs.Host.{Host, state_of, numbers_of, is_one_of, are_peers, new_host}
-use Rattle.ncp_host.specs.Hearing.{answer_received}
+use Rattle.ncp_peer.specs.Hearing.{answer_received}
 use Rattle.ncp_host.specs.Arrivals.{received_in}
 use Rattle.ncp_host.specs.Turns.{next_output}
 use Rattle.ncp_transcript.specs.declared.call.Call.TheVariants as calls

@@ -26,7 +26,7 @@ pub struct Alone<S: BitStore> {
 impl<S: BitStore> Model for Alone<S> {
     ghost use Rattle.std.specs.Coded.{codes};
     ghost use Rattle.ncp_slot.specs.Slots.{coded_slots};
-    ghost use Rattle.ncp_host.specs.Codes.{coded_ends};
+    ghost use Rattle.ncp_peer.specs.Codes.{coded_ends};
     ghost use Rattle.ncp_transcript.specs.Runs.{IsHostTranscript};
     ghost use Rattle.ncp_transcript.specs.Alone.{Alone as Seen};
 

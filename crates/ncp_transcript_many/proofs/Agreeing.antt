@@ -1,7 +1,7 @@
 -- What many hosts have between two of them is what a world of two has; and how it stays so.
 use Rattle.std.proofs.Common.{◌≡◌, ◌≢◌, ◌<◌, ◌^◌, ℕ, ◌==◌, Bool, true, false, List, [], ◌∷◌, Option, refl, sym, ap, ◌∙◌, subst}
 use Rattle.std.proofs.lemmas.Bool.{eqb-true, ne_eqb}
-use Rattle.ncp_host.specs.PeerState.{PeerState}
+use Rattle.ncp_peer.specs.PeerState.{PeerState}
 use Rattle.ncp_host.specs.Host.{Host, state_of}
 use Rattle.ncp_subnet.specs.Ways.{OnLink}
 use Rattle.ncp_subnet.specs.Subnet.{Subnet, has_way, with_transit}

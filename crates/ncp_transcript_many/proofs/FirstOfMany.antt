@@ -3,7 +3,7 @@ use Rattle.std.proofs.Common.{◌≡◌, ℕ, Bool, true, if◌then◌else◌, L
 use Rattle.std.proofs.lemmas.Bool.{eq-eqb}
 use Rattle.std.proofs.lemmas.List.{append_assoc}
 use Rattle.ncp_host.specs.Host.{Host, is_one_of, new_host}
-use Rattle.ncp_host.specs.Readiness.{IsNext}
+use Rattle.ncp_peer.specs.Readiness.{IsNext}
 use Rattle.ncp_transcript.specs.declared.note.HostNote.{HostNote}
 use Rattle.ncp_transcript.specs.declared.note.HostNote.TheVariants as of_host
 use Rattle.ncp_transcript.specs.After as transcripts

@@ -5,10 +5,10 @@ use Rattle.std.proofs.lemmas.Bool.{and_parts, both_ways, eq-eqb, eqb-true, ne_eq
 use Rattle.ncp_leader.specs.declared.leader.Leader.{Leader}
 use Rattle.ncp_leader.specs.declared.leader.Short.{Short}
 use Rattle.ncp_leader.specs.Leader.{IsLeader, leader_in}
-use Rattle.ncp_host.specs.PeerState.{PeerState}
-use Rattle.ncp_host.specs.Hearing.{regular}
+use Rattle.ncp_peer.specs.PeerState.{PeerState}
+use Rattle.ncp_peer.specs.Hearing.{regular}
 use Rattle.ncp_host.specs.Host.{Host, state_of}
-use Rattle.ncp_host.specs.Output.{leader_to, links, next_of, message_on}
+use Rattle.ncp_peer.specs.Output.{leader_to, links, next_of, message_on}
 use Rattle.ncp_host.specs.Turns.{next_output}
 use Rattle.ncp_subnet.specs.declared.transit.Transit.TheVariants.{Free, Accepted, Delivered, Lost, Dead}
 use Rattle.ncp_subnet.specs.Transit.{is_accepted, answer_kind}

@@ -8,7 +8,7 @@ use Rattle.ncp_leader.specs.declared.kinds.TheConstants.{REGULAR}
 use Rattle.ncp_leader.specs.declared.leader.TheConstants.{LEADER_BITS}
 use Rattle.ncp_leader.specs.Leader.{IsLeader, leader_in, leader_at, leader_bits}
 use Rattle.ncp_leader.proofs.Leaders.{IsLeader-at, leader_first, leader_in-bits}
-use Rattle.ncp_host.specs.Output.{leader_to}
+use Rattle.ncp_peer.specs.Output.{leader_to}
 use Rattle.ncp_subnet.specs.declared.transit.Transit.TheVariants.{Free, Accepted, Delivered, Lost, Dead}
 use Rattle.ncp_subnet.specs.Transit.{is_free, is_accepted, answer_kind}
 use Rattle.ncp_subnet.specs.Messages.{host_in, link_in, from_host}

@@ -1,7 +1,7 @@
 -- The notes of the examples, each by its name.
 use Rattle.std.specs.Prelude.{ℕ, false}
-use Rattle.ncp_host.specs.declared.flags.Flags.{Flags}
-use Rattle.ncp_host.specs.declared.received.Received.TheVariants as received
+use Rattle.ncp_phase.specs.declared.flags.Flags.{Flags}
+use Rattle.ncp_peer.specs.declared.received.Received.TheVariants as received
 use Rattle.ncp_transcript.specs.declared.call.Call.TheVariants as calls
 use Rattle.ncp_transcript.specs.declared.note.HostNote.{HostNote}
 use Rattle.ncp_transcript.specs.declared.note.HostNote.TheVariants as of_host

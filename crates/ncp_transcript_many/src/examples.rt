@@ -1,6 +1,6 @@
 //! What the definitions mean in worked examples: small laws that a wrong definition makes false.
 ghost use Rattle.std.specs.Prelude.{◌≡◌, ℕ, true, false, [], ◌∷◌, length, Some, None};
-ghost use Rattle.ncp_host.specs.declared.received.Received.TheVariants as received;
+ghost use Rattle.ncp_peer.specs.declared.received.Received.TheVariants as received;
 ghost use Rattle.ncp_host.specs.Host.{new_host};
 ghost use Rattle.ncp_transcript.specs.declared.call.Call.TheVariants as calls;
 ghost use Rattle.ncp_transcript.specs.declared.note.HostNote.TheVariants as of_host;

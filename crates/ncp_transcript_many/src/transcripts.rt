@@ -1,6 +1,6 @@
 //! Laws of transcripts of two to eight hosts, each the contract of a function that does nothing.
 ghost use Rattle.std.specs.Prelude.{◌≡◌, ◌≢◌, ◌≤◌, ◌⊎◌, ℕ, true, false, length, map, None, Some};
-ghost use Rattle.ncp_host.specs.Readiness.{IsNext};
+ghost use Rattle.ncp_peer.specs.Readiness.{IsNext};
 ghost use Rattle.ncp_host.specs.Turns.{next_output};
 ghost use Rattle.ncp_transcript.specs.declared.note.HostNote.TheVariants as of_host;
 ghost use Rattle.ncp_proof_runs.specs.Peers.{FromBeginning};

@@ -10,7 +10,7 @@ use Rattle.ncp_terms.specs.declared.answer.Answer.TheVariants as answer_kinds
 use Rattle.ncp_slot.specs.Slot.{is_travelling}
 use Rattle.ncp_slot.specs.Slot as slot
 use Rattle.ncp_slot.proofs.Places.{slot_at-with_slot_same}
-use Rattle.ncp_host.specs.Hearing.{rfnm, incomplete, destination_dead}
+use Rattle.ncp_peer.specs.Hearing.{rfnm, incomplete, destination_dead}
 use Rattle.ncp_transcript_two.specs.Subnet.{answer_bits}
 use Rattle.ncp_slot.specs.Slots.{LinkSlots, slot_at, with_slot, is_quiet}
 use Rattle.ncp_proof_resets.specs.Delivery.{Link, answer_of_transit}
@@ -20,9 +20,9 @@ use Rattle.ncp_model.specs.Peers.{Peer}
 use Rattle.ncp_model.specs.Peers as peers
 use Rattle.ncp_proof_machine.specs.Hosts.{TextOut, set_link}
 use Rattle.ncp_proof_machine.specs.Hosts as hosts
-use Rattle.ncp_host.specs.Counting.{one_more}
-use Rattle.ncp_host.specs.PeerState.{PeerState}
-use Rattle.ncp_host.specs.PeerState as states
+use Rattle.ncp_peer.specs.Counting.{one_more}
+use Rattle.ncp_peer.specs.PeerState.{PeerState}
+use Rattle.ncp_peer.specs.PeerState as states
 use Rattle.ncp_transcript_two.specs.Subnet.{Free, Delivered, Lost, Dead, TransitByLink, set_at}
 use Rattle.ncp_transcript_two.specs.World.{World, Answered, state_after_received, received}
 use Rattle.ncp_transcript_two.specs.Tie.{Nowhere, Waits, Came, Failed, Died, Kept, model_of, control_bits, text_as_message, AreCommands, IsTextOn, Stands, Reached, Goes_on, Tied}

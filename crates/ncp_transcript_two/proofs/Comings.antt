@@ -7,8 +7,8 @@ use Rattle.ncp_terms.specs.Spelling.{spellings}
 use Rattle.ncp_leader.specs.declared.regular.TheConstants.{FRONT_BITS}
 use Rattle.ncp_leader.specs.declared.fault.MessageFault.{MessageFault}
 use Rattle.ncp_leader.specs.Message.{Message, message_with}
-use Rattle.ncp_host.specs.Hearing.{is_wrong_link}
-use Rattle.ncp_host.specs.Output.{leader_to, message_to}
+use Rattle.ncp_peer.specs.Hearing.{is_wrong_link}
+use Rattle.ncp_peer.specs.Output.{leader_to, message_to}
 use Rattle.ncp_slot.specs.Slots.{slot_at, is_quiet}
 use Rattle.ncp_terms.specs.declared.links.TheConstants.{LAST_LINK}
 use Rattle.ncp_proof_resets.specs.Delivery.{Link}
@@ -18,8 +18,8 @@ use Rattle.ncp_model.specs.Peers.{Peer}
 use Rattle.ncp_model.specs.Peers as peers
 use Rattle.ncp_proof_machine.specs.Hosts.{TextOut, Node, set_link}
 use Rattle.ncp_proof_machine.specs.Hosts as hosts
-use Rattle.ncp_host.specs.PeerState.{PeerState}
-use Rattle.ncp_host.specs.Hearing as hearing
+use Rattle.ncp_peer.specs.PeerState.{PeerState}
+use Rattle.ncp_peer.specs.Hearing as hearing
 use Rattle.ncp_transcript_two.specs.Subnet.{Accepted, Delivered, TransitByLink, set_at, from_host}
 use Rattle.ncp_transcript_two.specs.World.{World, In, state_after_received, received}
 use Rattle.ncp_transcript_two.specs.Tie.{control_bits, text_as_message, AreCommands, IsTextOn, Stands, Reached, Goes_on, Tied}

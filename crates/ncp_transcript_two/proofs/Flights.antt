@@ -9,8 +9,8 @@ use Rattle.ncp_slot.specs.declared.slot.Slot.TheVariants as slots
 use Rattle.ncp_terms.specs.declared.answer.Answer.TheVariants.{Rfnm, Incomplete}
 use Rattle.ncp_terms.specs.declared.answer.Answer.TheVariants as answer_kinds
 use Rattle.ncp_slot.proofs.Places.{slot_at-with_slot_same, slot_at-no_slots}
-use Rattle.ncp_host.specs.Hearing.{is_wrong_link, rfnm, incomplete, destination_dead}
-use Rattle.ncp_host.specs.Output.{message_to, output_by, made_on, control_message, text_message, links, next_of}
+use Rattle.ncp_peer.specs.Hearing.{is_wrong_link, rfnm, incomplete, destination_dead}
+use Rattle.ncp_peer.specs.Output.{message_to, output_by, made_on, control_message, text_message, links, next_of}
 use Rattle.ncp_transcript_two.specs.Subnet.{answer_bits}
 use Rattle.ncp_slot.specs.Slots.{LinkSlots, slot_at, with_slot}
 use Rattle.ncp_slot.specs.Slot.{woken}
@@ -18,7 +18,7 @@ use Rattle.ncp_slot.proofs.Waking.{slot_at-all_woken}
 use Rattle.ncp_proof_resets.specs.Resets.{Party, This, That}
 use Rattle.ncp_model.specs.Peers.{Peer}
 use Rattle.ncp_proof_machine.specs.Hosts as hosts
-use Rattle.ncp_host.specs.PeerState.{PeerState}
+use Rattle.ncp_peer.specs.PeerState.{PeerState}
 use Rattle.ncp_transcript_two.specs.Subnet.{Holds, Free, Accepted, Delivered, Lost, Dead, TransitByLink, set_at, from_host}
 use Rattle.ncp_transcript.specs.Asked.{Asked, Asks, Asks_echo, Asks_reset, Asks_wake, state_after_asked}
 use Rattle.ncp_transcript_two.specs.World.{World, state_after_received}

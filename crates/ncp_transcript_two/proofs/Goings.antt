@@ -8,8 +8,8 @@ use Rattle.ncp_terms.specs.Spelling.{spellings}
 use Rattle.ncp_slot.specs.Slots.{LinkSlot}
 use Rattle.ncp_slot.specs.declared.slot.Slot.TheVariants as slots
 use Rattle.ncp_slot.proofs.Places.{slot_at-with_slot_same}
-use Rattle.ncp_host.specs.Hearing.{is_wrong_link}
-use Rattle.ncp_host.specs.Output.{message_to, first_or, first_output, output_on, output_by, made_on, control_message, text_message, after_by, after_output, links, next_of}
+use Rattle.ncp_peer.specs.Hearing.{is_wrong_link}
+use Rattle.ncp_peer.specs.Output.{message_to, first_or, first_output, output_on, output_by, made_on, control_message, text_message, after_by, after_output, links, next_of}
 use Rattle.ncp_slot.specs.Slots.{LinkSlots, slot_at, with_slot}
 use Rattle.ncp_proof_resets.specs.Delivery.{Link}
 use Rattle.ncp_proof_resets.specs.Delivery as model
@@ -18,7 +18,7 @@ use Rattle.ncp_model.specs.Peers.{Peer}
 use Rattle.ncp_model.specs.Peers as peers
 use Rattle.ncp_proof_machine.specs.Hosts.{TextOut, Node, set_link, peer_of}
 use Rattle.ncp_proof_machine.specs.Hosts as hosts
-use Rattle.ncp_host.specs.PeerState.{PeerState}
+use Rattle.ncp_peer.specs.PeerState.{PeerState}
 use Rattle.ncp_transcript_two.specs.Subnet.{Accepted, TransitByLink, set_at}
 use Rattle.ncp_transcript_two.specs.World.{World, Out}
 use Rattle.ncp_proof_machine.specs.Moving.{put_if_any, first_waiting, as_text}

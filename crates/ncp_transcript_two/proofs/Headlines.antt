@@ -2,7 +2,7 @@
 use Rattle.std.proofs.Common.{◌≡◌, ◌≢◌, ℕ, ◌==◌, Bool, true, false, if◌then◌else◌, List, [], ◌∷◌, None, Some, refl, sym, ap, ◌∙◌, subst}
 use Rattle.std.proofs.lemmas.Bool.{eq-eqb, ne_eqb}
 use Rattle.ncp_proof_resets.specs.Resets.{Party}
-use Rattle.ncp_host.specs.PeerState.{new_state}
+use Rattle.ncp_peer.specs.PeerState.{new_state}
 use Rattle.ncp_subnet.specs.Subnet.{has_way, new_subnet}
 use Rattle.ncp_subnet.proofs.NewRows.{has_way-new, transit-new}
 use Rattle.ncp_transcript_two.specs.World.{World, WorldEvent, swap, world_run_from, notes_from}

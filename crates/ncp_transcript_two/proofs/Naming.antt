@@ -4,8 +4,8 @@ use Rattle.ncp_leader.specs.declared.leader.Leader.{Leader}
 use Rattle.ncp_leader.specs.Leader.{leader_in}
 use Rattle.ncp_slot.specs.Slots.{slot_at}
 use Rattle.ncp_proof_machine.specs.Hosts as hosts
-use Rattle.ncp_host.specs.Hearing.{rfnm, incomplete, destination_dead, answer_of}
-use Rattle.ncp_host.specs.Output.{leader_to}
+use Rattle.ncp_peer.specs.Hearing.{rfnm, incomplete, destination_dead, answer_of}
+use Rattle.ncp_peer.specs.Output.{leader_to}
 use Rattle.ncp_host.specs.Arrivals.{received_in}
 use Rattle.ncp_subnet.specs.Messages.{arriving, answer_about}
 use Rattle.ncp_transcript.specs.declared.note.HostNote.{HostNote}

@@ -3,13 +3,13 @@ use Rattle.std.proofs.Common.{◌≡◌, ℕ, ◌==◌, Bool, true, false, if◌
 use Rattle.std.proofs.lemmas.Bool.{eq-eqb, eqb-true}
 use Rattle.ncp_leader.specs.declared.leader.Leader.{Leader}
 use Rattle.ncp_leader.specs.Leader.{leader_in}
-use Rattle.ncp_host.specs.declared.received.Received.TheVariants as cases
-use Rattle.ncp_host.specs.PeerState.{PeerState}
-use Rattle.ncp_host.specs.Hearing.{is_kind, answer_of, after_bits}
+use Rattle.ncp_peer.specs.declared.received.Received.TheVariants as cases
+use Rattle.ncp_peer.specs.PeerState.{PeerState}
+use Rattle.ncp_peer.specs.Hearing.{is_kind, answer_of, after_bits}
 use Rattle.ncp_host.specs.Host.{Host, numbers_of, state_in, state_of, at_peer, changed}
 use Rattle.ncp_host.specs.Arrivals as arrivals
 use Rattle.ncp_host.specs.Turns.{message_in_turn, after_turn, first_message, first_goes}
-use Rattle.ncp_host.specs.Output.{next_of, after_next, message_on}
+use Rattle.ncp_peer.specs.Output.{next_of, after_next, message_on}
 use Rattle.ncp_transcript.specs.declared.note.HostNote.TheVariants as of_host
 use Rattle.ncp_transcript.specs.Noting.{is_answer, if_peer, answer_with, note_as, note_of_bits}
 use Rattle.ncp_transcript_two.specs.World as worlds

@@ -4,8 +4,8 @@ use Rattle.std.proofs.lemmas.Bool.{eqb-true}
 use Rattle.ncp_numbers.specs.Bytes.{bits_of_bytes}
 use Rattle.ncp_terms.specs.Spelling.{spellings}
 use Rattle.ncp_leader.specs.Message.{Message, message_with, message_in}
-use Rattle.ncp_host.specs.Hearing.{is_wrong_link}
-use Rattle.ncp_host.specs.Output.{leader_to, next_of}
+use Rattle.ncp_peer.specs.Hearing.{is_wrong_link}
+use Rattle.ncp_peer.specs.Output.{leader_to, next_of}
 use Rattle.ncp_slot.specs.Slots.{slot_at}
 use Rattle.ncp_model.specs.Phase.{up}
 use Rattle.ncp_proof_resets.specs.Delivery as model
@@ -13,9 +13,9 @@ use Rattle.ncp_proof_resets.specs.Resets.{Party, This, That}
 use Rattle.ncp_model.specs.Peers.{Peer}
 use Rattle.ncp_proof_machine.specs.Hosts.{TextOut, Node}
 use Rattle.ncp_proof_machine.specs.Hosts as hosts
-use Rattle.ncp_host.specs.declared.received.Received.TheVariants as cases
-use Rattle.ncp_host.specs.PeerState.{PeerState}
-use Rattle.ncp_host.specs.Hearing as hearing
+use Rattle.ncp_peer.specs.declared.received.Received.TheVariants as cases
+use Rattle.ncp_peer.specs.PeerState.{PeerState}
+use Rattle.ncp_peer.specs.Hearing as hearing
 use Rattle.ncp_transcript_two.specs.Subnet.{Holds, Free, Accepted, Delivered, Lost, Dead, from_host, answer_bits}
 use Rattle.ncp_transcript_two.specs.World.{World}
 use Rattle.ncp_transcript_two.specs.World as worlds

@@ -16,13 +16,13 @@ use Rattle.ncp_proof_resets.specs.Delivery.{Link}
 use Rattle.ncp_model.specs.Peers.{Peer}
 use Rattle.ncp_proof_machine.specs.Hosts.{TextOut}
 use Rattle.ncp_proof_machine.specs.Hosts as hosts
-use Rattle.ncp_host.specs.PeerState.{PeerState, answer_comes}
+use Rattle.ncp_peer.specs.PeerState.{PeerState, answer_comes}
 use Rattle.ncp_leader.specs.Message.{message_in}
 use Rattle.ncp_transcript.specs.Noting.{is_answer}
-use Rattle.ncp_host.specs.Hearing.{is_wrong_link, is_kind, message_after, answer_of, rfnm, incomplete, destination_dead}
+use Rattle.ncp_peer.specs.Hearing.{is_wrong_link, is_kind, message_after, answer_of, rfnm, incomplete, destination_dead}
 use Rattle.ncp_host.specs.Host.{changed}
 use Rattle.ncp_host.specs.Arrivals as arrivals
-use Rattle.ncp_host.specs.Output.{next_of, message_on, leader_to, after_output, after_next, output_by, links}
+use Rattle.ncp_peer.specs.Output.{next_of, message_on, leader_to, after_output, after_next, output_by, links}
 use Rattle.ncp_host.specs.Turns.{after_next_output}
 use Rattle.ncp_leader.specs.declared.kinds.TheConstants.{REGULAR}
 use Rattle.ncp_subnet.specs.Messages.{arriving, answer_about, host_in}

@@ -3,7 +3,7 @@
 use Rattle.std.proofs.Common.{◌≡◌, ◌≢◌, ◌<◌, ℕ, ◌==◌, ◌^◌, Bool, true, false, if◌then◌else◌, [], ◌∷◌, Option, None, Some, Ok, refl, sym, ap, ◌∙◌, subst}
 use Rattle.std.proofs.lemmas.Bool.{both_ways, eq-eqb, eqb-true}
 use Rattle.ncp_model.specs.Peers.{Take}
-use Rattle.ncp_host.specs.PeerState.{PeerState}
+use Rattle.ncp_peer.specs.PeerState.{PeerState}
 use Rattle.ncp_host.specs.Host.{Host, numbers_of, state_of, changed}
 use Rattle.ncp_subnet.specs.Ways.{OnLink}
 use Rattle.ncp_subnet.specs.Subnet.{has_way, transit_at, with_transit}

@@ -17,12 +17,12 @@ use Rattle.ncp_model.specs.Act.{answer}
 use Rattle.ncp_model.specs.Ends.{cut_in}
 use Rattle.ncp_terms.specs.declared.answer.Answer.{Answer}
 use Rattle.ncp_terms.specs.declared.command.Command.{Command}
-use Rattle.ncp_host.specs.Hearing.{is_wrong_link}
+use Rattle.ncp_peer.specs.Hearing.{is_wrong_link}
 use Rattle.ncp_model.specs.Peers.{Peer}
 use Rattle.ncp_model.specs.Peers as peers
 use Rattle.ncp_proof_machine.specs.Hosts.{TextOut, Node, all_empty, set_link, peer_of}
 use Rattle.ncp_proof_machine.specs.Hosts as hosts
-use Rattle.ncp_host.specs.PeerState.{PeerState}
+use Rattle.ncp_peer.specs.PeerState.{PeerState}
 use Rattle.ncp_transcript_two.specs.Subnet.{Holds, Accepted, Lost, Dead, TransitByLink, set_at}
 use Rattle.ncp_transcript.specs.Asked.{reply_to, Asked, Asks, Asks_echo, Asks_reset, Asks_wake, state_after_asked}
 use Rattle.ncp_transcript_two.specs.World.{Told, Called, Out, In, Went_lost, Went_dead, Answered, Nothing, World}

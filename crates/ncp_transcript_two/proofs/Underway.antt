@@ -35,7 +35,7 @@ use Rattle.ncp_proof_headline.specs.Headline as headline
 use Rattle.ncp_proof_machine.proofs.EndsGood.{Good}
 use Rattle.ncp_proof_headline.proofs.HostsHeld.{ever}
 use Rattle.ncp_proof_headline.proofs.HostsHeadline.{amounts_agree, parted}
-use Rattle.ncp_host.specs.PeerState.{PeerState}
+use Rattle.ncp_peer.specs.PeerState.{PeerState}
 use Rattle.ncp_transcript_two.specs.Subnet.{Holds, TransitByLink}
 use Rattle.ncp_transcript_two.specs.World.{World}
 use Rattle.ncp_transcript_two.specs.Watch.{Both}

@@ -10,10 +10,10 @@ use Rattle.ncp_proof_resets.specs.Delivery.{Slot, Empty, Ready, Travelling, Held
 use Rattle.ncp_proof_resets.specs.Resets.{ResetHost, is_up, anew, host_makes, host_makes_all, host_falls, host_hears, host_hears_other, no_reaction, host_hears_all, ResetWorld, resets_swapped, ResetStep, Resets, Makes, Falls, Settles, Sends, Hears, Loses, Dies, Is_answered, Wakes, reset_sends, reset_comes, reset_steps, Party, This, That, ResetEvent, reset_at, reset_run_from, reset_start}
 use Rattle.ncp_proof_machine.specs.Hosts as hosts
 use Rattle.ncp_proof_machine.proofs.HostsBase as bases
-use Rattle.ncp_host.specs.Waiting.{QueueFits}
+use Rattle.ncp_phase.specs.Waiting.{QueueFits}
 use Rattle.ncp_transcript_two.specs.Tie.{Reached}
 use Rattle.ncp_transcript_two.proofs.Reaching.{reached-run}
-use Rattle.ncp_host.proofs.Waits.{waits_down, waits_wanted, waits_owing, waits_queued, waits_heard, waits_dropped, few_owing, few_wanting, one_rrp, one_rst}
+use Rattle.ncp_phase.proofs.Waits.{waits_down, waits_wanted, waits_owing, waits_queued, waits_heard, waits_dropped, few_owing, few_wanting, one_rrp, one_rst}
 
 abbrev Keeps : ResetHost → Type 0
 Keeps h = QueueFits h.phase

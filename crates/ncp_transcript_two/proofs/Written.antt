@@ -17,9 +17,9 @@ use Rattle.ncp_control.specs.Reading.{commands_in, fault_in}
 use Rattle.ncp_control.proofs.Reading.{spellings_small, spelled_alone}
 use Rattle.ncp_terms.specs.declared.answer.Answer.TheVariants.{Rfnm, Incomplete}
 use Rattle.ncp_terms.specs.declared.answer.Answer.TheVariants as answer_kinds
-use Rattle.ncp_host.specs.PeerState.{PeerState, answer_comes}
-use Rattle.ncp_host.specs.Hearing.{state_hears_all, state_hears_text, message_received, message_after, rfnm, incomplete, destination_dead}
-use Rattle.ncp_host.specs.Output.{leader_to, message_to}
+use Rattle.ncp_peer.specs.PeerState.{PeerState, answer_comes}
+use Rattle.ncp_peer.specs.Hearing.{state_hears_all, state_hears_text, message_received, message_after, rfnm, incomplete, destination_dead}
+use Rattle.ncp_peer.specs.Output.{leader_to, message_to}
 use Rattle.ncp_transcript_two.specs.Subnet.{from_host, answer_bits}
 use Rattle.ncp_transcript_two.specs.World.{state_after_with, state_after_received, state_received_with, received}
 use Rattle.ncp_transcript_two.specs.Tie.{AreCommands, IsText}

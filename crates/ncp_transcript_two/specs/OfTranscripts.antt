@@ -2,8 +2,8 @@
 -- before that note.
 use Rattle.std.specs.Prelude.{◌≡◌, ℕ, Bool, List, ◌∷◌, ◌++◌}
 use Rattle.ncp_model.specs.declared.pair.Pair.{Pair}
-use Rattle.ncp_host.specs.declared.counts.Ignored.{Ignored}
-use Rattle.ncp_host.specs.PeerState.{PeerState}
+use Rattle.ncp_host.specs.declared.ignored.Ignored.{Ignored}
+use Rattle.ncp_peer.specs.PeerState.{PeerState}
 use Rattle.ncp_host.specs.Host.{Host}
 use Rattle.ncp_transcript.specs.declared.note.HostNote.{HostNote}
 use Rattle.ncp_transcript.specs.declared.note.HostNote.TheVariants as of_host

@@ -1,7 +1,7 @@
 -- A host whose one peer has this number.
 use Rattle.std.specs.Prelude.{ℕ, [], ◌∷◌}
-use Rattle.ncp_host.specs.declared.counts.Ignored.{Ignored}
-use Rattle.ncp_host.specs.PeerState.{PeerState}
+use Rattle.ncp_host.specs.declared.ignored.Ignored.{Ignored}
+use Rattle.ncp_peer.specs.PeerState.{PeerState}
 use Rattle.ncp_host.specs.Host.{Host}
 
 abbrev pub one_peer : ℕ → ℕ → Ignored → PeerState → Host

@@ -16,9 +16,9 @@ use Rattle.ncp_proof_resets.specs.Resets.{Party}
 use Rattle.ncp_model.specs.Peers.{Peer, PairCall, Ask_to_send, Allocate, Call_back}
 use Rattle.ncp_proof_machine.specs.Hosts.{TextOut, Node, peer_of}
 use Rattle.ncp_proof_machine.specs.Hosts as hosts
-use Rattle.ncp_host.specs.PeerState.{PeerState, new_state, control_link}
-use Rattle.ncp_host.specs.Hearing.{control_size, is_wrong_link}
-use Rattle.ncp_host.specs.Output.{message_to}
+use Rattle.ncp_peer.specs.PeerState.{PeerState, new_state, control_link}
+use Rattle.ncp_peer.specs.Hearing.{control_size, is_wrong_link}
+use Rattle.ncp_peer.specs.Output.{message_to}
 use Rattle.ncp_transcript_two.specs.Subnet.{Holds, TransitByLink}
 use Rattle.ncp_transcript_two.specs.Subnet as bits
 use Rattle.ncp_transcript.specs.Asked.{Asked, Asks, Asks_echo, Asks_reset, Asks_wake}

@@ -15,7 +15,7 @@ use Rattle.ncp_model.specs.Phase.{up, is_reset}
 use Rattle.ncp_model.specs.End.{End, is_open, or_new}
 use Rattle.ncp_proof_machine.specs.Hosts.{past_of}
 use Rattle.ncp_proof_headline.specs.Headline.{total_on}
-use Rattle.ncp_host.specs.PeerState.{PeerState}
+use Rattle.ncp_peer.specs.PeerState.{PeerState}
 use Rattle.ncp_transcript_two.specs.Subnet.{Holds, Free, Accepted, Delivered, Lost, Dead, TransitByLink}
 use Rattle.ncp_transcript_two.specs.World.{World}
 use Rattle.ncp_transcript_two.specs.Watch.{Both}

@@ -19,8 +19,8 @@ use Rattle.ncp_model.specs.Sending.{is_full}
 use Rattle.ncp_proof_resets.specs.Resets.{Party, This, That}
 use Rattle.ncp_model.specs.Peers.{Peer, PairCall, called}
 use Rattle.ncp_proof_machine.specs.Hosts.{Pasts, pasts_after, pasts_after_at}
-use Rattle.ncp_host.specs.PeerState.{PeerState, control_link}
-use Rattle.ncp_host.specs.Hearing as hearing
+use Rattle.ncp_peer.specs.PeerState.{PeerState, control_link}
+use Rattle.ncp_peer.specs.Hearing as hearing
 use Rattle.ncp_transcript.specs.Asked.{Asked, Asks, Asks_echo, Asks_reset, Asks_wake}
 use Rattle.ncp_transcript_two.specs.World.{World, swap, Told, Called, In, WorldEvent, step}
 

@@ -10,12 +10,12 @@ use Rattle.ncp_terms.specs.declared.answer.Answer.TheVariants.{Rfnm, Incomplete}
 use Rattle.ncp_terms.specs.declared.answer.Answer.TheVariants as answer_kinds
 use Rattle.ncp_model.specs.Peers.{reply}
 use Rattle.ncp_proof_resets.specs.Resets.{Party, This, That}
-use Rattle.ncp_host.specs.declared.received.Received.{Received}
-use Rattle.ncp_host.specs.declared.received.Received.TheVariants as cases
-use Rattle.ncp_host.specs.PeerState.{PeerState}
-use Rattle.ncp_host.specs.PeerState as states
-use Rattle.ncp_host.specs.Hearing.{rfnm, incomplete, destination_dead, after_bits, received_of}
-use Rattle.ncp_host.specs.Output.{next_of, after_output}
+use Rattle.ncp_peer.specs.declared.received.Received.{Received}
+use Rattle.ncp_peer.specs.declared.received.Received.TheVariants as cases
+use Rattle.ncp_peer.specs.PeerState.{PeerState}
+use Rattle.ncp_peer.specs.PeerState as states
+use Rattle.ncp_peer.specs.Hearing.{rfnm, incomplete, destination_dead, after_bits, received_of}
+use Rattle.ncp_peer.specs.Output.{next_of, after_output}
 use Rattle.ncp_transcript.specs.Asked.{Asked, Reply, state_after_asked, reply_to}
 use Rattle.ncp_transcript_two.specs.Subnet.{Holds, Free, Accepted, Delivered, Lost, Dead, TransitByLink, set_at, link_in, from_host, answer_bits}
 

@@ -5,7 +5,7 @@
 //! - *Proved:* the findings of a record, and the umpire after it, are those of the definitions (`Umpire::judge`,
 //!   clauses `found` and `after`). That it finds no rule broken by a host at its own interface: `ncp_proof_umpire_talk`; and
 //!   none at all in the file of two to eight hosts: `ncp_proof_umpire_whole`.
-//! - *Tests:* worked cases in `laws`; captures in `audits` of `ncp_test_files`.
+//! - *Tests:* worked cases in `laws`; captures in the cases `audit_*` of `ncp_test_cases`.
 #![tactic(auto)]
 
 mod act;

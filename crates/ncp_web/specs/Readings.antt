@@ -16,7 +16,8 @@ use Rattle.ncp_transcript_two.specs.Ledgers.{ledger_of}
 use Rattle.ncp_model.specs.declared.pair.Pair.{Pair}
 use Rattle.ncp_terms.specs.declared.command.Command.{Command}
 use Rattle.ncp_host.specs.Host.{state_of}
-use Rattle.ncp_host.specs.Calls.{sockets, waiting_at, kept_for}
+use Rattle.ncp_peer.specs.PeerCalls.{waiting_at, kept_for}
+use Rattle.ncp_host.specs.Calls.{sockets}
 use Rattle.ncp_transcript_many.specs.Numbered.{thing_in}
 use Rattle.ncp_transcript_many.specs.declared.many_event.ManyEvent.{ManyEvent}
 use Rattle.ncp_transcript_many.specs.declared.many_event.ManyEvent.TheVariants as many_events

@@ -24,9 +24,9 @@ use Rattle.ncp_proof_machine.specs.Hosts as hosts
 use Rattle.ncp_proof_headline.proofs.HostsHeld.{ever}
 use Rattle.ncp_conn.specs.declared.record.Record.{Record}
 use Rattle.ncp_conn.specs.Records.{record_of, record_if_any, record_in}
-use Rattle.ncp_host.specs.PeerState.{PeerState}
+use Rattle.ncp_peer.specs.PeerState.{PeerState}
 use Rattle.ncp_host.specs.Host.{state_of, if_known}
-use Rattle.ncp_host.specs.Calls.{record_answer, kept_for}
+use Rattle.ncp_peer.specs.PeerCalls.{record_answer, kept_for}
 use Rattle.ncp_subnet.specs.Transit.{is_delivered}
 use Rattle.ncp_transcript_two.specs.Subnet.{Holds, TransitByLink}
 use Rattle.ncp_transcript_two.specs.World.{World, swap}

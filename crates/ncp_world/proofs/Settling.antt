@@ -3,7 +3,7 @@ use Rattle.std.proofs.Common.{◌≡◌, ◌≤◌, ℕ, Bool, true, false, List
 use Rattle.std.specs.Result.{IfOk, OnErr}
 use Rattle.ncp_terms.specs.declared.links.TheConstants.{LAST_LINK}
 use Rattle.ncp_host.specs.Host.{Host, state_of}
-use Rattle.ncp_host.specs.Calls.{kept_for}
+use Rattle.ncp_peer.specs.PeerCalls.{kept_for}
 use Rattle.ncp_transcript.specs.declared.call.Call.TheVariants as calls
 use Rattle.ncp_transcript_two.specs.declared.side.Side.{Side}
 use Rattle.ncp_transcript_two.specs.declared.event.Event.{Event}

@@ -4,8 +4,8 @@ use Rattle.std.proofs.Common.{◌≡◌, ◌≤◌, ◌<◌, ℕ, zero, suc, ◌
 use Rattle.std.proofs.lemmas.List.{take_more, take_all}
 use Rattle.std.proofs.lemmas.Option.{slice_get_within, get_or_from_slice_get}
 use Rattle.ncp_terms.specs.declared.command.Command.{Command}
-use Rattle.ncp_host.specs.PeerState.{PeerState}
-use Rattle.ncp_host.specs.Calls.{waiting_at}
+use Rattle.ncp_peer.specs.PeerState.{PeerState}
+use Rattle.ncp_peer.specs.PeerCalls.{waiting_at}
 use Rattle.ncp_world.specs.declared.carrying.Carried.{Carried}
 use Rattle.ncp_world.specs.Reckoning.{carried_on, carried_both, waiting_of}
 

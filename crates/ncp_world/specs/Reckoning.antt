@@ -12,10 +12,11 @@ use Rattle.ncp_model.specs.Pairs.{is_send, turned}
 use Rattle.ncp_model.specs.Amounts.{amount, ◌⊕◌, ◌⊑◌, granted, returned}
 use Rattle.ncp_proof_headline.specs.Headline.{total_on}
 use Rattle.ncp_conn.specs.declared.record.Record.{Record}
-use Rattle.ncp_host.specs.PeerState.{PeerState, control_link}
+use Rattle.ncp_peer.specs.PeerState.{PeerState, control_link}
 use Rattle.ncp_host.specs.Host.{state_of}
-use Rattle.ncp_host.specs.Hearing.{control_size}
-use Rattle.ncp_host.specs.Calls.{record_told, kept_for}
+use Rattle.ncp_peer.specs.Hearing.{control_size}
+use Rattle.ncp_peer.specs.PeerCalls.{kept_for}
+use Rattle.ncp_host.specs.Calls.{record_told}
 use Rattle.ncp_subnet.specs.Transit.{is_delivered}
 use Rattle.ncp_world.specs.declared.carrying.Carried.{Carried}
 use Rattle.ncp_transcript_two.specs.declared.ledger.Ledger.{Ledger}

@@ -37,7 +37,7 @@ pub struct World<S: BitStore> {
 impl<S: BitStore> Model for World<S> {
     ghost use Rattle.std.specs.Coded.{codes};
     ghost use Rattle.ncp_slot.specs.Slots.{coded_slots};
-    ghost use Rattle.ncp_host.specs.Codes.{coded_ends};
+    ghost use Rattle.ncp_peer.specs.Codes.{coded_ends};
     ghost use Rattle.ncp_subnet.specs.Codes.{coded_in_transit};
     ghost use Rattle.ncp_transcript_two.specs.Transcript.{IsTranscript, Noted_world as Seen};
 

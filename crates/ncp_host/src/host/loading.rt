@@ -4,18 +4,17 @@ ghost use Rattle.std.specs.Box.{boxed_slice_items};
 ghost use Rattle.std.specs.List.{zip};
 ghost use Rattle.ncp_host.specs.Loading.{version_in, is_of_other_version};
 ghost use Rattle.ncp_host.specs.Saved.{saved};
-ghost use Rattle.ncp_host.specs.Soundness.{AreWell};
+ghost use Rattle.ncp_peer.specs.Soundness.{AreWell};
 
-use crate::counts::Ignored;
 use crate::fault::LoadFault;
 use crate::host::saving::{FILE_NAME, FILE_VERSION};
 use crate::host::{Host, are_peers};
+use crate::ignored::Ignored;
 use crate::limits::MAX_PEERS;
-use crate::peer::Peer;
-use crate::reader::{Reader, Unread};
-use crate::reading::{read_ignored, read_peer};
 use arrayvec::ArrayVec;
 use ncp_bits::BitStore;
+use ncp_peer::{Peer, read_peer};
+use ncp_saved::{Reader, Unread};
 use std::alloc::Global;
 use std::boxed::BoxedSlice;
 
@@ -50,6 +49,15 @@ fn read_peers<S: BitStore>(alloc: Global, reader: &mut Reader<'_>) -> Result<Pee
         };
     }
     Err(Unread::NotAHost)
+}
+
+// What was counted of messages that are of no peer.
+fn read_ignored(reader: &mut Reader<'_>) -> Result<Ignored, Unread> {
+    Ok(Ignored {
+        short: reader.four_bytes()?,
+        other: reader.four_bytes()?,
+        unknown: reader.four_bytes()?,
+    })
 }
 
 // A host with these peers, where it can have them.

@@ -4,15 +4,16 @@ ghost use Rattle.std.specs.Prelude.{◌≡◌};
 ghost use Rattle.std.specs.Option.{option_copied};
 ghost use Rattle.ncp_host.specs.Host.{state_of};
 ghost use Rattle.ncp_host.specs.Listing.{connection_told, room_told, pair_told, held_told};
-ghost use Rattle.ncp_host.specs.Calls.{record_told, flags_told, echoed_told, errors_told, counts_told, waiting_at, kept_for};
+ghost use Rattle.ncp_peer.specs.PeerCalls.{waiting_at, kept_for};
+ghost use Rattle.ncp_host.specs.Calls.{record_told, flags_told, echoed_told, errors_told, counts_told};
 
-use crate::counts::{Counts, Ignored};
-use crate::echoes::Errors;
-use crate::flags::Flags;
 use crate::host::{Host, find};
+use crate::ignored::Ignored;
 use ncp_bits::{BitStore, Bits};
 use ncp_conn::{End, Record};
 use ncp_model::{CallFault, Pair};
+use ncp_peer::Counts;
+use ncp_phase::{Errors, Flags};
 use ncp_terms::Command;
 
 impl<S: BitStore> Host<S> {

@@ -2,12 +2,15 @@
 ghost use Rattle.std.specs.Prelude.{◌≡◌, ◌++◌, ◌∷◌, length, OnOk, IfOk};
 ghost use Rattle.std.specs.List.{All, zip};
 ghost use Rattle.ncp_slot.specs.Links.{HasItsLinks};
-ghost use Rattle.ncp_host.specs.Saved.{listed, peer_saved, saved, HaveTheirLinks};
+ghost use Rattle.ncp_saved.specs.Values.{listed};
+ghost use Rattle.ncp_saved.specs.Values.{four_bytes};
+ghost use Rattle.ncp_host.specs.Saved.{ignored_saved, peer_saved, saved, HaveTheirLinks};
 
 use crate::host::Host;
-use crate::peer::Peer;
-use crate::writing::{put_byte, put_bytes, put_ignored};
+use crate::ignored::Ignored;
 use ncp_bits::BitStore;
+use ncp_peer::Peer;
+use ncp_saved::{put_byte, put_bytes, put_three};
 use std::alloc::{AllocError, Global};
 
 /// What the bytes of a saved host begin with.
@@ -15,6 +18,14 @@ pub(crate) const FILE_NAME: &[u8] = b"NCP host";
 
 /// The version of their layout, which stands behind that.
 pub(crate) const FILE_VERSION: u8 = 1;
+
+// What was counted of messages that are of no peer.
+#[tactic(auto, unfolding(crate::specs::Saved::ignored_saved))]
+fn put_ignored(out: &mut Vec<u8>, ignored: &Ignored) -> Result<(), AllocError>
+    ensures { OnOk result (out.new.items ≡ out.old.items ++ ignored_saved ignored.now) }
+{
+    put_three(out, ignored.short, ignored.other, ignored.unknown)
+}
 
 // A peer, behind a 1.
 #[tactic(auto, unfolding(crate::specs::Saved::peer_saved))]

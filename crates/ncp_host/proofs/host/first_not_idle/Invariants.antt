@@ -1,7 +1,7 @@
 use Rattle.std.proofs.Common.{ℕ, ◌≤◌, ◌<◌, IfSome, None}
 use Rattle.std.specs.Prelude.{slice_get}
-use Rattle.ncp_host.specs.PeerState.{control_link}
-use Rattle.ncp_host.specs.Silence.{SilentFrom}
+use Rattle.ncp_peer.specs.PeerState.{control_link}
+use Rattle.ncp_peer.specs.Silence.{SilentFrom}
 use Rattle.ncp_host.proofs.host.first_not_idle.Given as goal
 
 abbrev pub invariant-loop-place : goal.invariant-loop-place

@@ -1,9 +1,10 @@
 use Rattle.std.proofs.Common.{◌≡◌, Option, None, Some, refl, sym, ap, subst, ◌∙◌}
-use Rattle.ncp_host.specs.PeerState.{PeerState}
+use Rattle.ncp_peer.specs.PeerState.{PeerState}
 use Rattle.ncp_host.specs.Host.{Host, state_of}
 use Rattle.ncp_host.specs.Arrivals.{OthersStay}
-use Rattle.ncp_host.specs.Output.{links}
-use Rattle.ncp_host.specs.Restarting.{after_restart, restarts}
+use Rattle.ncp_peer.specs.Output.{links}
+use Rattle.ncp_peer.specs.GivingUp.{restarts}
+use Rattle.ncp_host.specs.Restarting.{after_restart}
 use Rattle.ncp_host.proofs.Touching.{others_stay, numbers_stay}
 use Rattle.ncp_host.proofs.Restarting.{all_come, none_come, state_at, is_given_up}
 use Rattle.ncp_host.proofs.laws.a_restart_changes_slots_alone.Goals as goal

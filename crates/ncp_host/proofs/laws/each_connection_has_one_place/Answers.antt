@@ -5,9 +5,9 @@ use Rattle.ncp_conn.specs.declared.record.Record.{Record}
 use Rattle.ncp_conn.specs.Records.{record_in}
 use Rattle.ncp_conn.specs.Listing.{connection_in}
 use Rattle.ncp_conn.proofs.Listing.{place_has_record, record_has_place, place_is_one, places_end}
-use Rattle.ncp_host.specs.PeerState.{PeerState}
+use Rattle.ncp_peer.specs.PeerState.{PeerState}
 use Rattle.ncp_host.specs.Host.{if_known, state_of}
-use Rattle.ncp_host.specs.Calls.{record_answer}
+use Rattle.ncp_peer.specs.PeerCalls.{record_answer}
 use Rattle.ncp_host.proofs.laws.each_connection_has_one_place.Goals as goal
 
 abbrev told : ℕ → Option PeerState → Result (Option (Pair × Record)) CallFault

@@ -1,9 +1,9 @@
 use Rattle.std.proofs.Common.{◌≡◌, ℕ, zero, suc, Bool, true, List, Some, inl, inr, ap, arith}
 use Rattle.ncp_slot.specs.declared.slot.Slot.TheVariants.{Ready}
 use Rattle.ncp_slot.specs.Slots.{HasSlot, LinkSlot, slot_at}
-use Rattle.ncp_host.specs.PeerState.{PeerState}
-use Rattle.ncp_host.specs.Output.{output_by, output_on}
-use Rattle.ncp_host.specs.Readiness.{is_ready_by, is_link_ready, IsMessageTo}
+use Rattle.ncp_peer.specs.PeerState.{PeerState}
+use Rattle.ncp_peer.specs.Output.{output_by, output_on}
+use Rattle.ncp_peer.specs.Readiness.{is_ready_by, is_link_ready, IsMessageTo}
 use Rattle.ncp_host.proofs.laws.the_first_that_is_ready_goes_out.Goals as goal
 
 zero_has : HasSlot 0

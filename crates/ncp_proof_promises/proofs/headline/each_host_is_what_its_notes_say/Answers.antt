@@ -1,6 +1,6 @@
 use Rattle.std.proofs.Common.{ℕ, List, Some, ap}
 use Rattle.ncp_model.specs.Echo.{Echoes}
-use Rattle.ncp_host.specs.PeerState.{PeerState}
+use Rattle.ncp_peer.specs.PeerState.{PeerState}
 use Rattle.ncp_host.specs.Host.{Host, numbers_of}
 use Rattle.ncp_proof_runs.proofs.EchoTold.{echoes-noted}
 use Rattle.ncp_proof_runs.proofs.CountsTold.{counts-noted}

@@ -1,6 +1,6 @@
 use Rattle.std.proofs.Common.{None, sym, subst}
 use Rattle.std.specs.FinMap.{get}
-use Rattle.ncp_host.specs.PeerState.{PeerState}
+use Rattle.ncp_peer.specs.PeerState.{PeerState}
 use Rattle.ncp_proof_runs.specs.Peers.{notes_of_peer}
 use Rattle.ncp_proof_runs.specs.Acts.{AreActs, acts_of}
 use Rattle.ncp_proof_runs.proofs.ActsOfRuns.{acts-from-nothing}

@@ -1,5 +1,5 @@
 use Rattle.std.proofs.Common.{List, Some, sym, ap, ◌∙◌}
-use Rattle.ncp_host.specs.PeerState.{new_state}
+use Rattle.ncp_peer.specs.PeerState.{new_state}
 use Rattle.ncp_transcript.specs.declared.note.HostNote.{HostNote}
 use Rattle.ncp_proof_runs.specs.Peers.{notes_for}
 use Rattle.ncp_proof_runs.proofs.EachPeer.{each_peer}

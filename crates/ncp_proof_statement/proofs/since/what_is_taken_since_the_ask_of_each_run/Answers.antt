@@ -3,7 +3,7 @@ use Rattle.std.specs.FinMap.{get}
 use Rattle.ncp_model.specs.declared.pair.Pair.{Pair}
 use Rattle.ncp_model.specs.Pairs.{receives}
 use Rattle.ncp_model.specs.End.{End}
-use Rattle.ncp_host.specs.PeerState.{PeerState, new_state}
+use Rattle.ncp_peer.specs.PeerState.{PeerState, new_state}
 use Rattle.ncp_host.specs.Host.{state_of, new_host}
 use Rattle.ncp_transcript.specs.declared.note.HostNote.{HostNote}
 use Rattle.ncp_transcript.specs.After.{after_notes}

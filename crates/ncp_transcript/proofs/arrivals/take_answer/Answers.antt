@@ -1,11 +1,11 @@
 use Rattle.std.proofs.Common.{Option, sym, ap, ◌∙◌}
 use Rattle.ncp_leader.specs.declared.leader.Leader.{Leader}
 use Rattle.ncp_terms.specs.declared.answer.Answer.{Answer}
-use Rattle.ncp_host.specs.PeerState.{answer_comes}
+use Rattle.ncp_peer.specs.PeerState.{answer_comes}
 use Rattle.ncp_host.specs.Host.{changed}
-use Rattle.ncp_host.specs.Hearing.{answer_of}
+use Rattle.ncp_peer.specs.Hearing.{answer_of}
 use Rattle.ncp_host.specs.Arrivals.{received_in}
-use Rattle.ncp_host.specs.declared.received.Received.{Received}
+use Rattle.ncp_peer.specs.declared.received.Received.{Received}
 use Rattle.ncp_transcript.specs.declared.note.HostNote.TheVariants.{Answered}
 use Rattle.ncp_transcript.specs.Noting.{note_as}
 use Rattle.ncp_transcript.proofs.Arriving.{after_answer}

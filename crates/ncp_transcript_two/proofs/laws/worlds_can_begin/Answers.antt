@@ -1,5 +1,5 @@
 use Rattle.std.proofs.Common.{◌<◌, ◌^◌, ℕ, refl}
-use Rattle.ncp_host.specs.PeerState.{new_state}
+use Rattle.ncp_peer.specs.PeerState.{new_state}
 use Rattle.ncp_transcript_two.specs.Subnet.{none_in_transit}
 use Rattle.ncp_transcript_two.specs.World.{World}
 use Rattle.ncp_transcript_two.specs.OfTranscripts.{IsNewBetween}

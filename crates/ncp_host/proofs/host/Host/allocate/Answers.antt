@@ -2,7 +2,7 @@ use Rattle.std.proofs.Common.{Err, refl, ap, ◌∙◌}
 use Rattle.std.specs.Box.{boxed_slice_items}
 use Rattle.std.proofs.lemmas.Result.{err_from_is_err_and}
 use Rattle.ncp_model.specs.Peers.{Allocate, comes_of, reply}
-use Rattle.ncp_host.specs.PeerState.{state_calls}
+use Rattle.ncp_peer.specs.PeerState.{state_calls}
 use Rattle.ncp_host.specs.Running.{Calls}
 use Rattle.ncp_host.proofs.Calling.{answered, became, lives, stays, unknown, untouched}
 use Rattle.ncp_host.proofs.host.Host.allocate.Goals as goal

@@ -2,7 +2,7 @@ use Rattle.std.proofs.Common.{inl, Err, ap, ◌∙◌}
 use Rattle.std.specs.Box.{boxed_slice_items}
 use Rattle.std.proofs.lemmas.Result.{err_from_is_err_and}
 use Rattle.ncp_model.specs.Peers.{Ask_to_send, comes_of, reply}
-use Rattle.ncp_host.specs.PeerState.{state_calls}
+use Rattle.ncp_peer.specs.PeerState.{state_calls}
 use Rattle.ncp_host.specs.Calls.{sockets}
 use Rattle.ncp_host.proofs.Calling.{host_called, called_lives, stays, unknown, untouched}
 use Rattle.ncp_host.proofs.host.Host.ask_send.Goals as goal

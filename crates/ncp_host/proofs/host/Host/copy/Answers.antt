@@ -1,7 +1,7 @@
 use Rattle.std.proofs.Common.{◌≡◌, ℕ, List, ◌++◌, sym, ap, ◌∙◌, subst}
 use Rattle.std.specs.Box.{boxed_slice_items}
 use Rattle.std.specs.List.{zip}
-use Rattle.ncp_host.specs.PeerState.{PeerState}
+use Rattle.ncp_peer.specs.PeerState.{PeerState}
 use Rattle.ncp_host.specs.Host.{Host}
 use Rattle.ncp_host.specs.Running.{IsKept}
 use Rattle.ncp_host.proofs.host.Host.copy.Goals as goal

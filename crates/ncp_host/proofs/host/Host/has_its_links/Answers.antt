@@ -2,7 +2,7 @@ use Rattle.std.proofs.Common.{List, subst}
 use Rattle.std.specs.Box.{boxed_slice_items}
 use Rattle.std.specs.List.{All}
 use Rattle.ncp_slot.specs.Links.{HasItsLinks}
-use Rattle.ncp_host.specs.PeerState.{PeerState}
+use Rattle.ncp_peer.specs.PeerState.{PeerState}
 use Rattle.ncp_host.specs.Host.{Host}
 use Rattle.ncp_host.specs.Saved.{HaveTheirLinks}
 use Rattle.ncp_host.proofs.Linked.{linked_beside}

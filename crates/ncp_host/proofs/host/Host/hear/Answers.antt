@@ -2,7 +2,7 @@ use Rattle.std.proofs.Common.{ℕ, None, Some, refl, sym, ap, ◌∙◌, length-
 use Rattle.std.specs.Box.{boxed_slice_items}
 use Rattle.std.specs.List.{zip}
 use Rattle.ncp_host.specs.Host.{Host}
-use Rattle.ncp_host.specs.Hearing.{after_bits}
+use Rattle.ncp_peer.specs.Hearing.{after_bits}
 use Rattle.ncp_host.specs.Arrivals.{one_other, one_unknown}
 use Rattle.ncp_host.proofs.Calling.{known, not_known, became}
 use Rattle.ncp_host.proofs.Living.{heard}

@@ -1,9 +1,9 @@
 use Rattle.std.proofs.Common.{◌≡◌, ℕ, List, ◌++◌, sym, ap, ◌∙◌}
 use Rattle.std.specs.Box.{boxed_slice_items}
 use Rattle.std.specs.List.{zip}
-use Rattle.ncp_host.specs.PeerState.{PeerState, new_state}
+use Rattle.ncp_peer.specs.PeerState.{PeerState, new_state}
 use Rattle.ncp_host.specs.Host.{Host}
-use Rattle.ncp_host.specs.Counting.{none_ignored}
+use Rattle.ncp_host.specs.Ignoring.{none_ignored}
 use Rattle.ncp_host.proofs.Peering.{new_beside}
 use Rattle.ncp_host.proofs.Living.{new_kept}
 use Rattle.ncp_host.proofs.host.Host.new.Goals as goal

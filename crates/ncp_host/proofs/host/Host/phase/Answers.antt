@@ -1,7 +1,7 @@
 use Rattle.std.proofs.Common.{Ok, Err, ap, ◌∙◌}
 use Rattle.std.specs.Box.{boxed_slice_items}
 use Rattle.std.proofs.lemmas.Result.{err_from_is_err_and}
-use Rattle.ncp_host.specs.Calls.{flags_of}
+use Rattle.ncp_phase.specs.Flags.{flags_of}
 use Rattle.ncp_host.proofs.Calling.{answered, unknown}
 use Rattle.ncp_host.proofs.host.Host.phase.Goals as goal
 

@@ -1,10 +1,10 @@
 use Rattle.std.proofs.Common.{Ok, Err, refl, sym, ap, subst, ◌∙◌, arith}
 use Rattle.std.specs.Box.{boxed_slice_items}
 use Rattle.std.proofs.lemmas.Result.{err_from_is_err_and}
-use Rattle.ncp_host.specs.Output.{links}
+use Rattle.ncp_peer.specs.Output.{links}
 use Rattle.ncp_host.specs.Host.{Host}
-use Rattle.ncp_host.specs.Soundness.{AreWell}
-use Rattle.ncp_host.specs.Restarting.{restarts}
+use Rattle.ncp_peer.specs.Soundness.{AreWell}
+use Rattle.ncp_peer.specs.GivingUp.{restarts}
 use Rattle.ncp_host.proofs.Calling.{answered, became, known, lives_as, unknown, not_known}
 use Rattle.ncp_host.proofs.Restarting.{all_come, none_come, lives_restarted}
 use Rattle.ncp_host.proofs.host.Host.restart.Goals as goal

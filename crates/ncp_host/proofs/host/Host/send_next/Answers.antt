@@ -3,10 +3,10 @@ use Rattle.std.specs.List.{zip}
 use Rattle.std.specs.Box.{boxed_slice_items}
 use Rattle.std.specs.Vec.{with_items}
 use Rattle.std.proofs.lemmas.List.{with_items_is}
-use Rattle.ncp_host.specs.PeerState.{PeerState}
-use Rattle.ncp_host.specs.Calls.{kept_for}
+use Rattle.ncp_peer.specs.PeerState.{PeerState}
+use Rattle.ncp_peer.specs.PeerCalls.{kept_for}
 use Rattle.ncp_host.specs.Host.{Host, state_in}
-use Rattle.ncp_host.specs.Soundness.{AreWell}
+use Rattle.ncp_peer.specs.Soundness.{AreWell}
 use Rattle.ncp_host.specs.Turns.{message_in_turn, next_output}
 use Rattle.ncp_host.proofs.FirstReady.{is_next}
 use Rattle.ncp_host.proofs.Living.{sent}

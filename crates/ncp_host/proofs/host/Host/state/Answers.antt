@@ -2,7 +2,7 @@ use Rattle.std.proofs.Common.{Err, ap, ◌∙◌}
 use Rattle.std.specs.Box.{boxed_slice_items}
 use Rattle.std.proofs.lemmas.Result.{err_from_is_err_and}
 use Rattle.ncp_conn.specs.Records.{record_in}
-use Rattle.ncp_host.specs.Calls.{record_answer}
+use Rattle.ncp_peer.specs.PeerCalls.{record_answer}
 use Rattle.ncp_host.proofs.Calling.{answered, unknown}
 use Rattle.ncp_host.proofs.host.Host.state.Goals as goal
 

@@ -1,6 +1,6 @@
 use Rattle.std.proofs.Common.{sym, ap, ◌∙◌}
 use Rattle.std.specs.Box.{boxed_slice_items}
-use Rattle.ncp_host.specs.Calls.{waiting_at}
+use Rattle.ncp_peer.specs.PeerCalls.{waiting_at}
 use Rattle.ncp_host.proofs.Calling.{known, not_known}
 use Rattle.ncp_host.proofs.host.Host.waiting.Goals as goal
 

@@ -1,7 +1,7 @@
 use Rattle.std.proofs.Common.{Ok, Err, refl, ap, ◌∙◌}
 use Rattle.std.specs.Box.{boxed_slice_items}
 use Rattle.std.proofs.lemmas.Result.{err_from_is_err_and}
-use Rattle.ncp_host.specs.PeerState.{state_calls_wake}
+use Rattle.ncp_peer.specs.PeerState.{state_calls_wake}
 use Rattle.ncp_host.specs.Running.{Wakes}
 use Rattle.ncp_host.proofs.Calling.{answered, became, lives, unknown, untouched}
 use Rattle.ncp_host.proofs.host.Host.wake.Goals as goal

@@ -1,4 +1,4 @@
-use Rattle.ncp_host.proofs.Placed.{beside_more, well_more}
+use Rattle.ncp_peer.proofs.Placed.{beside_more, well_more}
 use Rattle.ncp_host.proofs.host.loading.read_peers.Goals as goal
 
 pub loop-place-preserved : goal.loop-place-preserved

@@ -1,6 +1,6 @@
 use Rattle.std.proofs.Common.{◌≡◌, length}
 use Rattle.std.specs.List.{zip}
-use Rattle.ncp_host.specs.Soundness.{AreWell}
+use Rattle.ncp_peer.specs.Soundness.{AreWell}
 use Rattle.ncp_host.proofs.host.loading.read_peers.Given as goal
 
 -- the numbers and the peers that are read

@@ -3,7 +3,7 @@ use Rattle.std.specs.List.{All}
 use Rattle.std.proofs.lemmas.List.{take_more, take_all}
 use Rattle.std.proofs.lemmas.List.Elements.{All-append}
 use Rattle.ncp_slot.specs.Links.{HasItsLinks}
-use Rattle.ncp_host.specs.PeerState.{PeerState}
+use Rattle.ncp_peer.specs.PeerState.{PeerState}
 use Rattle.ncp_host.proofs.Linked.{alone}
 use Rattle.ncp_host.proofs.host.saving.have_their_links.Goals as goal
 

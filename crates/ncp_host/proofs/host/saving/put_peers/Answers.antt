@@ -2,9 +2,10 @@ use Rattle.std.proofs.Common.{◌≤◌, ◌<◌, ◌++◌, length, get_or, refl
 use Rattle.std.specs.List.{zip}
 use Rattle.std.proofs.lemmas.Result.{on_ok_weaker}
 use Rattle.std.proofs.lemmas.Option.{slice_get-get_or, slice_get_read}
-use Rattle.ncp_host.specs.Saved.{listed, peer_saved}
-use Rattle.ncp_host.proofs.Rows.{row_more, row_end}
-use Rattle.ncp_host.proofs.Connecting.{beside, no_more_beside}
+use Rattle.ncp_saved.specs.Values.{listed}
+use Rattle.ncp_host.specs.Saved.{peer_saved}
+use Rattle.ncp_saved.proofs.Rows.{row_more, row_end}
+use Rattle.ncp_peer.proofs.Connecting.{beside, no_more_beside}
 use Rattle.ncp_host.proofs.host.saving.put_peers.Goals as goal
 
 pub loop-place-preserved : goal.loop-place-preserved

@@ -1,6 +1,7 @@
 use Rattle.std.proofs.Common.{◌≡◌, ◌++◌, drop}
 use Rattle.std.specs.List.{zip}
-use Rattle.ncp_host.specs.Saved.{listed, peer_saved}
+use Rattle.ncp_saved.specs.Values.{listed}
+use Rattle.ncp_host.specs.Saved.{peer_saved}
 use Rattle.ncp_host.proofs.host.saving.put_peers.Given as goal
 
 -- what is written, and what is left to be written

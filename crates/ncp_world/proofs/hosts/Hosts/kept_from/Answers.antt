@@ -1,7 +1,7 @@
 use Rattle.std.proofs.Common.{◌≡◌, Bool, sym, ap, ◌∙◌}
 use Rattle.ncp_subnet.specs.Transit.{is_delivered}
 use Rattle.ncp_host.specs.Host.{state_of}
-use Rattle.ncp_host.specs.Calls.{kept_for}
+use Rattle.ncp_peer.specs.PeerCalls.{kept_for}
 use Rattle.ncp_transcript_two.specs.declared.side.Side.{Side}
 use Rattle.ncp_transcript_two.specs.Between.{Hosts, other, side_number, host_of}
 use Rattle.ncp_world.specs.Reckoning.{unless_came}

@@ -1,6 +1,0 @@
-use Rattle.std.proofs.Common.{ap}
-use Rattle.ncp_host.specs.Calls.{flags_of}
-use Rattle.ncp_host.proofs.phase.Phase.flags.Goals as goal
-
-pub returns : goal.returns
-returns c = ap flags_of c.self.view_is

@@ -1,5 +1,0 @@
-use Rattle.std.proofs.Common.{rules}
-use Rattle.ncp_host.proofs.queue.Queue.push.Goals as goal
-
-pub returns : goal.returns
-returns c = search rules

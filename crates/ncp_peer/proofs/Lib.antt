@@ -1,0 +1,17 @@
+pub mod Placing
+pub mod Hearing
+pub mod Receiving
+pub mod Showing
+pub mod Texts
+pub mod Cutting
+pub mod Outputs
+pub mod Silence
+pub mod Echoing
+pub mod SlotKinds
+pub mod Connecting
+pub mod Joined
+pub mod Asking
+pub mod SlotRows
+pub mod Placed
+pub mod Answering
+pub mod GivingUp

@@ -1,0 +1,15 @@
+pub mod Codes
+pub mod Counting
+pub mod PeerState
+pub mod Hearing
+pub mod Output
+pub mod Sending
+pub mod Silence
+pub mod PeerCalls
+pub mod Steps
+pub mod Soundness
+pub mod Readiness
+pub mod GivingUp
+pub mod SavedPeer
+pub mod Acted
+pub mod SavedParts

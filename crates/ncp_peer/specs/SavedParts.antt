@@ -1,0 +1,28 @@
+-- Parts of a saved host, of which private functions speak.
+use Rattle.std.specs.Prelude.{◌≡◌, ℕ, Bool, List, [], ◌∷◌, ◌++◌, length, map, Some}
+use Rattle.ncp_numbers.specs.Bytes.{bytes_of}
+use Rattle.ncp_slot.specs.Slot.{kept_message}
+use Rattle.ncp_slot.specs.Slots.{LinkSlot}
+use Rattle.ncp_model.specs.Peers.{Peer}
+use Rattle.ncp_conn.specs.declared.record.Record.{Record}
+use Rattle.ncp_conn.specs.Restoring.{end_told}
+use Rattle.ncp_saved.specs.Values.{mark, bits_saved}
+use Rattle.ncp_phase.specs.SavedPhase.{phase_saved, echoes_saved}
+use Rattle.ncp_peer.specs.SavedPeer.{slot_saved, end_saved, ends_saved}
+
+-- the marks of an end
+abbrev pub standing_saved : Record → List ℕ
+standing_saved r = map mark (r.asked ∷ r.heard ∷ r.opened ∷ r.leaving ∷ r.left ∷ r.cls ∷ r.busy ∷ r.recall ∷ [])
+
+-- an end was put out but for the bits that it stores: with these behind it is whole
+abbrev pub IsPutButForBits : Record → ℕ → List ℕ → List ℕ → Type 0
+IsPutButForBits r room before now =
+    (stored : List Bool) → length stored ≡ r.stored → now ++ bytes_of stored ≡ before ++ end_saved (end_told r stored room)
+
+-- the phase, the connections and the echoes
+abbrev pub association_saved : Peer → List ℕ
+association_saved p = phase_saved p.phase ++ ends_saved p.ends ++ echoes_saved p.echoes
+
+-- a byte says what becomes of the message on a link
+abbrev pub IsKindOf : ℕ → LinkSlot → Type 0
+IsKindOf byte slot = (message : List Bool) → kept_message slot ≡ Some message → slot_saved slot ≡ byte ∷ bits_saved message

@@ -1,0 +1,167 @@
+//! What a host and one peer have between them, but for the messages on the links: the rules of one
+//! peer.
+ghost use Rattle.std.specs.Prelude.{◌≡◌, ◌∷◌, [], ◌+◌, ◌≤◌, ◌++◌, length, true, IfOk, OnErr};
+ghost use Rattle.ncp_model.specs.Phase.{up, reset_answer};
+ghost use Rattle.ncp_model.specs.Act.{answer, made_if_any};
+ghost use Rattle.ncp_model.specs.Ends.{cut_in};
+ghost use Rattle.ncp_model.specs.Sending.{next_commands};
+ghost use Rattle.ncp_terms.specs.Spelling.{spellings};
+ghost use Rattle.ncp_model.specs.Peers.{new_peer, falls, makes, calls_reset, settles, frees, peer_sends, cuts};
+ghost use Rattle.ncp_conn.specs.Cutting.{next_cut, sizes, text_of};
+
+mod calls;
+mod hearing;
+mod readers;
+mod restoring;
+mod saving;
+
+use ncp_bits::{BitStore, Bits, MAX_BITS};
+use ncp_conn::Table;
+use ncp_model::{CallFault, MAX_CONTROL, MAX_TEXT};
+use ncp_phase::{ControlText, Echoes, Phase};
+use ncp_terms::Command;
+use std::alloc::{AllocError, Global};
+use std::marker::Model;
+
+/// What a host and one peer have between them: the phase and the commands that wait, the
+/// connections, the echo and the errors.
+#[derive(Drop)]
+pub(crate) struct Association<S: BitStore> {
+    phase: Phase,
+    table: Table<S>,
+    echoes: Echoes,
+}
+
+impl<S: BitStore> Model for Association<S> {
+    ghost use Rattle.std.specs.Coded.{codes};
+    ghost use Rattle.ncp_peer.specs.Codes.{coded_ends};
+    ghost use Rattle.ncp_model.specs.Peers.{Peer};
+
+    ghost Value = { Peer };
+
+    ghost coded = { Prim.hlevel (codes, coded_ends) };
+
+    ghost view = { λ a. record { phase = a.phase; ends = a.table; echoes = a.echoes } };
+}
+
+impl<S: BitStore> Association<S> {
+    /// Down, and without a connection. All room but that of the stores of bits is made at once.
+    pub(crate) fn new(alloc: Global) -> Result<Self, AllocError>
+        ensures { IfOk result (λ association. association ≡ new_peer) }
+    {
+        Ok(Association {
+            phase: Phase::new(alloc)?,
+            table: Table::new(alloc)?,
+            echoes: Echoes::new(alloc)?,
+        })
+    }
+
+    /// The same once more.
+    pub(crate) fn copy(&self, alloc: Global) -> Result<Self, AllocError>
+        ensures { IfOk result (λ association. association ≡ self.now) }
+    {
+        Ok(Association {
+            phase: self.phase.copy(alloc)?,
+            table: self.table.copy(alloc)?,
+            echoes: self.echoes.copy(alloc)?,
+        })
+    }
+
+    /// Whether the host is up with the peer.
+    pub(crate) fn is_up(&self) -> bool
+        ensures { result ≡ up self.now.phase }
+    {
+        self.phase.is_up()
+    }
+
+    // Goes down.
+    fn fall(&mut self)
+        ensures { self.new ≡ falls self.old }
+    {
+        self.phase.go_down();
+        self.table.purge();
+        self.echoes.purge();
+    }
+
+    // A command is made, where the host is up. Where it has no place the host goes down.
+    fn make(&mut self, command: Command)
+        ensures { self.new ≡ makes (command ∷ []) self.old }
+    {
+        self.phase.make(command);
+        if !self.phase.is_up() {
+            self.table.purge();
+            self.echoes.purge();
+        }
+    }
+
+    // A command is made, if there is one.
+    fn make_any(&mut self, command: Option<Command>)
+        requires { up self.old.phase ≡ true }
+        ensures { self.new ≡ makes (made_if_any command) self.old }
+    {
+        if let Some(command) = command {
+            self.make(command);
+        }
+    }
+
+    /// Makes the RRP that is owed and the RST that is wanted, where the data links are quiet.
+    pub(crate) fn settle(&mut self, quiet: bool)
+        ensures { self.new ≡ settles quiet self.old }
+    {
+        self.phase.settle(quiet);
+    }
+
+    /// Resets. Refused: `Busy` (a reset is under way).
+    pub(crate) fn reset(&mut self, quiet: bool) -> Result<(), CallFault>
+        ensures reply { result ≡ reset_answer self.old.phase }
+        ensures peer { self.new ≡ calls_reset quiet self.old }
+        ensures err { OnErr result (self.new ≡ self.old) }
+    {
+        self.phase.reset(quiet)?;
+        self.table.purge();
+        self.echoes.purge();
+        Ok(())
+    }
+
+    /// The bytes of the commands that go out next, which wait no more.
+    pub(crate) fn take_text(&mut self) -> ControlText
+        ensures text { result.items ≡ spellings (next_commands self.old.phase.waiting) }
+        ensures fits { length result.items ≤ MAX_CONTROL }
+        ensures peer { self.new ≡ peer_sends self.old }
+    {
+        self.phase.take_text()
+    }
+
+    /// The lowest link from one on on which a text may go out, if any.
+    pub(crate) fn next_cut(&self, from: u8) -> Option<u8>
+        ensures { result ≡ next_cut from self.now.ends }
+    {
+        self.table.next_cut(from)
+    }
+
+    /// The byte size of the text that goes out next on a link, if any, and how many bytes it has.
+    pub(crate) fn next_size(&self, link: u8) -> Option<(u8, u16)>
+        ensures { result ≡ sizes (answer (cut_in link self.now.ends)) }
+    {
+        self.table.next_size(link)
+    }
+
+    /// Moves the text that goes out next on a link, if any, behind other bits.
+    pub(crate) fn cut_onto(&mut self, link: u8, bits: &mut Bits)
+        requires { length bits.old + MAX_TEXT ≤ MAX_BITS }
+        ensures bits { bits.new ≡ bits.old ++ text_of (answer (cut_in link self.old.ends)) }
+        ensures peer { self.new ≡ cuts link self.old }
+    {
+        self.table.cut_onto(link, bits);
+    }
+
+    /// A text that went out was taken (RFNM).
+    pub(crate) fn free(&mut self, link: u8)
+        ensures { self.new ≡ frees link self.old }
+    {
+        if self.phase.is_up() {
+            let command = self.table.answered(link);
+            self.make_any(command);
+        }
+    }
+}

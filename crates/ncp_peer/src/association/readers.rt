@@ -1,0 +1,78 @@
+//! What a user may read of a peer.
+ghost use Rattle.std.specs.Prelude.{◌≡◌, slice_get};
+ghost use Rattle.ncp_conn.specs.Records.{record_in};
+ghost use Rattle.ncp_conn.specs.Listing.{connection_in, room_of, pair_led_to};
+ghost use Rattle.ncp_phase.specs.Flags.{flags_of};
+ghost use Rattle.ncp_peer.specs.PeerCalls.{record_answer};
+ghost use Rattle.ncp_peer.specs.PeerCalls.{room_answer};
+
+use crate::association::Association;
+use ncp_bits::BitStore;
+use ncp_conn::{End, Record};
+use ncp_model::{CallFault, Pair};
+use ncp_phase::{Errors, Flags};
+use ncp_terms::Command;
+
+impl<S: BitStore> Association<S> {
+    /// A copy of what is known of a connection. Refused: `NoEntry`.
+    pub(crate) fn state(&self, pair: Pair) -> Result<Record, CallFault>
+        ensures { result ≡ record_answer (record_in pair self.now.ends) }
+    {
+        match self.table.record(pair) {
+            Some(record) => Ok(record),
+            None => Err(CallFault::NoEntry),
+        }
+    }
+
+    /// The connection at a place behind the first, with a copy of what is known of it.
+    pub(crate) fn connection_at(&self, place: usize) -> Option<(Pair, Record)>
+        ensures { result ≡ connection_in place self.now.ends }
+    {
+        self.table.connection_at(place)
+    }
+
+    /// For how many bits a connection has room in all. Refused: `NoEntry`.
+    pub(crate) fn room(&self, pair: Pair) -> Result<u32, CallFault>
+        ensures { result ≡ room_answer (room_of pair self.now.ends) }
+    {
+        match self.table.room(pair) {
+            Some(room) => Ok(room),
+            None => Err(CallFault::NoEntry),
+        }
+    }
+
+    /// The pair to which a link leads.
+    pub(crate) fn pair_on(&self, end: End, link: u8) -> Option<Pair>
+        ensures { result ≡ pair_led_to end link self.now.ends }
+    {
+        self.table.pair_on(end, link)
+    }
+
+    /// The four flags.
+    pub(crate) fn flags(&self) -> Flags
+        ensures { result ≡ flags_of self.now.phase }
+    {
+        self.phase.flags()
+    }
+
+    /// The byte of the last ERP that answered an echo.
+    pub(crate) fn echoed(&self) -> Option<u8>
+        ensures { result ≡ self.now.echoes.echoed }
+    {
+        self.echoes.echoed()
+    }
+
+    /// The last errors that came, oldest first.
+    pub(crate) fn errors(&self) -> Errors<'_>
+        ensures { result ≡ self.now.echoes.errors }
+    {
+        self.echoes.errors()
+    }
+
+    /// The command that waits at a place behind the first.
+    pub(crate) fn waiting(&self, place: usize) -> Option<Command>
+        ensures { result ≡ slice_get self.now.phase.waiting place }
+    {
+        self.phase.waiting(place)
+    }
+}

@@ -1,0 +1,86 @@
+//! What is read of a peer, and whether it is sound.
+ghost use Rattle.std.specs.Prelude.{◌≡◌, ◌≢◌, true, false, Some, All};
+ghost use Rattle.ncp_slot.specs.Slot.{is_empty};
+ghost use Rattle.ncp_slot.specs.Slots.{slot_at};
+ghost use Rattle.ncp_model.specs.declared.pair.Pair.{Pair as Sockets};
+ghost use Rattle.ncp_model.specs.Phase.{up};
+ghost use Rattle.ncp_model.specs.Ends.{no_ends, pair_of, sender_on};
+ghost use Rattle.ncp_phase.specs.Waiting.{IsShort};
+ghost use Rattle.ncp_peer.specs.Soundness.{Agree};
+ghost use Rattle.ncp_peer.specs.Soundness.{IsPlaced};
+
+use crate::association::Association;
+use ncp_bits::BitStore;
+use ncp_conn::{End, Table};
+use ncp_model::Pair;
+use ncp_phase::{Echoes, Phase};
+use ncp_slot::{Slots, has_slot};
+
+// Whether a message is on a data link.
+fn is_kept(slots: &Slots, link: u8) -> bool
+    ensures link { result ≡ true → link ≢ 0 }
+    ensures kept { result ≡ true → is_empty (slot_at slots.now link) ≡ false }
+{
+    link != 0 && has_slot(link) && !slots.is_empty(link)
+}
+
+impl<S: BitStore> Association<S> {
+    /// What is read of a peer. While the host is not up with it no connection is there.
+    pub(crate) fn with(phase: Phase, table: Table<S>, echoes: Echoes) -> Self
+        ensures down { up result.phase ≡ false → result.ends ≡ no_ends }
+    {
+        let mut association = Association {
+            phase,
+            table,
+            echoes,
+        };
+        if !association.is_up() {
+            association.table.purge();
+        }
+        association
+    }
+
+    // Whether a link leads to the end of a pair that sends.
+    fn leads(&self, link: u8, pair: Pair) -> bool
+        ensures { result ≡ true → pair_of (sender_on link self.now.ends) ≡ Some pair }
+    {
+        match self.table.pair_on(End::Send, link) {
+            Some(other) => other.local == pair.local && other.remote == pair.remote,
+            None => false,
+        }
+    }
+
+    // Whether the link that the end of a pair heard leads to it alone, and its text is in its slot
+    // while it is out.
+    fn is_placed(&self, slots: &Slots, pair: Pair) -> bool
+        ensures { result ≡ true → IsPlaced self.now.ends slots.now pair }
+    {
+        let Some(record) = self.table.record(pair) else {
+            return true;
+        };
+        if !pair.sends() || !record.heard {
+            return !record.busy;
+        }
+        self.leads(record.link, pair) && (!record.busy || is_kept(slots, record.link))
+    }
+
+    // Whether this holds of each pair.
+    fn are_placed(&self, slots: &Slots) -> bool
+        ensures { result ≡ true → (p : Sockets) → IsPlaced self.now.ends slots.now p }
+    {
+        for pair in self.table.pairs() {
+            if !self.is_placed(slots, pair) {
+                return false;
+            }
+        }
+        true
+    }
+
+    /// Whether the ends agree with the slots, and each command that waits has room in a control message.
+    pub(crate) fn is_well(&self, slots: &Slots) -> bool
+        ensures agree { result ≡ true → Agree self.now.ends slots.now }
+        ensures fit { result ≡ true → All IsShort self.now.phase.waiting }
+    {
+        self.are_placed(slots) && self.phase.is_short()
+    }
+}

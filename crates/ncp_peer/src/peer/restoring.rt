@@ -1,0 +1,55 @@
+//! A peer that is read.
+ghost use Rattle.std.specs.Prelude.{◌≡◌, false, IfSome};
+ghost use Rattle.ncp_model.specs.Phase.{up};
+ghost use Rattle.ncp_model.specs.Ends.{no_ends};
+ghost use Rattle.ncp_peer.specs.Soundness.{IsWell};
+
+use crate::association::Association;
+use crate::counts::Counts;
+use crate::peer::Peer;
+use ncp_bits::BitStore;
+use ncp_conn::LinkSet;
+use ncp_slot::{Slots, has_slot};
+use ncp_terms::{FIRST_LINK, LAST_LINK};
+
+impl<S: BitStore> Peer<S> {
+    /// A peer with what was read of it, where that is sound.
+    pub(crate) fn with(association: Association<S>, slots: Slots, counts: Counts) -> Option<Self>
+        requires { up association.phase ≡ false → association.ends ≡ no_ends }
+        ensures { IfSome result IsWell }
+    {
+        if !association.is_well(&slots) {
+            return None;
+        }
+        Some(Peer {
+            association,
+            slots,
+            kept: LinkSet::all(),
+            again: LinkSet::all(),
+            counts,
+        })
+    }
+
+    // A link without a message is looked at no more.
+    fn pass_over(&mut self, link: u8)
+        ensures { self.new ≡ self.old }
+    {
+        if !has_slot(link) {
+            return;
+        }
+        if self.slots.is_empty(link) {
+            self.kept.remove(link);
+            self.again.remove(link);
+        }
+    }
+
+    /// Looks no more at the links without a message.
+    pub(crate) fn pass_over_empty(&mut self)
+        ensures { self.new ≡ self.old }
+    {
+        self.pass_over(0);
+        for link in FIRST_LINK..LAST_LINK + 1 {
+            self.pass_over(link);
+        }
+    }
+}

@@ -1,0 +1,5 @@
+pub mod Waits
+pub mod Strikes
+pub mod Filling
+pub mod Copying
+pub mod Short

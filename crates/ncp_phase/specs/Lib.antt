@@ -1,0 +1,3 @@
+pub mod Waiting
+pub mod Flags
+pub mod SavedPhase

@@ -1,0 +1,43 @@
+//! What is saved of the echo and of the errors.
+ghost use Rattle.std.specs.Prelude.{◌≡◌, ◌++◌, ◌∷◌, OnOk};
+ghost use Rattle.ncp_saved.specs.Values.{listed, error_saved};
+ghost use Rattle.ncp_phase.specs.SavedPhase.{echoes_saved};
+
+use crate::echoes::Echoes;
+use crate::fixed_ring::FixedRing;
+use ncp_model::Error;
+use ncp_saved::{put_byte, put_echoed, put_error, put_mark};
+use std::alloc::AllocError;
+
+// An error that came, behind a 1.
+fn put_error_behind(out: &mut Vec<u8>, error: &Error) -> Result<(), AllocError>
+    ensures { OnOk result (out.new.items ≡ out.old.items ++ 1 ∷ error_saved error.now) }
+{
+    put_byte(out, 1)?;
+    put_error(out, error)
+}
+
+// The errors that came, each behind a 1, and a 0 behind the last.
+fn put_errors(out: &mut Vec<u8>, errors: &FixedRing<Error>) -> Result<(), AllocError>
+    ensures { OnOk result (out.new.items ≡ out.old.items ++ listed error_saved errors.now.items) }
+{
+    for place in 0..errors.len() {
+        let Some(error) = errors.get(place) else {
+            break;
+        };
+        put_error_behind(out, error)?;
+    }
+    put_byte(out, 0)
+}
+
+impl Echoes {
+    /// The echo, and the errors that came.
+    #[tactic(auto, unfolding(crate::specs::SavedPhase::echoes_saved))]
+    pub fn save(&self, out: &mut Vec<u8>) -> Result<(), AllocError>
+        ensures { OnOk result (out.new.items ≡ out.old.items ++ echoes_saved self.now) }
+    {
+        put_mark(out, self.awaited)?;
+        put_echoed(out, self.echoed)?;
+        put_errors(out, &self.errors)
+    }
+}

@@ -1,0 +1,24 @@
+//! Whether commands have room in a control message.
+ghost use Rattle.std.specs.Prelude.{◌≡◌};
+ghost use Rattle.std.specs.List.{list_all};
+ghost use Rattle.ncp_phase.specs.Waiting.{has_short_data};
+
+use crate::queue::Queue;
+use ncp_terms::{Command, put_command};
+
+// Whether a command has room in a control message: each value of the type has.
+fn is_short(command: &Command) -> bool
+    ensures { result ≡ has_short_data command.now }
+{
+    let _bytes = put_command(command);
+    true
+}
+
+impl Queue {
+    /// Whether each command has room in a control message.
+    pub(crate) fn is_short(&self) -> bool
+        ensures { result ≡ list_all has_short_data self.now }
+    {
+        self.commands.iter().all(|command| is_short(command))
+    }
+}

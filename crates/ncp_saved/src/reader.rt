@@ -1,0 +1,142 @@
+//! `Reader`: bytes that are read from the front.
+ghost use Rattle.std.specs.Prelude.{◌≤◌, length};
+
+use ncp_bits::{BitStore, Bits, Part};
+use ncp_control::Commands;
+use ncp_model::Error;
+use ncp_terms::opcodes::ERR;
+use ncp_terms::{Command, ERROR_DATA, LONGEST_COMMAND, put_command};
+use std::alloc::AllocError;
+
+/// Why nothing was read.
+#[derive(Clone, Copy, Debug, Drop, PartialEq, Eq)]
+pub enum Unread {
+    /// The bytes are of no host.
+    NotAHost,
+    /// Memory was refused.
+    OutOfMemory,
+}
+
+impl From<AllocError> for Unread {
+    fn from(_error: AllocError) -> Self {
+        Unread::OutOfMemory
+    }
+}
+
+/// How many bytes of a store are put into it at once.
+const CHUNK: usize = 1024;
+
+/// Bytes of which the first are read, and then the next.
+#[derive(Drop)]
+pub struct Reader<'a> {
+    bytes: &'a [u8],
+}
+
+impl<'a> Reader<'a> {
+    /// Reads these bytes.
+    pub fn new(bytes: &'a [u8]) -> Self {
+        Reader { bytes }
+    }
+
+    /// The next so many bytes.
+    pub fn take(&mut self, count: usize) -> Result<&'a [u8], Unread> {
+        let bytes = self.bytes;
+        if count > bytes.len() {
+            return Err(Unread::NotAHost);
+        }
+        self.bytes = &bytes[count..];
+        Ok(&bytes[..count])
+    }
+
+    /// A number of one byte.
+    pub fn byte(&mut self) -> Result<u8, Unread> {
+        let bytes = self.bytes;
+        if bytes.is_empty() {
+            return Err(Unread::NotAHost);
+        }
+        self.bytes = &bytes[1..];
+        Ok(bytes[0])
+    }
+
+    /// A mark: 1 where it is set.
+    pub fn mark(&mut self) -> Result<bool, Unread> {
+        Ok(self.byte()? == 1)
+    }
+
+    /// A number of two bytes.
+    pub fn two_bytes(&mut self) -> Result<u16, Unread> {
+        Ok(u16::from_be_bytes([self.byte()?, self.byte()?]))
+    }
+
+    /// A number of four bytes.
+    pub fn four_bytes(&mut self) -> Result<u32, Unread> {
+        let high = self.two_bytes()?;
+        let low = self.two_bytes()?;
+        Ok(u32::from(high) << 16 | u32::from(low))
+    }
+
+    /// An error: its code, how many bytes of data it has, and these.
+    pub fn error(&mut self) -> Result<Error, Unread> {
+        let code = self.byte()?;
+        let _count = self.byte()?;
+        let mut bytes = [0; ERROR_DATA];
+        for place in 0..ERROR_DATA {
+            bytes[place] = self.byte()?;
+        }
+        Ok(Error { code, bytes })
+    }
+
+    /// The bits of a message.
+    pub fn message(&mut self) -> Result<Bits, Unread> {
+        let len = self.four_bytes()? as usize;
+        let bytes = self.take(len.div_ceil(8))?;
+        Bits::from_bytes(bytes, len).map_err(|_| Unread::NotAHost)
+    }
+
+    /// What an empty store is to hold.
+    pub fn stored<S: BitStore>(&mut self, store: &mut S) -> Result<(), Unread> {
+        let mut left = self.four_bytes()? as usize;
+        let bytes = self.take(left.div_ceil(8))?;
+        for chunk in bytes.chunks(CHUNK) {
+            let count = left.min(8 * CHUNK);
+            put_bits(store, chunk, count)?;
+            left -= count;
+        }
+        Ok(())
+    }
+
+    /// A command: its spelling, but of an ERR, which has an error behind its opcode.
+    pub fn command(&mut self) -> Result<Command, Unread> {
+        let bytes = self.bytes;
+        if !bytes.is_empty() && bytes[0] == ERR {
+            self.byte()?;
+            let Error { code, bytes } = self.error()?;
+            return Ok(Command::Err { code, bytes });
+        }
+        let count = bytes.len().min(LONGEST_COMMAND);
+        let command = first_command(&bytes[..count])?;
+        self.take(put_command(&command).len())?;
+        Ok(command)
+    }
+}
+
+// Puts the first bits of bytes into a store.
+fn put_bits<S: BitStore>(store: &mut S, bytes: &[u8], count: usize) -> Result<(), Unread> {
+    let Ok(part) = Part::from_bytes(bytes, count) else {
+        return Err(Unread::NotAHost);
+    };
+    store.put(part).map_err(|_| Unread::NotAHost)
+}
+
+// The command that stands in front of bytes.
+fn first_command(bytes: &[u8]) -> Result<Command, Unread>
+    requires { length bytes.now ≤ LONGEST_COMMAND }
+{
+    let Ok(text) = Part::from_bytes(bytes, 8 * bytes.len()) else {
+        return Err(Unread::NotAHost);
+    };
+    match Commands::new(text).next() {
+        Some(Ok(command)) => Ok(command),
+        _ => Err(Unread::NotAHost),
+    }
+}
