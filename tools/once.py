@@ -3,7 +3,8 @@
 
     tools/once.py WORD..             as rt WORD..
     tools/once.py --sums WORD..      the same with the sums alone: what is proved is kept, as the gate wants it; and each
-                                     library that a gate built is left with its sum, so that later commands find it built
+                                     library that a gate built is left with its sum, so that later commands find it built,
+                                     with what it proved of the static libraries, of which `lib` then makes their code
 
 rt knows whether a crate is built by a sum over its sources and over the sums of its libraries. There is a kit that takes
 those anew on each way down to a library, and below a program there are thousands of ways: minutes in which nothing is
@@ -28,6 +29,10 @@ sys.dont_write_bytecode = True
 
 # The kits in which the functions have these names and do what is said above.
 KNOWN = ("rattle-kit-13b", "rattle-kit-13f")
+# What a gate proved of a static library, in its folder.
+PROVED = "out/proved"
+# What the compiler is not given beside that: each has a word behind it.
+OF_A_PROOF = ("--logic-built", "--jobs", "--incremental")
 # Those whose gate takes names, and then is of these crates alone, over what earlier gates kept.
 WITH_A_GATE_OF_CRATES = ("rattle-kit-13f",)
 
@@ -83,6 +88,35 @@ def with_its_sum(build_rlib):
     return built
 
 
+def with_what_it_proved(prove):
+    """The gate's proof of a crate, which leaves what it proved of a static library there."""
+
+    @functools.wraps(prove)
+    def proved(crate, *commands):
+        return prove(crate, *([*it, "-o", PROVED] if crate.is_static and it[0] == "check" and "-o" not in it else it for it in commands))
+
+    return proved
+
+
+def without(words, left_out):
+    """The words without these, and without what stands behind each."""
+    return [it for before, it in zip([None, *words], words) if it not in left_out and before not in left_out]
+
+
+def of_what_is_proved(call):
+    """The call of the compiler for a static library: it makes its code of what a gate proved, and proves it first where that is of
+    other sources, or of another target."""
+
+    @functools.wraps(call)
+    def called(crate, *words):
+        is_proved = crate.is_static and "build" in words and "--target" not in words and os.path.isdir(f"{crate.folder}/{PROVED}")
+        if is_proved and call(crate, *without(words, OF_A_PROOF), "--crate-checked", PROVED) == 0:
+            return 0
+        return call(crate, *words)
+
+    return called
+
+
 def for_one_build(call, is_library, keeping):
     """The call of the compiler for a crate: without the words by which it keeps its work, and for statements of a library."""
 
@@ -122,8 +156,11 @@ def main():
     crate.stamp = each_once(crate.stamp)
     if sums_alone:
         crate.build_rlib = with_its_sum(crate.build_rlib)
+        rt.Crate.prove = with_what_it_proved(rt.Crate.prove)
+        # What earlier runs left is put back after a gate where the gate made none, and not in the place of what it made.
+        rt.put_back = functools.partial(rt.put_back, was_killed=True)
     else:
-        crate.call = for_one_build(crate.call, crate.makes_rlib, rt.rtlib.KEPT)
+        crate.call = of_what_is_proved(for_one_build(crate.call, crate.makes_rlib, rt.rtlib.KEPT))
     sys.exit(rt.main(words))
 
 

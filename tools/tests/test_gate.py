@@ -22,7 +22,7 @@ echo rt 4.4.4
 # Each step says its name and how nice it is, and fails where FAILS has its name, or where FAILS_ONCE has it the first time.
 STEP = """#!/bin/sh
 name=${0##*/}
-case $0 in */fuzz/run) name=random ;; */web/test) name=page ;; esac
+case $0 in */fuzz/run) name=random ;; */web/test) name=page ;; */prebuild) [ "$1" != --again ] || name=again ;; esac
 echo "$name $* at $(nice)"
 case " $LEAVES_OUT " in *" $name "*) echo "aarch64: left out, since its compiler is not there" ;; esac
 grep -q "^$name" "$ROOM/asked" 2>/dev/null && FAILS_ONCE=
@@ -105,6 +105,12 @@ class Gate(unittest.TestCase):
         status, said, last = self.gate(FAILS="mutants")
         self.assertEqual((status, last), (1, "7 passed, 1 failed"), said)
         self.assertIn("FAILED: mutants: tools/mutants --changed", said)
+
+    def test_prebuilt_files_that_are_not_made_again_as_they_are(self):
+        status, said, last = self.gate(FAILS="again")
+        self.assertEqual((status, last, self.asked("again")), (1, "7 passed, 1 failed", 1), said)
+        self.assertIn("FAILED: again: tools/prebuild --again", said)
+        self.assertLess(said.index("test: proofs: passed"), said.index("\nagain --again at "))
 
     def test_many_changed_crates_are_no_failure(self):
         self.write(f"{self.top}/include/compare", STEP)

@@ -1,5 +1,6 @@
 #!/usr/bin/env python3
-"""Has the toolchain prove and build the crate of the current folder as a static library, by another folder of its programs.
+"""Has the toolchain build the crate of the current folder as a static library, by another folder of its programs, of what a gate
+proved of it or of a proof now.
 
     proved.py TOOLCHAIN OUT
 """
@@ -31,5 +32,5 @@ def by_another(of, *words):
     return call(of, *words)
 
 
-crate.call = by_another
+crate.call = once.of_what_is_proved(by_another)
 sys.exit(rt.main(["lib"]))

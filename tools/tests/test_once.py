@@ -1,0 +1,66 @@
+"""tools/once.py with a crate that only notes what the compiler is asked: the code of a static library is made of what a gate proved."""
+import os
+import sys
+import tempfile
+import types
+import unittest
+from pathlib import Path
+from unittest import mock
+
+sys.path.insert(0, str(Path(__file__).resolve().parents[1]))
+with mock.patch.object(sys, "dont_write_bytecode", True):
+    import once
+
+BUILD = ("rattle", "build", "src/lib.rt", "--logic-built", "logic", "--jobs", "2", "--crate-type", "staticlib", "-o", "out/libone.a")
+OF_WHAT_IS_PROVED = ("rattle", "build", "src/lib.rt", "--crate-type", "staticlib", "-o", "out/libone.a", "--crate-checked", "out/proved")
+
+
+class StaticLibrary(unittest.TestCase):
+    def setUp(self):
+        room = tempfile.TemporaryDirectory()
+        self.addCleanup(room.cleanup)
+        self.crate = types.SimpleNamespace(folder=room.name, is_static=True)
+        self.asked = []
+
+    def called(self, *words, refuses="nothing"):
+        """What the compiler is asked, if it refuses some calls, and the status."""
+        self.asked = []
+
+        def call(_, *given):
+            self.asked.append(given)
+            return int(refuses in given)
+
+        return once.of_what_is_proved(call)(self.crate, *words), self.asked
+
+    def proved(self, *commands):
+        once.with_what_it_proved(lambda _, *given: self.asked.extend(given))(self.crate, *commands)
+        return self.asked
+
+    def test_a_gate_leaves_what_it_proved_of_a_static_library(self):
+        self.assertEqual(self.proved(["check", "src/lib.rt"]), [["check", "src/lib.rt", "-o", "out/proved"]])
+
+    def test_of_other_crates_and_of_tests_it_leaves_nothing_more(self):
+        for is_static, command in (False, ["check", "src/lib.rt"]), (True, ["build", "--test", "-o", "out/tests.o"]), (True, ["check", "-o", "elsewhere"]):
+            self.crate.is_static, self.asked = is_static, []
+            self.assertEqual(self.proved(command), [command])
+
+    def test_code_is_made_of_it(self):
+        os.makedirs(f"{self.crate.folder}/out/proved")
+        self.assertEqual(self.called(*BUILD), (0, [OF_WHAT_IS_PROVED]))
+
+    def test_what_is_of_other_sources_is_proved(self):
+        os.makedirs(f"{self.crate.folder}/out/proved")
+        self.assertEqual(self.called(*BUILD, refuses="--crate-checked"), (0, [OF_WHAT_IS_PROVED, BUILD]))
+        self.assertEqual(self.called(*BUILD, refuses="build")[0], 1)
+
+    def test_what_no_gate_proved_is_proved(self):
+        self.assertEqual(self.called(*BUILD), (0, [BUILD]))
+        os.makedirs(f"{self.crate.folder}/out/proved")
+        of_another_target = (*BUILD, "--target", "aarch64-unknown-linux-gnu")
+        self.assertEqual(self.called(*of_another_target), (0, [of_another_target]))
+        self.crate.is_static = False
+        self.assertEqual(self.called(*BUILD), (0, [BUILD]))
+
+
+if __name__ == "__main__":
+    unittest.main()
