@@ -1,5 +1,5 @@
 -- A word that is looked for in one table, and then in another.
-use Rattle.std.proofs.Common.{◌++◌, ℕ, List, Option, Some, None}
+use Rattle.std.proofs.Common.{◌++◌, List, Option, Some, None}
 use Rattle.std.specs.Prelude.{IfSome, IfNone}
 use Rattle.std.specs.List.{All, Contains}
 use Rattle.std.proofs.lemmas.List.Elements.{Contains-append_right, All-append}

@@ -1,5 +1,5 @@
 -- In one table, in the other, or in none.
-use Rattle.std.proofs.Common.{◌≡◌, ℕ, List}
+use Rattle.std.proofs.Common.{◌≡◌}
 use Rattle.std.proofs.lemmas.List.Elements.{Contains-append_left}
 use Rattle.ncp_play_faults.specs.Printed.{message_words, report_words}
 use Rattle.ncp_play_faults.proofs.Found.{found_behind, found_nowhere}
