@@ -1,7 +1,7 @@
 // SPDX-License-Identifier: MIT
 /** The ladder: a line for each host, time downwards, a row for each event. Only the rows that are seen are drawn. */
-// Below the last row is room for the signs of a message that is underway.
-const ROW = 28, BELOW = 2, MARGIN = 24, OVERSCAN = 8;
+// A row has room for two lines of words, and on a narrow screen for three. Below the last row is room for the signs of a message that is underway.
+const LINES = matchMedia("(max-width: 640px)").matches ? 3 : 2, ROW = LINES * 14, BELOW = 2, MARGIN = 24, OVERSCAN = 8;
 // As wide as the words of a row are seen at least: between many hosts the ladder is scrolled to the side for them.
 const WORDS = 160;
 
@@ -82,6 +82,7 @@ class Ladder {
     this.run = null;
     this.at = 0;
     this.drag = null;
+    box.style.setProperty("--lines", LINES);
     box.addEventListener("scroll", () => {
       heads.style.setProperty("--scrolled", `${box.scrollLeft}px`);
       this.#soon();
