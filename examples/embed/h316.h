@@ -115,7 +115,11 @@ static inline void send_part(struct line *line, uint16_t flags, const uint8_t *b
     put(datagram + 8, (uint32_t)words, 2);
     put(datagram + 10, flags, 2);
     if (len > 0) memcpy(datagram + HEAD, bytes, len);
-    if (send(line->socket, datagram, HEAD + 2 * words, 0) < 0 && errno != ECONNREFUSED) give_up("send");
+    /* An error may be of the datagram before, for which nobody listened: then this one was not sent. */
+    for (int tries = 0; tries < 2; tries++) {
+        if (send(line->socket, datagram, HEAD + 2 * words, 0) >= 0) return;
+        if (errno != ECONNREFUSED) give_up("send");
+    }
 }
 
 /* Sends a message, whose spare bits are zero. */

@@ -148,6 +148,19 @@ static void numbers_that_begin_again(void)
     ON(70, 0);
 }
 
+/* A datagram for which nobody listens is lost, and the next one is not. */
+static void nobody_listens(const char *here, const char *there)
+{
+    struct line early, late;
+    attach(&early, here, there);
+    send_leader(&early, NOP);
+    attach(&late, there, here);
+    send_leader(&early, NOP);
+    is(32, (uint32_t)take_part(&late), __LINE__);
+    is(1, late.came, __LINE__);
+    close(early.socket), close(late.socket);
+}
+
 /* What comes from another port does not come on the line. */
 static void strangers(const char *elsewhere, const char *there)
 {
@@ -168,6 +181,7 @@ int main(int argc, char **argv)
         fputs("usage: h316_test HERE THERE ELSEWHERE\n", stderr);
         return 2;
     }
+    nobody_listens(argv[1], argv[2]);
     attach(&one, argv[1], argv[2]);
     attach(&other, argv[2], argv[1]);
     begins_with_0();
