@@ -256,6 +256,7 @@ static void begin(int argc, char **argv)
     ends.sa_handler = end_at_signal;
     ends.sa_flags = SA_RESTART; /* what is being written or sent is; a wait ends */
     sigaction(SIGINT, &ends, NULL), sigaction(SIGTERM, &ends, NULL), sigaction(SIGHUP, &ends, NULL);
+    signal(SIGPIPE, SIG_IGN); /* a write that fails is no end */
 }
 
 int main(int argc, char **argv)
