@@ -15,6 +15,8 @@ that of NCP_LIBRARY, if this is set, of prebuilt/ if this file stands in the rep
 version is refused. Threads may share a host: its calls come one after the other. Builds of Python without a global lock are refused.
 """
 import ctypes
+import errno
+import io
 import operator
 import os
 import platform
@@ -600,13 +602,39 @@ class Subnet(_Handled):
 
 
 class Capture:
-    """A message file of version 2, which `ncp show` and Wireshark read: `Capture(open("mine.ncp", "wb"))`."""
+    """A message file of version 2, which `ncp show` and Wireshark read: `Capture(open("mine.ncp", "wb"))`.
+
+    Each record is passed on at once, in one write: a program that is killed has lost none, and its file ends after a record. But Linux
+    may stop a write to a file in the middle if the program is killed just then, and the record reaches over the end of a page of the file.
+    A pipe to another program, as `cat`, has no such exception. After a failed write, an OSError, no more is written."""
 
     def __init__(self, file):
-        self._file = file
-        file.write(b"NCPJ")
+        self._file, self._has_failed, self._lock = file, False, threading.Lock()
+        self._write(b"NCPJ")
 
     def message(self, direction, at, bits):
-        """Writes a message at the interface of the host `at`, TO_IMP or FROM_IMP."""
+        """Writes a message at the interface of the host `at`, TO_IMP or FROM_IMP. What is no message is refused, as by `Host.receive`, and
+        nothing of it is written."""
+        if direction not in (TO_IMP, FROM_IMP):
+            raise ValueError("the direction of a message is TO_IMP or FROM_IMP")
         data, count = _bits(bits, None)
-        self._file.write(_numbers((direction, at)) + count.to_bytes(2, "big") + data[:(count + 7) // 8])
+        commands(data, count)  # judges bits: TooLong, ShortBytes, SpareNotZero
+        self._write(_numbers((direction, at)) + count.to_bytes(2, "big") + data[:(count + 7) // 8])
+
+    def _write(self, record):
+        """Writes a record, of which no buffer then keeps any part back."""
+        with self._lock:
+            if self._has_failed:
+                raise OSError(errno.EIO, "an earlier record was not written whole")
+            self._has_failed = True
+            while record:
+                record = record[self._taken(record):]
+            self._file.flush()
+            self._has_failed = False
+
+    def _taken(self, record):
+        """How many bytes the file takes of a record: all, but for a raw file without space."""
+        taken = self._file.write(record)
+        if taken == 0 or taken is None and isinstance(self._file, io.RawIOBase):
+            raise BlockingIOError(errno.EAGAIN, os.strerror(errno.EAGAIN))
+        return len(record) if taken is None else taken

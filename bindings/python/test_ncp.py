@@ -5,9 +5,13 @@ import array
 import contextlib
 import doctest
 import io
+import itertools
+import mmap
 import os
 import pickle
+import random
 import shutil
+import signal
 import subprocess
 import sys
 import tempfile
@@ -362,6 +366,143 @@ class Binding(unittest.TestCase):
             lines += [f"{name}.{field} {getattr(struct, field).offset} {getattr(struct, field).size}" for field, _ in struct._fields_]
         why = "a struct never changes within a soname: give the library a new one, and all bindings its structs"
         self.assertEqual((TOP / "include/abi.txt").read_text(encoding="utf-8").splitlines(), lines, why)
+
+
+class Raw(io.RawIOBase):
+    """A file that notes what each write brings it, and takes as many bytes of it as it has space for."""
+
+    def __init__(self, space=1 << 20, answer=None):
+        super().__init__()
+        self.space, self.answer, self.writes = space, answer, []
+
+    def writable(self):
+        return True
+
+    def write(self, data):
+        taken = min(len(data), self.space)
+        self.space -= taken
+        self.writes.append(bytes(data[:taken]))
+        return taken or self.answer
+
+
+class Captures(unittest.TestCase):
+    """What a capture has written it has passed on."""
+    KILLS, MOST_RECORDS = 1000, 60
+    NOP = ncp.Bits(bytes.fromhex("04000000"), 32)
+    RECORD = bytes.fromhex("48010020" "04000000")
+
+    def test_each_record_is_one_write(self):
+        longest = ncp.Bits(b"\x5a" * 1024, 8192)
+        for buffered in (lambda raw: raw, io.BufferedWriter, lambda raw: io.BufferedWriter(raw, 16)):
+            raw = Raw()
+            file = buffered(raw)
+            capture = ncp.Capture(file)
+            capture.message(ncp.TO_IMP, 1, self.NOP)
+            capture.message(ncp.FROM_IMP, 255, longest)
+            self.assertEqual(raw.writes, [b"NCPJ", self.RECORD, bytes.fromhex("49ff2000") + longest.data])
+            file.close()
+
+    def test_what_is_no_message_is_refused(self):
+        file = io.BytesIO()
+        capture = ncp.Capture(file)
+        for kind, call in (
+            (ncp.TooLong, lambda: capture.message(ncp.TO_IMP, 1, bytes(1025))), (ncp.ShortBytes, lambda: capture.message(ncp.TO_IMP, 1, ncp.Bits(b"", 32))),
+            (ncp.SpareNotZero, lambda: capture.message(ncp.TO_IMP, 1, ncp.Bits(b"\1", 7))), (OverflowError, lambda: capture.message(ncp.TO_IMP, 256, b"")),
+            (ValueError, lambda: capture.message(0x4A, 1, b"")), (TypeError, lambda: capture.message(ncp.TO_IMP, 1, "text")),
+        ):
+            with self.assertRaises(kind):
+                call()
+        capture.message(ncp.FROM_IMP, 0, b"")
+        capture.message(ncp.TO_IMP, 2, ncp.Bits(b"\x80\xff", 1))
+        self.assertEqual(file.getvalue(), b"NCPJ" + bytes.fromhex("49000000" "48020001" "80"))
+
+    def test_a_file_without_space(self):
+        for space, answer in itertools.product(range(4, 13), (None, 0)):
+            raw = Raw(space, answer)
+            capture = ncp.Capture(raw)
+            if space == 12:
+                capture.message(ncp.TO_IMP, 1, self.NOP)
+            with self.assertRaises(BlockingIOError):
+                capture.message(ncp.TO_IMP, 1, self.NOP)
+            raw.space = 100
+            with self.assertRaises(OSError):
+                capture.message(ncp.TO_IMP, 1, self.NOP)
+            self.assertEqual(b"".join(raw.writes), (b"NCPJ" + self.RECORD)[:space])
+
+    def test_a_file_whose_write_returns_nothing(self):
+        written = []
+
+        class File:
+            write = staticmethod(lambda data: written.append(data))
+            flush = staticmethod(lambda: None)
+
+        ncp.Capture(File()).message(ncp.TO_IMP, 1, self.NOP)
+        self.assertEqual(b"".join(written), b"NCPJ" + self.RECORD)
+
+    def messages(self, chance):
+        """Messages of a seed, without end."""
+        while True:
+            count = chance.randrange(8193) if chance.randrange(4) == 0 else chance.randrange(400)
+            data = chance.getrandbits(count) << -count % 8
+            yield chance.choice((ncp.TO_IMP, ncp.FROM_IMP)), chance.randrange(256), ncp.Bits(data.to_bytes((count + 7) // 8, "big"), count)
+
+    def write_until_killed(self, file, seed, said):
+        """In a process of its own: after each record it says so."""
+        try:
+            capture = ncp.Capture(file)
+            for message in self.messages(random.Random(seed)):
+                capture.message(*message)
+                if said is not None:
+                    os.write(said, b".")
+        finally:
+            os._exit(2)
+
+    def killed(self, file, seed, wanted, ends, says):
+        """What came through a pipe of a process that is killed once so many bytes of it came."""
+        process = os.fork()
+        if not process:
+            os.close(ends[0])
+            self.write_until_killed(file, seed, ends[1] if says else None)
+        os.close(ends[1])
+        came, is_killed = b"", False
+        while more := os.read(ends[0], 1 << 16):
+            came += more
+            if len(came) > wanted and not is_killed:
+                os.kill(process, signal.SIGKILL)
+                is_killed = True
+        os.close(ends[0])
+        self.assertEqual(os.waitpid(process, 0)[1], signal.SIGKILL)
+        return came
+
+    def whole_records(self, data, seed):
+        """How many records of a seed these bytes begin with, and how many bytes are left after them."""
+        count, at = 0, 4
+        self.assertEqual(data[:4], b"NCPJ")
+        for direction, host, bits in self.messages(random.Random(seed)):
+            record = bytes((direction, host, bits.count >> 8, bits.count & 255)) + bits.data
+            if not data.startswith(record, at):
+                self.assertTrue(record.startswith(data[at:]))
+                return count, len(data) - at
+            count, at = count + 1, at + len(record)
+
+    def test_a_program_that_is_killed_has_lost_no_record(self):
+        """A thousand kills of programs that write files, buffered or not, and pipes. A write that is under way may be cut, in a file, where a page ends."""
+        with tempfile.TemporaryDirectory() as room:
+            for seed in range(self.KILLS):
+                wanted, path = random.Random(-seed).randrange(1, self.MOST_RECORDS), os.path.join(room, "killed.ncp")
+                if seed % 3 == 2:
+                    ends = os.pipe()
+                    with open(ends[1], "wb", closefd=False) as file:
+                        _, rest = self.whole_records(self.killed(file, seed, 100 * wanted, ends, False), seed)
+                    self.assertEqual(rest, 0, seed)
+                    continue
+                with open(path, "wb", buffering=-1 if seed % 3 else 0) as file:
+                    said = len(self.killed(file, seed, wanted, os.pipe(), True))
+                with open(path, "rb") as file:
+                    data = file.read()
+                count, rest = self.whole_records(data, seed)
+                self.assertIn(count - said, (0, 1), seed)
+                self.assertTrue(rest == 0 or count == said and len(data) % mmap.PAGESIZE == 0, seed)
 
 
 class Loading(unittest.TestCase):

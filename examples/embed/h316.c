@@ -135,7 +135,7 @@ int main(int argc, char **argv)
         return 2;
     }
     setvbuf(stdout, NULL, _IOLBF, 0);
-    me = (uint8_t)strtoul(argv[1], NULL, 10), end.peer = (uint8_t)strtoul(argv[2], NULL, 10);
+    me = (uint8_t)number_in(argv[1], 0, 255), end.peer = (uint8_t)number_in(argv[2], 0, 255);
     end.host.at = NULL;
     attach(&end.line, argv[3], argv[4]);
     want(NCP_DONE, ncp_new(&end.host, me, &end.peer, 1), "new");

@@ -21,6 +21,8 @@ enum {
     NAME = 4,         /* bytes of the header, up to the sequence number */
     HEAD = 12,        /* all bytes of the header */
     AHEAD = 16,       /* so many datagrams may be lost on the way, at most, and the next is taken at once */
+    PREFIX = 9,       /* bytes of a message before its text */
+    PADDING = 52,     /* bits after a text, at most: up to a word of 36 bits, and the IMP's own up to one of 16 */
     LAST = 1,         /* flags: the message ends here */
     READY = 2         /* and who sends this is ready */
 };
@@ -34,6 +36,7 @@ struct line {
     uint32_t came;                        /* the last one that was taken */
     uint32_t seen;                        /* and that came, whatever became of it */
     bool has_begun;                       /* whether one was taken */
+    bool began_again;                     /* whether the numbers of the other end began again: who reads this clears it */
     size_t dropped;                       /* datagrams that were of no use */
     uint8_t message[NCP_LONGEST_MESSAGE]; /* what has come of a message */
     size_t len;
@@ -46,13 +49,30 @@ static inline void give_up(const char *what)
     exit(1);
 }
 
+/* Ends a program that cannot begin as its command line says. */
+static inline void refuse(const char *word, const char *why)
+{
+    fprintf(stderr, "%s: %s\n", word, why);
+    exit(2);
+}
+
+/* A number of the command line. */
+static inline uint32_t number_in(const char *word, uint32_t least, uint32_t most)
+{
+    char why[64], *end;
+    const unsigned long number = strtoul(word, &end, 10);
+    snprintf(why, sizeof why, "a number from %lu to %lu is wanted", (unsigned long)least, (unsigned long)most);
+    if (*word < '0' || *word > '9' || *end != '\0' || number < least || number > most) refuse(word, why);
+    return (uint32_t)number;
+}
+
 static inline struct sockaddr_in at_port(const char *port)
 {
     struct sockaddr_in at;
     memset(&at, 0, sizeof at);
     at.sin_family = AF_INET;
     at.sin_addr.s_addr = htonl(INADDR_LOOPBACK);
-    at.sin_port = htons((uint16_t)strtoul(port, NULL, 10));
+    at.sin_port = htons((uint16_t)number_in(port, 1, 65535));
     return at;
 }
 
@@ -63,7 +83,7 @@ static inline void attach(struct line *line, const char *here, const char *there
     memset(line, 0, sizeof *line);
     line->socket = socket(AF_INET, SOCK_DGRAM, 0);
     if (line->socket < 0) give_up("socket");
-    if (bind(line->socket, (const struct sockaddr *)&from, sizeof from) != 0) give_up("bind");
+    if (bind(line->socket, (const struct sockaddr *)&from, sizeof from) != 0) refuse(here, strerror(errno));
     if (connect(line->socket, (const struct sockaddr *)&to, sizeof to) != 0) give_up("connect");
 }
 
@@ -95,7 +115,11 @@ static inline void send_part(struct line *line, uint16_t flags, const uint8_t *b
     put(datagram + 8, (uint32_t)words, 2);
     put(datagram + 10, flags, 2);
     if (len > 0) memcpy(datagram + HEAD, bytes, len);
-    if (send(line->socket, datagram, HEAD + 2 * words, 0) < 0 && errno != ECONNREFUSED) give_up("send");
+    /* An error may be of the datagram before, for which nobody listened: then this one was not sent. */
+    for (int tries = 0; tries < 2; tries++) {
+        if (send(line->socket, datagram, HEAD + 2 * words, 0) >= 0) return;
+        if (errno != ECONNREFUSED) give_up("send");
+    }
 }
 
 /* Sends a message, whose spare bits are zero. */
@@ -134,7 +158,17 @@ static inline bool is_next(struct line *line, uint32_t sequence)
     return !line->has_begun || (more != 0 && (more <= AHEAD || sequence <= 1 || follows));
 }
 
-/* Waits for a datagram, but not for ever. If it ends a message, the bits of that are answered, with what fills up its last word; else 0. */
+/* How many bits so many bytes of a message have, without what fills up its last words. A regular message says how many it has: the spare
+ * bits of its last byte are cleared. */
+static inline size_t cut_padding(uint8_t *message, size_t len)
+{
+    const size_t end = len < PREFIX ? 8 * len : 8 * (size_t)PREFIX + message[5] * got(message + 6, 2);
+    if ((message[0] & 15) != REGULAR || end >= 8 * len || 8 * len - end > PADDING) return 8 * len;
+    if (end % 8 != 0) message[end / 8] &= (uint8_t)(0xff << (8 - end % 8));
+    return end;
+}
+
+/* Waits for a datagram, but not for ever. If it ends a message, returns how many bits that has, without its padding; else 0. */
 static inline size_t take_part(struct line *line)
 {
     uint8_t datagram[HEAD + 2 * 65535];
@@ -148,6 +182,7 @@ static inline size_t take_part(struct line *line)
     sequence = got(datagram + NAME, 4), flags = got(datagram + 10, 2), bytes = (size_t)len - HEAD;
     if (!is_next(line, sequence)) return 0;
     line->dropped--;
+    if (line->has_begun && sequence <= 1 && sequence - line->came > AHEAD) line->began_again = true;
     if (sequence != line->came + 1) line->len = 0; /* a part is missing, so what came before is of no use */
     line->came = sequence, line->has_begun = true;
     line->is_ready = (flags & READY) != 0;
@@ -157,7 +192,7 @@ static inline size_t take_part(struct line *line)
     if ((flags & LAST) == 0) return 0;
     bytes = line->len;
     line->len = 0;
-    return 8 * bytes;
+    return cut_padding(line->message, bytes);
 }
 
 #endif

@@ -95,6 +95,72 @@ static void parts(void)
     is(8 * NCP_LONGEST_MESSAGE, (uint32_t)send_word(8 + NCP_LONGEST_MESSAGE, READY | LAST), __LINE__);
 }
 
+/* So many bits are a message of this many bytes, of which the last one is then this. */
+static void is_cut(const uint8_t *bytes, size_t len, size_t bits, uint8_t last, int place)
+{
+    send_part(&one, READY | LAST, bytes, len);
+    is((uint32_t)bits, (uint32_t)take_part(&other), place);
+    is(last, other.message[(bits + 7) / 8 - 1], place);
+}
+#define CUT(len, bits, last) is_cut(message, len, bits, last, __LINE__)
+
+/* What fills up words after a text is left out, up to 52 bits, and spare bits are cleared. Other messages say no length. */
+static void padding(void)
+{
+    uint8_t message[18];
+    memset(message, 0xff, sizeof message);
+    memset(message, 0, 9);
+    one.next = other.came + 1;
+    message[5] = 8, message[7] = 1;
+    CUT(10, 80, 0xff);
+    CUT(16, 80, 0xff);
+    CUT(18, 144, 0xff); /* 64 bits after the text are no padding */
+    CUT(8, 64, 1);      /* no text yet */
+    message[5] = 36;
+    CUT(14, 108, 0xf0);
+    message[5] = 1, message[7] = 4;
+    CUT(16, 76, 0xf0); /* 52 bits */
+    message[7] = 3;
+    CUT(16, 128, 0xff); /* 53 bits */
+    message[5] = 0x80, message[6] = 1;
+    CUT(16, 128, 0xff); /* less text than it says */
+    message[0] = 5, message[5] = 8, message[6] = 0, message[7] = 1;
+    CUT(12, 96, 0xff);
+    message[0] = 0xf0; /* flags are no type */
+    CUT(12, 80, 0xff);
+}
+
+/* Whether the numbers of the other end began again. */
+static void begins_again(uint32_t came, uint32_t sequence, bool wanted, int place)
+{
+    other.came = came, other.began_again = false;
+    is(16, (uint32_t)send_word(sequence, READY | LAST), place);
+    is(wanted, other.began_again, place);
+}
+#define AGAIN(came, sequence) begins_again(came, sequence, true, __LINE__)
+#define ON(came, sequence) begins_again(came, sequence, false, __LINE__)
+
+static void numbers_that_begin_again(void)
+{
+    AGAIN(1, 0), AGAIN(70, 0), AGAIN(70, 1), AGAIN(0xffff0000, 0);
+    ON(0, 1), ON(5, 6), ON(5, 5 + AHEAD), ON(0xffffffff, 0), ON(0xfffffffe, 0), ON(0xffffffff, 1);
+    other.has_begun = false;
+    ON(70, 0);
+}
+
+/* A datagram for which nobody listens is lost, and the next one is not. */
+static void nobody_listens(const char *here, const char *there)
+{
+    struct line early, late;
+    attach(&early, here, there);
+    send_leader(&early, NOP);
+    attach(&late, there, here);
+    send_leader(&early, NOP);
+    is(32, (uint32_t)take_part(&late), __LINE__);
+    is(1, late.came, __LINE__);
+    close(early.socket), close(late.socket);
+}
+
 /* What comes from another port does not come on the line. */
 static void strangers(const char *elsewhere, const char *there)
 {
@@ -115,6 +181,7 @@ int main(int argc, char **argv)
         fputs("usage: h316_test HERE THERE ELSEWHERE\n", stderr);
         return 2;
     }
+    nobody_listens(argv[1], argv[2]);
     attach(&one, argv[1], argv[2]);
     attach(&other, argv[2], argv[1]);
     begins_with_0();
@@ -124,6 +191,8 @@ int main(int argc, char **argv)
     other_forms();
     sequences();
     parts();
+    padding();
+    numbers_that_begin_again();
     strangers(argv[3], argv[2]);
     close(one.socket), close(other.socket);
     return 0;
