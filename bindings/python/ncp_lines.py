@@ -32,7 +32,7 @@ WRONG = 2
 
 
 class NoLines(ValueError):
-    """An object is none of any lines."""
+    """An object has no lines."""
 
 
 # ---------------------------------------------------------------- forms
@@ -48,8 +48,8 @@ class Kind(NamedTuple):
 
 class Form:
     """A line or a part of one, both ways. In braces stand members: `{x}` is a number, `{x?}` a number or `-`, `{x!}` a flag, `{x#}`
-    hexadecimal digits, `{x*}` the name of a fault or a refusal, `{x^}` letters, `{x@}` a command, `{x~}` a time, `{x:a|b}` one of these words. The members
-    of `always` stand in no line, and have these values."""
+    hexadecimal digits, `{x*}` the name of a fault or a refusal, `{x^}` letters, `{x@}` a command, `{x~}` a time, `{x:a|b}` one of these
+    words. The members of `always` stand in no line, and have these values."""
 
     MEMBER = re.compile(r"\{(\w+)(?:([?!#*^@~])|:([^}]*))?\}")
 
@@ -151,7 +151,7 @@ def stamp_of(value):
     """A time as it stands before a line."""
     text = "-" if value is None else as_time(value)
     if not BEFORE_A_LINE.fullmatch(text + " "):
-        raise NoLines("its time is none")
+        raise NoLines("no line of ncp has its time")
     return text
 
 
@@ -460,7 +460,10 @@ class Block:
         """Whether the object is one of whole lines, and goes back to them."""
         if self.lacks_lines() and len(self.lines) > 1:
             return False
-        return lines_of(self.made) == b"".join(self.lines)
+        try:
+            return lines_of(self.made) == b"".join(self.lines)
+        except NoLines:
+            return False
 
 
 # ---------------------------------------------------------------- back
@@ -474,7 +477,7 @@ def shown(made):
 
 def wanted(text, what):
     if text is None:
-        raise NoLines(f"its {what} is none of any line")
+        raise NoLines(f"no line of ncp has its {what}")
     return text
 
 
@@ -519,11 +522,11 @@ def raw_line(made):
 
 
 def lines_of(made):
-    """The lines of an object, as bytes. Members that are unknown are passed over; an object that is none of any lines is a NoLines."""
+    """The lines of an object, as bytes. Members that are unknown are passed over; if it has none, that is a `NoLines`."""
     try:
         if "line" in made or "bytes" in made:
             return raw_line(made)
-        first = wanted(write_as(forms_of_object(made), made), "first line")
+        first = wanted(write_as(forms_of_object(made), made), "members")
         before = after = ""
         if "time" in made and has_times(made):
             before = after = stamp_of(made["time"]) + " "
@@ -534,7 +537,7 @@ def lines_of(made):
     except NoLines as why:
         raise NoLines(f"{why}: {shown(made)}") from None
     except (AttributeError, KeyError, TypeError, ValueError):
-        raise NoLines(f"a member has a value that stands in no line: {shown(made)}") from None
+        raise NoLines(f"no line of ncp has its values: {shown(made)}") from None
 
 
 # ---------------------------------------------------------------- reading
@@ -656,11 +659,11 @@ def pieces(text):
 def read(lines):
     """The objects of lines as a file gives them, each with its line feed, or of a whole text; bytes or str."""
     reader, has_ended = Reader(), True
-    is_whole = isinstance(lines, (str, bytes))
+    is_whole = isinstance(lines, (str, bytes, bytearray, memoryview))
     for data in pieces(lines) if is_whole else lines:
         if not (is_whole or has_ended):
             raise ValueError("a line without a line feed stands before another: give lines as a file does (splitlines(keepends=True)), or the whole text")
-        data = data.encode("utf-8", "surrogateescape") if isinstance(data, str) else bytes(data)
+        data = data.encode("utf-8", "surrogateescape") if isinstance(data, str) else bytes(memoryview(data))
         has_ended = data.endswith(b"\n")
         yield from reader.feed(data)
     yield from reader.end()

@@ -190,12 +190,14 @@ class Worked(ThereAndBack):
     def test_lines_are_given_as_files_or_texts_give_them(self):
         wanted = [{"record": 1, "name": "short"}, {"record": 2, "name": "short"}]
         text = "1 short\n2 short\n"
-        for lines in text, text.encode(), text.splitlines(keepends=True), text.encode().splitlines(keepends=True), iter([bytearray(text.encode())]):
+        for lines in text, text.encode(), text.splitlines(keepends=True), text.encode().splitlines(keepends=True), bytearray(text.encode()), iter([bytearray(text.encode())]):
             self.assertEqual(list(ncp_lines.read(lines)), wanted)
         self.assertEqual(list(ncp_lines.read(["1 short\n", "2 short"])), [wanted[0], {"line": "2 short", "cut": True}])
         self.assertEqual(list(ncp_lines.read([])), [])
         with self.assertRaisesRegex(ValueError, r"splitlines\(keepends=True\)"):
             list(ncp_lines.read(text.splitlines()))
+        with self.assertRaises(TypeError):
+            list(ncp_lines.read([49]))
         self.assertEqual(list(ncp_lines.read(["\udcff\n"])), [{"bytes": "ff"}])
 
 
@@ -488,9 +490,9 @@ class Command(unittest.TestCase):
     def test_wrong_objects(self):
         good = b'{"record":1,"name":"short"}\n'
         for wrong, said in (
-            (b'{"record":1}', b'object 2: its first line is none of any line: ["record"]'), (b"[1]", b"object 2: this is JSON, but no object"), (b"{", b"object 2: this is no JSON object in one line, as `jq -c` writes it"),
-            (b"\xff", b"object 2: this is no JSON"), (b"", b"object 2: this is no JSON"), (b"[" * 100000, b"object 2: this is no JSON"), (b'{"a":' + b"[" * 900 + b"]" * 900 + b"}", b'none of any line: ["a"]'),
-            (b" " * 2**20, b"object 2: a line of 1048576 bytes or more"), (b'{"\\u001b[2J":1}', b'none of any line: ["\\u001b[2J"]'),
+            (b'{"record":1}', b'object 2: no line of ncp has its members: ["record"]'), (b"[1]", b"object 2: this is JSON, but no object"), (b"{", b"object 2: this is no JSON object in one line, as `jq -c` writes it"),
+            (b"\xff", b"object 2: this is no JSON"), (b"", b"object 2: this is no JSON"), (b"[" * 100000, b"object 2: this is no JSON"), (b'{"a":' + b"[" * 900 + b"]" * 900 + b"}", b'no line of ncp has its members: ["a"]'),
+            (b" " * 2**20, b"object 2: a line of 1048576 bytes or more"), (b'{"\\u001b[2J":1}', b'no line of ncp has its members: ["\\u001b[2J"]'),
         ):
             ran = run("--back", data=good + wrong + b"\n" + good)
             self.assertEqual((ran.returncode, ran.stdout), (2, b"1 short\n"), wrong[:40])
