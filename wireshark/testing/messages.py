@@ -21,7 +21,9 @@ WIRESHARK = os.path.dirname(os.path.dirname(os.path.abspath(__file__)))
 TOP = os.path.dirname(WIRESHARK)
 sys.path.insert(0, WIRESHARK)
 sys.path.insert(0, os.path.join(WIRESHARK, "testing"))
+sys.path.insert(0, os.path.join(TOP, "bindings", "python"))
 import datagrams as inverse
+import ncp_lines
 import records
 import shark
 from capture import lines, segments
@@ -37,6 +39,7 @@ RST, RRP = bytes.fromhex("0002000000080001000c"), bytes.fromhex("000200000008000
 PATIENCE = 300  # seconds that a busy machine may take
 RFNM, NOP = bytes.fromhex("05020000"), bytes.fromhex("04000000")
 failures = []
+printed = []  # by each run of wireshark/messages
 
 
 def tell(what, wrong):
@@ -390,6 +393,7 @@ def messages(*words, cwd=None, environment=None, stdin=subprocess.DEVNULL, data=
     """Runs wireshark/messages: its output, the lines on standard error, its status."""
     how = {"input": data} if data is not None else {"stdin": stdin}
     done = subprocess.run([sys.executable, "-B", os.path.join(WIRESHARK, "messages"), *words], capture_output=True, cwd=cwd or folder.path, env={**os.environ, "NCP": NCP, **(environment or {})}, timeout=600, **how)
+    printed.append(done.stdout)
     return done.stdout.decode(), done.stderr.decode().splitlines(), done.returncode
 
 
@@ -828,6 +832,24 @@ def test_live():
         test_live_fault(next(command for command in commands if " audit" in command), host, imp)
 
 
+# ---------------------------------------------------------------- objects
+
+
+def test_objects():
+    """All that was printed is objects, with times and segments, and goes back to the same bytes."""
+    wrong, made = [], []
+    for text in printed:
+        found = list(ncp_lines.read(text))
+        made += found
+        wrong += [it for it in found if "line" in it or "bytes" in it]
+        if b"".join(map(ncp_lines.lines_of, found)) != text:
+            wrong.append(text)
+    times = {type(it["time"]).__name__ for it in made if "time" in it}
+    if times != {"float", "str", "NoneType"} or not any("segment" in it for it in made) or not any("detail_time" in it for it in made):
+        wrong.append((times, len(made)))
+    tell(f"{sum(len(text.splitlines()) for text in printed)} lines that were printed, as {len(made)} objects and back", wrong)
+
+
 def main():
     global NCP, folder
     words = argparse.ArgumentParser(description=__doc__)
@@ -848,6 +870,7 @@ def main():
     test_wrong_input()
     test_names()
     test_inverse()
+    test_objects()
     test_plugin()
     test_live()
     print(f"{len(failures)} of what was compared differ" if failures else "all is the same")
