@@ -1111,11 +1111,11 @@ class Subnet(_Handled):
 class Capture:
     """A message file of version 2, which `ncp show` and Wireshark read: `Capture(open("mine.ncp", "wb"))`."""
 
-    def __init__(self, file):
+    def __init__(self, file: BinaryIO) -> None:
         self._file = file
         file.write(b"NCPJ")
 
-    def message(self, direction, at, bits):
+    def message(self, direction: SupportsIndex, at: SupportsIndex, bits: Union[ReadableBuffer, Bits]) -> None:
         """Writes a message at the interface of the host `at`, TO_IMP or FROM_IMP."""
         data, count = _bits(bits, None)
         self._file.write(_numbers((direction, at)) + count.to_bytes(2, "big") + data[:(count + 7) // 8])

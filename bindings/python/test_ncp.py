@@ -708,6 +708,30 @@ class Words(unittest.TestCase):
         self.assertEqual({*ncp._CLASSES}, named)
 
 
+@unittest.skipUnless(shutil.which("mypy"), "there is no mypy")
+class Types(unittest.TestCase):
+    def said(self, *files):
+        """What mypy says of files, in a process of its own, without the settings of who runs it."""
+        words = ["mypy", "--strict", "--config-file=", "--cache-dir=/dev/null", "--python-version=3.9", *files]
+        ran = subprocess.run(words, cwd=HERE, env={**os.environ, "MYPYPATH": str(HERE)}, stdout=subprocess.PIPE, stderr=subprocess.STDOUT, text=True)
+        return ran.stdout.splitlines()
+
+    def test_the_binding_and_the_examples_have_types(self):
+        files = sorted(it.name for it in HERE.glob("*.py") if not it.name.startswith("test_"))
+        self.assertIn("ncp.py", files)
+        self.assertEqual(self.said(*files), [f"Success: no issues found in {len(files)} source files"])
+
+    def test_a_program_that_uses_it_wrongly(self):
+        lines = ("import ncp", "host = ncp.Host(1, [2])", 'host.reset("2")', "message = host.next_output()", "print(message.data)", "host.opened()",
+                 "try:", "    print(host.state(2, 3, 2).bits + 1, host.state(2, 3, 2).bits + '1')", "except (ncp.NoEntry, ncp.NoSuchThing):", "    pass",
+                 "for event in host.events():", "    host.take(*event.at)", "    host.take(event.peer, event.local, 3)")
+        with tempfile.TemporaryDirectory() as room:
+            program = Path(room) / "program.py"
+            program.write_text("\n".join(lines) + "\n", encoding="utf-8")
+            wrong = [int(line.split(":")[1]) for line in self.said(program) if ": error: " in line]
+        self.assertEqual(wrong, [3, 5, 6, 8, 9, 13])
+
+
 class Loading(unittest.TestCase):
     """Which library a copy of ncp.py loads, in a process of its own."""
 
