@@ -10,6 +10,7 @@ import mmap
 import os
 import pickle
 import random
+import re
 import shutil
 import signal
 import subprocess
@@ -34,6 +35,37 @@ def up_with(peer):
     list(host.outputs())
     host.receive(bytes([5, peer, 0, 0]))
     return host
+
+
+def carry(hosts, subnet):
+    """Each message of the hosts, as a program at each has its loop: what arrived is received, what is ready then goes out. Whether one was."""
+    moved = False
+    for one in hosts:
+        for message in one.outputs():
+            moved, way = True, (one.me, message.host, message.link)
+            subnet.accept(one.me, message)
+            other = next(it for it in hosts if it.me == message.host)
+            other.receive(subnet.deliver(*way))
+            one.receive(subnet.answer(*way))
+    return moved
+
+
+def two_with_a_connection(room=64, messages=9, bits=64, size=8):
+    """Two hosts, of which host 1 may send from its socket 3 to socket 2 of host 2, with nothing to look at; and the subnet."""
+    a, b, subnet = ncp.Host(1, [2]), ncp.Host(2, [1]), ncp.Subnet([1, 2])
+    hosts = a, b
+    a.reset(2)
+    while carry(hosts, subnet):
+        pass
+    b.ask_receive(1, 2, 3, room)
+    a.ask_send(2, 3, 2, size, room)
+    while carry(hosts, subnet):
+        pass
+    b.allocate(1, 2, 3, messages, bits)
+    while carry(hosts, subnet):
+        pass
+    list(a.events()), list(b.events())
+    return hosts, subnet
 
 
 class Number:
@@ -326,6 +358,109 @@ class Binding(unittest.TestCase):
         host.wake(2)
         self.assertFalse(host.is_held(2, 0))
 
+    def test_each_text_is_an_event_at_both_ends(self):
+        """Each text of five letters is sent, delivered and answered between two looks, and read after the second."""
+        (a, b), subnet = two_with_a_connection(room=400, bits=400)
+        for _ in range(3):
+            a.give(2, 3, 2, b"hello")
+            self.assertTrue(carry((a, b), subnet))
+            self.assertEqual(list(a.events()), [("delivered", 2, 3, 2, None)])
+            self.assertEqual(list(b.events()), [("text", 1, 2, 3, 40)])
+            self.assertEqual(b.take(1, 2, 3), (b"hello", 40))
+        self.assertEqual(([*a.events()], [*b.events()]), ([], []))
+
+    def test_delivered_though_the_next_text_is_out(self):
+        host = up_with(2)
+        host.ask_send(2, 3, 2)
+        # Its RTS for link 2, and an ALL of 2 messages and 16 bits.
+        host.receive(bytes.fromhex("000200000008000a00" "01" "00000002" "00000003" "02"))
+        host.receive(bytes.fromhex("000200000008000800" "04" "02" "0002" "00000010"))
+        for message in host.outputs():
+            host.receive(bytes([5, 2, message.link, 0]))
+        host.give(2, 3, 2, b"hi")
+        self.assertEqual(host.next_output().data, bytes.fromhex("000202000008000200" "6869"))
+        self.assertEqual([it.what for it in host.events()], ["up", "opened", "allowed"])
+        # An Incomplete Transmission is no delivery: the same text goes out again.
+        host.receive(bytes.fromhex("09020200"))
+        self.assertEqual(host.next_output().data, bytes.fromhex("000202000008000200" "6869"))
+        self.assertEqual(list(host.events()), [])
+        # It is delivered; and two more letters are given, allowed and sent, all before anybody looks.
+        host.give(2, 3, 2, b"ho")
+        host.receive(bytes.fromhex("05020200"))
+        host.receive(bytes.fromhex("000200000008000800" "04" "02" "0001" "00000010"))
+        self.assertEqual(host.next_output().data, bytes.fromhex("000202000008000200" "686f"))
+        self.assertEqual(list(host.events()), [("delivered", 2, 3, 2, None)])
+        # What has no message out is no delivery either.
+        host.receive(bytes.fromhex("05020300"))
+        self.assertEqual(list(host.events()), [])
+
+    def test_as_much_is_allowed_again(self):
+        (a, b), subnet = two_with_a_connection(messages=2, bits=32)
+        a.give(2, 3, 2, b"hi")
+        self.assertEqual([it.what for it in a.events()], [])
+        self.assertTrue(carry((a, b), subnet))
+        b.take(1, 2, 3)
+        b.allocate(1, 2, 3, 1, 16)
+        self.assertTrue(carry((a, b), subnet))
+        self.assertEqual(list(a.events()), [("allowed", 2, 3, 2, (2, 32)), ("delivered", 2, 3, 2, None)])
+
+    def test_delivered_comes_before_the_end(self):
+        (a, b), subnet = two_with_a_connection()
+        a.give(2, 3, 2, b"hi")
+        self.assertTrue(carry((a, b), subnet))
+        b.take(1, 2, 3)
+        b.close(1, 2, 3)
+        while carry((a, b), subnet):
+            pass
+        self.assertEqual([it.what for it in a.events()], ["delivered", "ended"])
+        self.assertEqual([it.what for it in b.events()], ["closed"])
+
+    def test_a_copy_and_what_was_delivered(self):
+        (a, b), subnet = two_with_a_connection()
+        a.give(2, 3, 2, b"hi")
+        message = a.next_output()
+        before = a.copy()
+        again = ncp.Host.load(a.save())
+        a.receive(b"\5\2\2\0")
+        after = a.copy()
+        for host, delivered in ((before, 0), (a, 1), (after, 1), (a, 0), (after, 0)):
+            self.assertEqual([it.what for it in host.events()], ["delivered"] * delivered)
+        # A host that is loaded has the text out, and its RFNM is its delivery.
+        again.receive(b"\5\2\2\0")
+        self.assertEqual([it.what for it in again.events()], ["up", "opened", "allowed", "delivered"])
+        self.assertEqual(message.link, 2)
+
+    def test_a_message_that_is_held_is_an_event(self):
+        host = ncp.Host(1, [2, 4])
+        host.reset(2)
+        dead = bytes.fromhex("07020000")
+        for _ in range(2):
+            self.assertEqual([it.host for it in host.outputs()], [2])
+            host.receive(dead)
+            self.assertTrue(host.is_held(2, 0))
+            copy = host.copy()
+            for it in host, copy, ncp.Host.load(host.save()):
+                self.assertEqual(list(it.events()), [("held", 2, None, None, None)])
+                self.assertEqual(list(it.events()), [])
+            host.wake(2)
+        # Awake, and dead again before anybody looks.
+        self.assertEqual([it.host for it in host.outputs()], [2])
+        self.assertEqual(list(host.events()), [])
+        host.receive(dead)
+        self.assertEqual(list(host.events()), [("held", 2, None, None, None)])
+        # A peer that comes up by itself has none held.
+        host.wake(2)
+        list(host.outputs())
+        host.receive(bytes.fromhex(RFNM))
+        host.receive(bytes.fromhex(RRP))
+        self.assertEqual(list(host.events()), [("up", 2, None, None, None)])
+
+    def test_what_an_event_is_about(self):
+        self.assertEqual(ncp.Event("text", 2, 4, 3, 8).at, (2, 4, 3))
+        for event in ncp.Event("up", 2), ncp.Event("echoed", 2, told=0):
+            with self.assertRaises(ValueError):
+                event.at
+
     def test_a_subnet(self):
         subnet, way = ncp.Subnet([1, 2]), (1, 2, 0)
         self.assertIsNone(subnet.deliver(*way))
@@ -503,6 +638,239 @@ class Captures(unittest.TestCase):
                 count, rest = self.whole_records(data, seed)
                 self.assertIn(count - said, (0, 1), seed)
                 self.assertTrue(rest == 0 or count == said and len(data) % mmap.PAGESIZE == 0, seed)
+
+
+class Streams(unittest.TestCase):
+    def setUp(self):
+        self.a, self.b, self.subnet = ncp.Host(1, [2]), ncp.Host(2, [1]), ncp.Subnet([1, 2])
+        self.streams = ()
+        self.a.reset(2)
+        self.settle()
+
+    def settle(self):
+        """All that can happen without a call, and each stream is pumped after each message."""
+        while carry((self.a, self.b), self.subnet):
+            for stream in self.streams:
+                stream.pump()
+
+    def connected(self, size=8, room=8000, messages=8):
+        """A sender at one host and a receiver at the other."""
+        self.streams = ncp.Stream(self.b, 1, 2, 3, room=room, messages=messages), ncp.Stream(self.a, 2, 3, 2, size=size, room=room)
+        self.settle()
+        return self.streams
+
+    def test_what_fits_is_given_and_allowed(self):
+        receiver, sender = self.connected(room=40, messages=2)
+        self.assertEqual((sender.sends, receiver.sends, sender.is_open, receiver.is_open), (True, False, True, True))
+        # The receiver has allowed all its room, in two messages; the sender has all of its own.
+        self.assertEqual((receiver.space, sender.space), (0, 40))
+        self.assertEqual((self.a.state(2, 3, 2).messages, self.a.state(2, 3, 2).bits), (2, 40))
+        # Five letters fit in, of which nothing is left once they are out.
+        self.assertEqual((sender.give(b"seven letters"), sender.space, sender.give(b"x"), sender.waits), (40, 0, 0, 0))
+        self.settle()
+        self.assertEqual((receiver.space, sender.space), (0, 40))
+        self.assertEqual(receiver.read(), (b"seven", 40))
+        self.assertEqual((receiver.read(), receiver.space), ((b"", 0), 0))
+        self.settle()
+        self.assertEqual((self.a.state(2, 3, 2).messages, self.a.state(2, 3, 2).bits), (2, 40))
+
+    def test_a_long_text_through_a_small_room(self):
+        receiver, sender = self.connected(room=100)
+        text, got = bytes(it % 251 for it in range(5000)), b""
+        sender.write(text[:1])
+        sender.write(text[1:])
+        self.assertEqual(sender.waits, 8 * 5000 - 96)
+        while len(got) < 5000:
+            self.settle()
+            piece = receiver.read().data
+            self.assertTrue(0 < len(piece) <= 12)
+            got += piece
+        self.assertEqual((got, sender.waits), (text, 0))
+
+    def test_bytes_of_36_bits(self):
+        """Three bytes of 36 bits, through a room of 80: two of them fit."""
+        receiver, sender = self.connected(size=36, room=80)
+        text = bytes.fromhex("123456789abcdef0123456789abcd0")
+        with self.assertRaises(ncp.NotWhole):
+            sender.write(text)
+        sender.write(text, 108)
+        self.assertEqual(sender.waits, 36)
+        self.settle()
+        self.assertEqual(receiver.read(), (bytes.fromhex("123456789abcdef012"), 72))
+        self.settle()
+        self.assertEqual(receiver.read(), (bytes.fromhex("3456789ab0"), 36))
+        # Read at once, the pieces are joined bit by bit.
+        sender.write(text, 36)
+        self.settle()
+        sender.write(ncp.Bits(text, 36))
+        self.settle()
+        self.assertEqual(receiver.read(), (bytes.fromhex("123456789123456789"), 72))
+
+    def test_before_it_opens(self):
+        sender = ncp.Stream(self.a, 2, 3, 2)
+        self.assertEqual((sender.space, sender.is_open, sender.is_over, sender.give(b"hi")), (0, False, False, 0))
+        sender.write(b"hi")
+        self.assertEqual(sender.waits, 16)
+        receiver = ncp.Stream(self.b, 1, 2, 3)
+        self.assertEqual((receiver.read(), receiver.allow(), receiver.is_open), ((b"", 0), 0, False))
+        self.streams = sender, receiver
+        self.settle()
+        self.assertEqual((receiver.read().data, sender.waits), (b"hi", 0))
+
+    def test_what_is_finished_is_delivered_first(self):
+        receiver, sender = self.connected(room=16)
+        sender.write(b"goodbye")
+        sender.finish()
+        with self.assertRaises(ncp.Closing):
+            sender.write(b"?")
+        got = b""
+        for _ in range(10):
+            self.settle()
+            got += receiver.read().data
+        self.assertEqual((got, sender.is_over, receiver.is_over), (b"goodbye", True, True))
+        self.assertEqual(receiver.read(), (b"", 0))
+        with self.assertRaises(ncp.NoEntry):
+            sender.give(b"?")
+        for stream in sender, receiver:
+            stream.close()
+            stream.pump()
+
+    def test_what_is_closed_is_not(self):
+        receiver, sender = self.connected(room=16)
+        sender.write(b"goodbye")
+        sender.close()
+        sender.close()
+        with self.assertRaises(ncp.Closing):
+            sender.write(b"?")
+        self.settle()
+        self.assertEqual((receiver.read().data, sender.is_over, sender.waits), (b"", True, 0))
+        self.settle()
+        self.assertTrue(receiver.is_over)
+        # A request is withdrawn, and a receiver closes at once.
+        for stream in ncp.Stream(self.a, 2, 5, 4), ncp.Stream(self.b, 1, 2, 3):
+            stream.finish()
+            self.settle()
+            self.assertTrue(stream.is_over)
+
+    def test_a_receiver_whose_peer_closes_has_the_rest(self):
+        receiver, sender = self.connected()
+        sender.write(b"the rest")
+        sender.finish()
+        self.settle()
+        self.assertEqual((receiver.is_over, receiver.allow()), (False, 0))
+        self.assertEqual(receiver.read().data, b"the rest")
+        self.settle()
+        self.assertTrue(receiver.is_over and sender.is_over)
+
+    def test_a_reset_is_the_end(self):
+        receiver, sender = self.connected(room=16)
+        sender.write(b"goodbye")
+        self.b.reset(1)
+        self.settle()
+        self.assertEqual((sender.is_over, receiver.is_over, sender.waits, receiver.read()), (True, True, 0, (b"", 0)))
+
+    def test_who_may_not(self):
+        receiver, sender = self.connected()
+        for refusal, call in ((ncp.WrongEnd, lambda: receiver.write(b"x")), (ncp.WrongEnd, lambda: receiver.give(b"x")), (ncp.WrongEnd, sender.read),
+                              (ncp.WrongEnd, sender.allow), (ncp.ShortBytes, lambda: sender.write(b"x", 16)), (ncp.NotWhole, lambda: sender.give(b"x", 7)),
+                              (ncp.AlreadyAsked, lambda: ncp.Stream(self.a, 2, 3, 2)), (ncp.BadSex, lambda: ncp.Stream(self.a, 2, 5, 3)),
+                              (ncp.UnknownPeer, lambda: ncp.Stream(self.a, 3, 5, 2))):
+            with self.assertRaises(refusal):
+                call()
+        # A spare bit that is set does not reach the host.
+        self.assertEqual(sender.give(b"hi\xff", 16), 16)
+
+    def test_a_full_queue_is_for_later(self):
+        """256 commands wait for the peer, since nothing goes out: an ALL and a CLS are made once there is place again."""
+        receiver, sender = self.connected(room=16)
+        sender.write(b"hi")
+        self.settle()
+        for host, peer, at in ((self.b, 1, (2, 3)), (self.a, 2, (3, 2))):
+            with self.assertRaises(ncp.QueueFull):
+                while True:
+                    host.interrupt(peer, *at)
+            self.assertEqual(len(host.waiting(peer)), 256)
+        self.assertEqual((receiver.read().data, receiver.space), (b"hi", 16))
+        sender.finish()
+        self.assertTrue(sender.is_open)
+        self.settle()
+        self.assertTrue(sender.is_over and receiver.is_over)
+
+
+class Words(unittest.TestCase):
+    """What is public has its docstring, and the refusals in it are those of ncp.h."""
+
+    # The functions of ncp.h by their methods, if these have another name.
+    NAMES = {"ncp_new": ncp.Host.__init__, "ncp_subnet_new": ncp.Subnet.__init__, "ncp_command": ncp.commands, "ncp_error": ncp.Host.errors,
+             "ncp_connection_at": ncp.Host.connections}
+    # What a method has no need of: its buffers are long enough, and what is not there is None or an end.
+    OF_C = ("NoPointer", "ShortBuffer", "Nothing")
+
+    def public(self):
+        """What is public, by its name."""
+        found = {name: it for name, it in vars(ncp).items() if not name.startswith("_") and getattr(it, "__module__", "") == "ncp" and callable(it)}
+        for name, kind in [*found.items()]:
+            if isinstance(kind, type):
+                members = {it: value for base in kind.__mro__ if base.__module__ == "ncp" for it, value in vars(base).items()}
+                found.update({f"{name}.{it}": value for it, value in members.items() if not it.startswith("_") and (callable(value) or isinstance(value, (property, classmethod)))})
+        return found
+
+    def test_all_that_is_public_has_a_docstring(self):
+        found = self.public()
+        self.assertGreater(len(found), 80)
+        own = [name for name in found if not name.startswith("Capture")]
+        self.assertEqual([name for name in own if not (found[name].__doc__ or "").strip()], [])
+
+    def method(self, name):
+        """The method of a function of ncp.h, or None."""
+        if name in self.NAMES:
+            return self.NAMES[name]
+        kind, _, name = name.replace("ncp_subnet_", "Subnet.").replace("ncp_", "Host.").partition(".")
+        return getattr(getattr(ncp, kind), name, None)
+
+    def test_each_method_names_the_refusals_of_the_header(self):
+        header = (TOP / "include/ncp.h").read_text(encoding="utf-8")
+        numbers = {name: ncp._NUMBERS.get(int(number)) for name, number in re.findall(r"^    (NCP_\w+) = (\d+),?", header.partition("/* Lengths in bytes")[0], re.M)}
+        compared = []
+        for comment, name in re.findall(r"^/\*((?:(?!\*/).)*)\*/\nuint32_t (ncp_\w+)\(", header, re.M | re.S):
+            errors = re.search(r"\bErrors?(?:, in order)?: (.*)", " ".join(comment.replace(" *", " ").split()))
+            kinds = [numbers.get(it) for it in re.findall(r"NCP_\w+", errors[1] if errors else "")]
+            wanted = [kind.__name__ for kind in kinds if kind and kind.__name__ not in self.OF_C]
+            method = self.method(name)
+            if method:
+                named = re.findall(r"\b[A-Z]\w+", method.__doc__.partition("Refused")[2])
+                self.assertEqual([it for it in named if it in ncp._CLASSES], [*dict.fromkeys(wanted)], name)
+                compared.append(name)
+        # All that return a number, but ncp_name.
+        self.assertEqual(len(compared), len(re.findall(r"^uint32_t ncp_", header, re.M)) - 1)
+
+    def test_each_refusal_has_a_class(self):
+        named = {ncp._ncp.ncp_word(number).decode() for number in range(1, 256)} - {""}
+        self.assertEqual({*ncp._CLASSES}, named)
+
+
+@unittest.skipUnless(shutil.which("mypy"), "there is no mypy")
+class Types(unittest.TestCase):
+    def said(self, *files):
+        """What mypy says of files, in a process of its own, without the settings of who runs it."""
+        words = ["mypy", "--strict", "--config-file=", "--cache-dir=/dev/null", "--python-version=3.9", *files]
+        ran = subprocess.run(words, cwd=HERE, env={**os.environ, "MYPYPATH": str(HERE)}, stdout=subprocess.PIPE, stderr=subprocess.STDOUT, text=True)
+        return ran.stdout.splitlines()
+
+    def test_the_binding_and_the_examples_have_types(self):
+        files = sorted(it.name for it in HERE.glob("*.py") if not it.name.startswith("test_"))
+        self.assertIn("ncp.py", files)
+        self.assertEqual(self.said(*files), [f"Success: no issues found in {len(files)} source files"])
+
+    def test_a_program_that_uses_it_wrongly(self):
+        lines = ("import ncp", "host = ncp.Host(1, [2])", 'host.reset("2")', "message = host.next_output()", "print(message.data)", "host.opened()",
+                 "try:", "    print(host.state(2, 3, 2).bits + 1, host.state(2, 3, 2).bits + '1')", "except (ncp.NoEntry, ncp.NoSuchThing):", "    pass",
+                 "for event in host.events():", "    host.take(*event.at)", "    host.take(event.peer, event.local, 3)")
+        with tempfile.TemporaryDirectory() as room:
+            program = Path(room) / "program.py"
+            program.write_text("\n".join(lines) + "\n", encoding="utf-8")
+            wrong = [int(line.split(":")[1]) for line in self.said(program) if ": error: " in line]
+        self.assertEqual(wrong, [3, 5, 6, 8, 9, 13])
 
 
 class Loading(unittest.TestCase):

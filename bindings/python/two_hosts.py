@@ -7,7 +7,7 @@ A, B, ODD, EVEN = 1, 2, 3, 2
 RFNM, INCOMPLETE = 5, 9
 
 
-def carry(one, other, is_lost=False):
+def carry(one: ncp.Host, other: ncp.Host, is_lost: bool = False) -> bool:
     """Carries the next message of a host to the other, or loses it; its host is told by the network."""
     message = one.next_output()
     if message is None:
@@ -22,12 +22,12 @@ def carry(one, other, is_lost=False):
     return True
 
 
-def settle(a, b):
+def settle(a: ncp.Host, b: ncp.Host) -> None:
     while carry(a, b) | carry(b, a):
         pass
 
 
-def say_state(host, peer, local, remote, name):
+def say_state(host: ncp.Host, peer: int, local: int, remote: int, name: str) -> None:
     try:
         it = host.state(peer, local, remote)
     except ncp.NoEntry:
@@ -37,7 +37,7 @@ def say_state(host, peer, local, remote, name):
           f"messages={it.messages} bits={it.bits} stored={it.stored}")
 
 
-def main():
+def main() -> None:
     a, b = ncp.Host(A, [B]), ncp.Host(B, [A])
     a.reset(B)
     settle(a, b)

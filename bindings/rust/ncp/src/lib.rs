@@ -18,19 +18,27 @@
 //!
 //! A library of another version, or with structs of other sizes, is a panic that says so, at the first host.
 //!
+//! [`Watch`] returns what happens with a peer, event by event; a [`Stream`] is a connection that tracks the space left.
+//!
 //! A host may go from one thread to another, and be read where it is lent; it is not shared by threads.
 #![no_std]
+#![warn(missing_docs)]
 
+mod events;
 mod library;
 mod refusal;
+mod stream;
 mod subnet;
 
 use core::cell::UnsafeCell;
 use ncp_sys as sys;
 pub use ncp_sys::{ncp_changes as Changes, ncp_connection as Connection, ncp_counted as Counted, ncp_discarded as Discarded, ncp_flags as Flags, ncp_noted as Noted};
+pub use events::{Event, Watch};
+use events::Deliveries;
 pub use library::version;
 pub use refusal::Refusal;
 use refusal::{done, found};
+pub use stream::Stream;
 pub use subnet::Subnet;
 
 /// A buffer that has room for each message and each text.
@@ -52,6 +60,7 @@ impl<'a> Bits<'a> {
         Bits { bytes, len }
     }
 
+    /// The bytes: as many as hold the bits.
     pub fn bytes(&self) -> &'a [u8] {
         self.bytes
     }
@@ -61,6 +70,7 @@ impl<'a> Bits<'a> {
         self.len
     }
 
+    /// Whether there is no bit.
     pub fn is_empty(&self) -> bool {
         self.len == 0
     }
@@ -81,8 +91,11 @@ impl<'a, const N: usize> From<&'a [u8; N]> for Bits<'a> {
 /// A connection: the peer, the socket here and the socket there. A socket that sends is odd, and one that receives even.
 #[derive(Clone, Copy, Debug, PartialEq, Eq)]
 pub struct At {
+    /// The host at the other end.
     pub peer: u8,
+    /// The socket here.
     pub local: u32,
+    /// The socket there.
     pub remote: u32,
 }
 
@@ -117,14 +130,19 @@ pub enum What {
 /// the connection to which its link leads, or 0 and 0.
 #[derive(Clone, Copy, Debug, PartialEq, Eq)]
 pub struct Arrived {
+    /// What became of it.
     pub what: What,
+    /// Of a text the socket here, or 0.
     pub local: u32,
+    /// And the socket there.
     pub remote: u32,
     /// Of a control message how many of the commands that were read were ERRs.
     pub errors: u32,
     /// And how many RSTs: each ended all connections with the peer.
     pub resets: u32,
+    /// The host that its leader names.
     pub peer: u8,
+    /// And its link.
     pub link: u8,
     /// The type that its leader names, whatever became of the message: 1, 8 and 10 are an error in a leader, an error in a message, and a
     /// reset of the interface (BBN 1822, section 3).
@@ -157,7 +175,11 @@ impl Arrived {
 pub struct Host {
     // Each call of the library takes the host out of the handle and puts it back, also one that only reads.
     handle: UnsafeCell<sys::ncp_host>,
+    // What a watch has not seen yet.
+    delivered: Deliveries,
 }
+
+const RFNM: u8 = 5;
 
 // SAFETY: the library has no state beside the host, and it asks for one call at a time: `&mut`, and `&` of what is not `Sync`.
 unsafe impl Send for Host {}
@@ -173,7 +195,7 @@ impl Host {
     // A handle that has no host yet.
     fn none() -> Host {
         library::judge();
-        Host { handle: UnsafeCell::new(sys::ncp_host { at: core::ptr::null_mut() }) }
+        Host { handle: UnsafeCell::new(sys::ncp_host { at: core::ptr::null_mut() }), delivered: Deliveries::default() }
     }
 
     /// Refused, in this order: `BadPeers` (not one to eight, not distinct, or one is `me`), `OutOfMemory`.
@@ -188,7 +210,8 @@ impl Host {
     /// Another host in the same state. What happens to one of the two from then on leaves the other as it is. It is no `Clone`, since
     /// it can be refused: `OutOfMemory`.
     pub fn try_clone(&self) -> Result<Host, Refusal> {
-        let copy = Host::none();
+        let mut copy = Host::none();
+        copy.delivered = self.delivered.clone();
         done(unsafe { sys::ncp_copy(self.handle.get(), copy.handle.get()) })?;
         Ok(copy)
     }
@@ -216,11 +239,25 @@ impl Host {
         Ok(host)
     }
 
-    /// A message that came from the IMP, with its leader. Refused: `TooLong`, `ShortBytes`, `SpareNotZero`.
+    /// Gives the host a message that arrived from its IMP, with its leader. Refused, in this order: `TooLong`, `ShortBytes`,
+    /// `SpareNotZero`.
     pub fn receive<'a>(&mut self, message: impl Into<Bits<'a>>) -> Result<Arrived, Refusal> {
         let (message, mut told) = (message.into(), sys::ncp_arrived::default());
+        let may_deliver = self.is_rfnm_of_text(message);
         done(unsafe { sys::ncp_receive(self.handle.get(), message.bytes.as_ptr(), message.bytes.len(), message.len, &mut told) })?;
-        Ok(Arrived::of(told))
+        let arrived = Arrived::of(told);
+        if may_deliver && arrived.what == What::Answered(RFNM.into()) {
+            self.delivered.note(arrived.peer, arrived.link);
+        }
+        Ok(arrived)
+    }
+
+    // Whether it is an RFNM on a link on which a connection sends.
+    fn is_rfnm_of_text(&self, message: Bits<'_>) -> bool {
+        match message.bytes {
+            [kind, peer, link, _, ..] => kind & 15 == RFNM && matches!(self.pair_on(*peer, true, *link), Ok(Some(_))),
+            _ => false,
+        }
     }
 
     /// The message that goes out next, with its leader, if one is ready.
@@ -230,61 +267,75 @@ impl Host {
         (answer == sys::NCP_DONE).then(|| front(buffer, len))
     }
 
+    /// Ends all connections with a peer, and queues an RST once the data links to it are quiet: so a host comes up. Refused, in this order:
+    /// `UnknownPeer`, `Busy` (a reset is under way).
     pub fn reset(&mut self, peer: u8) -> Result<(), Refusal> {
         done(unsafe { sys::ncp_reset(self.handle.get(), peer) })
     }
 
-    /// Asks to send, with so many bits a byte, and room for so many bits that wait.
+    /// Asks to send from an odd socket here to an even one of the peer, in bytes of `size` bits, with room for `room` bits that are queued,
+    /// 1 to 65,536. Refused, in this order: `UnknownPeer`, `NotUp`, `BadSex`, `BadSize`, `BadRoom`, `AlreadyAsked`, `Closing`, `TableFull`,
+    /// `QueueFull`, `OutOfMemory`.
     pub fn ask_send(&mut self, at: At, size: u8, room: u32) -> Result<(), Refusal> {
         done(unsafe { sys::ncp_ask_send(self.handle.get(), at.peer, at.local, at.remote, size, room) })
     }
 
-    /// Asks to receive, with room for so many bits that are held.
+    /// Asks to receive at an even socket here from an odd one of the peer, with room for `room` bits that are held, 1 to 65,536. Refused, in
+    /// this order: `UnknownPeer`, `NotUp`, `BadSex`, `BadRoom`, `AlreadyAsked`, `Closing`, `TableFull`, `QueueFull`, `OutOfMemory`.
     pub fn ask_receive(&mut self, at: At, room: u32) -> Result<(), Refusal> {
         done(unsafe { sys::ncp_ask_receive(self.handle.get(), at.peer, at.local, at.remote, room) })
     }
 
-    /// Gives text to send.
+    /// Queues text to send, whole bytes of the connection's size: all of it, or nothing. Refused, in this order: `TooLong`, `ShortBytes`,
+    /// `SpareNotZero`, `UnknownPeer`, `NotUp`, `NoEntry`, `Closing`, `NotOpen`, `WrongEnd`, `NotWhole`, `NoRoom`.
     pub fn give<'a>(&mut self, at: At, text: impl Into<Bits<'a>>) -> Result<(), Refusal> {
         let text = text.into();
         done(unsafe { sys::ncp_give(self.handle.get(), at.peer, at.local, at.remote, text.bytes.as_ptr(), text.bytes.len(), text.len) })
     }
 
-    /// Takes as many held bytes of the connection as are asked for and fit one message: with `u32::MAX` all that fit.
+    /// Held text, the oldest first: as many whole bytes of the connection's size as are held and fit one message, `bytes` of them at most.
+    /// Refused, in this order: `UnknownPeer`, `NotUp`, `NoEntry`, `Closing`, `NotOpen`, `WrongEnd`.
     pub fn take<'a>(&mut self, at: At, bytes: u32, buffer: &'a mut Buffer) -> Result<Bits<'a>, Refusal> {
         let mut len = 0;
         done(unsafe { sys::ncp_take(self.handle.get(), at.peer, at.local, at.remote, bytes, buffer.as_mut_ptr(), buffer.len(), &mut len) })?;
         Ok(front(buffer, len))
     }
 
-    /// Allows the sender so many messages and bits more.
+    /// Allows the sender so many messages and bits more. Refused, in this order: `UnknownPeer`, `NotUp`, `NoEntry`, `Closing`, `NotOpen`,
+    /// `WrongEnd`, `TooMuch`, `QueueFull`.
     pub fn allocate(&mut self, at: At, messages: u16, bits: u32) -> Result<(), Refusal> {
         done(unsafe { sys::ncp_allocate(self.handle.get(), at.peer, at.local, at.remote, messages, bits) })
     }
 
-    /// Asks the sender to give back 128ths of its messages and of its bits.
+    /// Asks the sender to give back 128ths of its messages and of its bits. Refused, in this order: `UnknownPeer`, `NotUp`, `NoEntry`,
+    /// `Closing`, `NotOpen`, `WrongEnd`, `Busy` (the last one has had no RET), `QueueFull`.
     pub fn call_back(&mut self, at: At, messages: u8, bits: u8) -> Result<(), Refusal> {
         done(unsafe { sys::ncp_call_back(self.handle.get(), at.peer, at.local, at.remote, messages, bits) })
     }
 
+    /// Interrupts the other side. Refused, in this order: `UnknownPeer`, `NotUp`, `NoEntry`, `Closing`, `NotOpen`, `QueueFull`.
     pub fn interrupt(&mut self, at: At) -> Result<(), Refusal> {
         done(unsafe { sys::ncp_interrupt(self.handle.get(), at.peer, at.local, at.remote) })
     }
 
+    /// Closes this side of a connection, or refuses what the peer asks, and drops what is stored. Refused, in this order: `UnknownPeer`,
+    /// `NotUp`, `NoEntry`, `Closing`, `QueueFull`.
     pub fn close(&mut self, at: At) -> Result<(), Refusal> {
         done(unsafe { sys::ncp_close(self.handle.get(), at.peer, at.local, at.remote) })
     }
 
+    /// Asks the peer to echo a byte. Refused, in this order: `UnknownPeer`, `NotUp`, `Busy` (the last one has had no ERP), `QueueFull`.
     pub fn echo(&mut self, peer: u8, byte: u8) -> Result<(), Refusal> {
         done(unsafe { sys::ncp_echo(self.handle.get(), peer, byte) })
     }
 
-    /// Asks for the messages to a peer that are held since their destination was dead: they are to go out again.
+    /// Makes the messages to a peer ready again that are held since their destination was dead. Refused: `UnknownPeer`.
     pub fn wake(&mut self, peer: u8) -> Result<(), Refusal> {
         done(unsafe { sys::ncp_wake(self.handle.get(), peer) })
     }
 
-    /// Takes each message that is out to a peer as not delivered: each is to go out again. For where the IMP was started anew.
+    /// Makes each unanswered message to a peer ready again, for an IMP that restarted and answers nothing that it had. One that had been
+    /// delivered arrives twice then. Refused: `UnknownPeer`.
     pub fn restart(&mut self, peer: u8) -> Result<(), Refusal> {
         done(unsafe { sys::ncp_restart(self.handle.get(), peer) })
     }
@@ -296,15 +347,16 @@ impl Host {
         Ok(told)
     }
 
-    /// What changed of a connection since `seen`, which then is how it stands: `Connection::default()` before the first look.
+    /// What changed of a connection since `seen`, which then is how it is now: `Connection::default()` before the first look. Refused:
+    /// `UnknownPeer`.
     pub fn changes(&self, at: At, seen: &mut Connection) -> Result<Changes, Refusal> {
         let mut told = Changes::default();
         done(unsafe { sys::ncp_changes(self.handle.get(), at.peer, at.local, at.remote, seen, &mut told) })?;
         Ok(told)
     }
 
-    /// The connection with a peer at a place behind the first, in the order of the sockets here; none behind the last. One that was
-    /// heard and not asked is a peer that asks.
+    /// The connection with a peer at an index, from 0, in the order of the sockets here; none past the end. One with `heard` and without
+    /// `asked` is a request of the peer. Refused: `UnknownPeer`.
     pub fn connection_at(&self, peer: u8, place: u32) -> Result<Option<(At, Connection)>, Refusal> {
         let (mut local, mut remote, mut told) = (0, 0, Connection::default());
         let answer = unsafe { sys::ncp_connection_at(self.handle.get(), peer, place, &mut local, &mut remote, &mut told) };
@@ -318,7 +370,8 @@ impl Host {
         Ok(bits)
     }
 
-    /// The connection to which a link leads, if it leads to one: of the end that sends here, or of the one that receives.
+    /// The connection that a link belongs to, if there is one: of the end that sends here, or of the one that receives. Refused:
+    /// `UnknownPeer`.
     pub fn pair_on(&self, peer: u8, sends: bool, link: u8) -> Result<Option<At>, Refusal> {
         let (mut local, mut remote) = (0, 0);
         let answer = unsafe { sys::ncp_pair_on(self.handle.get(), peer, sends, link, &mut local, &mut remote) };
@@ -335,53 +388,54 @@ impl Host {
         unsafe { sys::ncp_is_open(self.handle.get(), at.peer, at.local, at.remote) }
     }
 
-    /// The flags for a peer.
+    /// The flags for a peer: the host is up with it if none is set. Refused: `UnknownPeer`.
     pub fn phase(&self, peer: u8) -> Result<Flags, Refusal> {
         let mut told = Flags::default();
         done(unsafe { sys::ncp_phase(self.handle.get(), peer, &mut told) })?;
         Ok(told)
     }
 
+    /// Whether the host is up with a peer.
     pub fn is_up(&self, peer: u8) -> bool {
         unsafe { sys::ncp_is_up(self.handle.get(), peer) }
     }
 
-    /// The byte of the last ERP that answered an echo, if one did.
+    /// The byte of the last ERP that answered an echo, if one did. Refused: `UnknownPeer`.
     pub fn echoed(&self, peer: u8) -> Result<Option<u8>, Refusal> {
         let mut told = 0;
         let answer = unsafe { sys::ncp_echoed(self.handle.get(), peer, &mut told) };
         Ok(found(answer)?.then_some(told))
     }
 
-    /// The ERR that came from a peer at a place behind the oldest of the last sixteen.
+    /// The ERR from a peer at an index: of the last sixteen, the oldest at 0. Refused: `UnknownPeer`.
     pub fn error(&self, peer: u8, place: u32) -> Result<Option<Noted>, Refusal> {
         let mut told = Noted::default();
         let answer = unsafe { sys::ncp_error(self.handle.get(), peer, place, &mut told) };
         Ok(found(answer)?.then_some(told))
     }
 
-    /// What was counted of what came from a peer.
+    /// How many of what arrived from a peer were of no use. Refused: `UnknownPeer`.
     pub fn counts(&self, peer: u8) -> Result<Counted, Refusal> {
         let mut told = Counted::default();
         done(unsafe { sys::ncp_counts(self.handle.get(), peer, &mut told) })?;
         Ok(told)
     }
 
-    /// What was counted of messages that are of no peer.
+    /// How many messages were of no peer.
     pub fn ignored(&self) -> Discarded {
         let mut told = Discarded::default();
         unsafe { sys::ncp_ignored(self.handle.get(), &mut told) };
         told
     }
 
-    /// The bytes of the command that waits for a peer at a place behind the first.
+    /// The bytes of the command at an index of those that are queued for a peer, the next one at 0.
     pub fn waiting<'a>(&self, peer: u8, place: u32, buffer: &'a mut [u8; sys::NCP_LONGEST_COMMAND]) -> Option<&'a [u8]> {
         let mut len = 0;
         let answer = unsafe { sys::ncp_waiting(self.handle.get(), peer, place, buffer.as_mut_ptr(), buffer.len(), &mut len) };
         (answer == sys::NCP_DONE).then(|| &buffer[..len])
     }
 
-    /// The message to a peer on a link that is not taken yet.
+    /// The message to a peer on a link that has had no RFNM.
     pub fn kept<'a>(&self, peer: u8, link: u8, buffer: &'a mut Buffer) -> Option<Bits<'a>> {
         let mut len = 0;
         let answer = unsafe { sys::ncp_kept(self.handle.get(), peer, link, buffer.as_mut_ptr(), buffer.len(), &mut len) };

@@ -7,32 +7,59 @@ use ncp_sys as sys;
 #[derive(Clone, Copy, Debug, PartialEq, Eq)]
 #[non_exhaustive]
 pub enum Refusal {
+    /// The host has no such peer.
     UnknownPeer,
+    /// The host is not up with the peer.
     NotUp,
+    /// A socket is odd that has to be even, or even that has to be odd: those that send are odd.
     BadSex,
+    /// A byte has 0 bits.
     BadSize,
+    /// A room has not 1 to 65,536 bits.
     BadRoom,
+    /// There is no connection between these sockets, and no request for one.
     NoEntry,
+    /// The connection was asked for here before.
     AlreadyAsked,
+    /// This side has closed the connection, and it is not over yet.
     Closing,
+    /// The connection is not open.
     NotOpen,
+    /// The call is for the other end: of a sender at a receiver, or of a receiver at a sender.
     WrongEnd,
+    /// The text is no whole number of bytes of the size that the connection has.
     NotWhole,
+    /// The last reset, echo or call for allocations has had no answer.
     Busy,
+    /// The text is longer than the room that is left for it.
     NoRoom,
+    /// More is allowed than there is room for, or than a counter counts.
     TooMuch,
+    /// 64 connections with the peer were asked for here.
     TableFull,
+    /// 256 commands, or more, are queued for the peer.
     QueueFull,
+    /// There is no memory for it.
     OutOfMemory,
+    /// A buffer is too short: never in Python.
     ShortBuffer,
+    /// There are more than 8,192 bits.
     TooLong,
+    /// There are fewer bytes than the bits take.
     ShortBytes,
+    /// A spare bit of the last byte is set.
     SpareNotZero,
+    /// The peers are not one to eight, or not distinct, or the host itself is one of them.
     BadPeers,
+    /// The message is shorter than a leader, or not of type 0.
     NotRegular,
+    /// The message is not from one of the subnet's hosts to another.
     NoHost,
+    /// The last message on this link is unanswered.
     Occupied,
+    /// No host is saved as these bytes.
     NotAHost,
+    /// A host is saved so by another version of the library.
     OtherVersion,
     /// A number that the header does not name.
     Unnamed(u32),

@@ -1,6 +1,6 @@
 // SPDX-License-Identifier: MIT
 //! Refusals by their names, what arrived and what is told, and a host that goes to another thread.
-use ncp::{Arrived, At, Bits, Changes, Connection, Host, Refusal, Subnet, What, BUFFER};
+use ncp::{Arrived, At, Bits, Changes, Connection, Event, Host, Refusal, Stream, Subnet, Watch, What, BUFFER};
 
 const RST: [u8; 10] = [0, 2, 0, 0, 0, 8, 0, 1, 0, 12];
 const RFNM: [u8; 4] = [5, 2, 0, 0];
@@ -195,4 +195,188 @@ fn what_changed_is_told_once() {
     assert_eq!(host.changes(at, &mut seen), Ok(Changes::default()));
     assert_eq!(seen, Connection::default());
     assert_eq!(host.changes(At { peer: 9, ..at }, &mut seen), Err(Refusal::UnknownPeer));
+}
+
+/// Two hosts, of which host 1 may send on link 2 from its socket 3 to socket 2 of host 2.
+fn two_with_a_connection() -> ([Host; 2], Subnet) {
+    let mut hosts = [Host::new(1, &[2]).unwrap(), Host::new(2, &[1]).unwrap()];
+    let mut subnet = Subnet::new(&[1, 2]).unwrap();
+    hosts[0].reset(2).unwrap();
+    settle(&mut hosts, &mut subnet);
+    hosts[1].ask_receive(THERE, 400).unwrap();
+    hosts[0].ask_send(AT, 8, 400).unwrap();
+    settle(&mut hosts, &mut subnet);
+    hosts[1].allocate(THERE, 9, 400).unwrap();
+    settle(&mut hosts, &mut subnet);
+    (hosts, subnet)
+}
+
+const THERE: At = At { peer: 1, local: 2, remote: 3 };
+
+/// All messages that go out are delivered and answered, until there is none.
+fn settle(hosts: &mut [Host; 2], subnet: &mut Subnet) {
+    let mut has_moved = true;
+    while has_moved {
+        has_moved = false;
+        for from in 0..2 {
+            let mut buffer = BUFFER;
+            let Some(message) = hosts[from].next_output(&mut buffer) else { continue };
+            let (sender, to, link) = (from as u8 + 1, message.bytes()[1], message.bytes()[2]);
+            subnet.accept(sender, message).unwrap();
+            hosts[1 - from].receive(subnet.deliver(sender, to, link, &mut BUFFER.clone()).unwrap()).unwrap();
+            hosts[from].receive(subnet.answer(sender, to, link, &mut BUFFER.clone()).unwrap()).unwrap();
+            has_moved = true;
+        }
+    }
+}
+
+fn events(watch: &mut Watch, host: &mut Host) -> Vec<Event> {
+    std::iter::from_fn(|| watch.next_event(host)).collect()
+}
+
+#[test]
+fn each_text_is_an_event_at_both_ends() {
+    let (mut hosts, mut subnet) = two_with_a_connection();
+    let mut watches = [Watch::new(2), Watch::new(1)];
+    assert_eq!(events(&mut watches[0], &mut hosts[0]), [Event::Up, Event::Opened(AT), Event::Allowed(AT)]);
+    assert_eq!(events(&mut watches[1], &mut hosts[1]), [Event::Up, Event::Opened(THERE)]);
+    for _ in 0..3 {
+        hosts[0].give(AT, b"hello").unwrap();
+        settle(&mut hosts, &mut subnet);
+        assert_eq!(events(&mut watches[0], &mut hosts[0]), [Event::Delivered(AT)]);
+        let mut text = Vec::new();
+        while let Some(event) = watches[1].next_event(&mut hosts[1]) {
+            assert_eq!(event, Event::Text(THERE));
+            text.extend_from_slice(hosts[1].take(THERE, u32::MAX, &mut BUFFER.clone()).unwrap().bytes());
+        }
+        assert_eq!(text, b"hello");
+    }
+    // It closes here, with a text out: that is delivered before the end.
+    hosts[0].give(AT, b"hi").unwrap();
+    let mut buffer = BUFFER;
+    let copy = hosts[0].next_output(&mut buffer).map(|it| it.bytes().to_vec()).unwrap();
+    assert_eq!(copy, [0, 2, 2, 0, 0, 8, 0, 2, 0, b'h', b'i']);
+    hosts[0].close(AT).unwrap();
+    assert_eq!(events(&mut watches[0], &mut hosts[0]), []);
+    hosts[0].receive(&[5, 2, 2, 0]).unwrap();
+    settle(&mut hosts, &mut subnet);
+    assert_eq!(events(&mut watches[0], &mut hosts[0]), [Event::Delivered(AT), Event::Closed(AT)]);
+    assert_eq!(events(&mut watches[1], &mut hosts[1]), [Event::Ended(THERE)]);
+}
+
+#[test]
+fn a_delivery_is_seen_though_the_next_text_is_out() {
+    let (mut hosts, _) = two_with_a_connection();
+    let (host, mut watch, mut buffer) = (&mut hosts[0], Watch::new(2), BUFFER);
+    assert_eq!(events(&mut watch, host).len(), 3);
+    host.give(AT, &[7; 50]).unwrap();
+    assert!(host.next_output(&mut buffer).is_some());
+    // An Incomplete Transmission is no delivery.
+    host.receive(&[9, 2, 2, 0]).unwrap();
+    assert!(host.next_output(&mut buffer).is_some());
+    assert_eq!(events(&mut watch, host), []);
+    host.receive(&[5, 2, 2, 0]).unwrap();
+    assert!(!host.state(AT).unwrap().busy);
+    // The receiver had room for all 50 bytes and the sender for no more; it allows as much again.
+    host.receive(&[0, 2, 0, 0, 0, 8, 0, 8, 0, 4, 2, 0, 1, 0, 0, 1, 144]).unwrap();
+    host.give(AT, b"more").unwrap();
+    assert!(host.next_output(&mut buffer).is_some());
+    let (mut copy, mut other) = (host.try_clone().unwrap(), watch.clone());
+    assert_eq!(events(&mut watch, host), [Event::Allowed(AT), Event::Delivered(AT)]);
+    assert_eq!(events(&mut other, &mut copy), [Event::Allowed(AT), Event::Delivered(AT)]);
+    // What answers nothing is no delivery, nor is an RFNM of the control link.
+    host.receive(&[5, 2, 3, 0]).unwrap();
+    host.receive(&[5, 2, 0, 0]).unwrap();
+    host.receive(&[5]).unwrap();
+    assert_eq!(events(&mut watch, host), []);
+}
+
+#[test]
+fn a_message_that_is_held_is_an_event() {
+    let (mut host, mut watch, mut buffer) = (Host::new(1, &[4, 2]).unwrap(), Watch::new(2), BUFFER);
+    host.reset(2).unwrap();
+    for _ in 0..2 {
+        assert!(host.next_output(&mut buffer).is_some());
+        host.receive(&[7, 2, 0, 0]).unwrap();
+        assert_eq!(watch.next_event(&mut host), Some(Event::Held));
+        host.wake(2).unwrap();
+        assert_eq!(watch.next_event(&mut host), None);
+    }
+    assert_eq!(Watch::new(4).next_event(&mut host), None);
+    // It comes up, and an echo is answered: by a byte, the same one, and another.
+    assert!(host.next_output(&mut buffer).is_some());
+    host.receive(&RFNM).unwrap();
+    host.receive(&[0, 2, 0, 0, 0, 8, 0, 1, 0, 13]).unwrap();
+    assert_eq!(events(&mut watch, &mut host), [Event::Up]);
+    for (byte, wanted) in [(65, vec![Event::Echoed(65)]), (65, vec![]), (66, vec![Event::Echoed(66)])] {
+        host.echo(2, byte).unwrap();
+        assert!(host.next_output(&mut buffer).is_some());
+        host.receive(&RFNM).unwrap();
+        host.receive(&[0, 2, 0, 0, 0, 8, 0, 2, 0, 10, byte]).unwrap();
+        assert_eq!(events(&mut watch, &mut host), wanted);
+    }
+    host.reset(2).unwrap();
+    assert_eq!(events(&mut watch, &mut host), [Event::Down]);
+}
+
+#[test]
+fn each_end_of_a_connection_is_an_event() {
+    let (mut host, mut watch) = (up(), Watch::new(2));
+    let cls = [0, 2, 0, 0, 0, 8, 0, 9, 0, 3, 0, 0, 0, 2, 0, 0, 0, 3];
+    let rts = [0, 2, 0, 0, 0, 8, 0, 10, 0, 1, 0, 0, 0, 2, 0, 0, 0, 3, 2];
+    assert_eq!(events(&mut watch, &mut host), [Event::Up]);
+    host.receive(&rts).unwrap();
+    assert_eq!(events(&mut watch, &mut host), [Event::Asks(AT)]);
+    host.ask_send(AT, 8, 64).unwrap();
+    // An INR, and the CLS.
+    host.receive(&[0, 2, 0, 0, 0, 8, 0, 2, 0, 7, 2]).unwrap();
+    assert_eq!(events(&mut watch, &mut host), [Event::Opened(AT), Event::Interrupted(AT)]);
+    host.receive(&cls).unwrap();
+    assert_eq!(events(&mut watch, &mut host), [Event::Ended(AT)]);
+    host.ask_send(AT, 8, 64).unwrap();
+    assert_eq!(events(&mut watch, &mut host), []);
+    host.receive(&cls).unwrap();
+    assert_eq!(events(&mut watch, &mut host), [Event::Refused(AT)]);
+}
+
+#[test]
+fn a_stream_gives_and_allows_what_fits() {
+    let (mut hosts, mut subnet) = two_with_a_connection();
+    let (at, there) = (At { local: 5, remote: 4, ..AT }, At { peer: 1, local: 4, remote: 5 });
+    let sender = Stream::send(&mut hosts[0], at, 36, 80).unwrap();
+    let receiver = Stream::receive(&mut hosts[1], there, 80, 2).unwrap();
+    assert_eq!((sender.at(), sender.space(&hosts[0]), receiver.allow(&mut hosts[1])), (at, 0, Ok(0)));
+    // Three bytes of 36 bits, of which two fit.
+    let text = [0x12, 0x34, 0x56, 0x78, 0x9a, 0xbc, 0xde, 0xf0, 0x12, 0x34, 0x56, 0x78, 0x9a, 0xbf];
+    assert_eq!(sender.give(&mut hosts[0], Bits::new(&text, 108), 0), Ok(0));
+    settle(&mut hosts, &mut subnet);
+    assert_eq!((receiver.space(&hosts[1]), receiver.allow(&mut hosts[1]), receiver.allow(&mut hosts[1])), (80, Ok(80), Ok(0)));
+    assert_eq!(sender.give(&mut hosts[0], Bits::new(&text, 108), 0), Ok(72));
+    assert_eq!((sender.space(&hosts[0]), sender.give(&mut hosts[0], Bits::new(&text, 108), 72)), (8, Ok(0)));
+    settle(&mut hosts, &mut subnet);
+    assert_eq!(hosts[0].state(at).unwrap().messages, 1);
+    assert_eq!(hosts[1].take(there, u32::MAX, &mut BUFFER.clone()), Ok(Bits::new(&text[..9], 72)));
+    assert_eq!((receiver.space(&hosts[1]), receiver.allow(&mut hosts[1])), (72, Ok(72)));
+    settle(&mut hosts, &mut subnet);
+    assert_eq!(hosts[0].state(at).unwrap().messages, 2);
+    // The last byte begins in the middle of one of 8 bits if the first two are left out by 36.
+    assert_eq!(sender.give(&mut hosts[0], Bits::new(&text, 108), 36), Ok(72));
+    settle(&mut hosts, &mut subnet);
+    let shifted = [0xab, 0xcd, 0xef, 0x01, 0x23, 0x45, 0x67, 0x89, 0xab];
+    assert_eq!(hosts[1].take(there, u32::MAX, &mut BUFFER.clone()), Ok(Bits::new(&shifted, 72)));
+    for (refusal, answer) in [
+        (Refusal::ShortBytes, sender.give(&mut hosts[0], Bits::new(&text, 144), 0)),
+        (Refusal::NotWhole, sender.give(&mut hosts[0], Bits::new(&text, 40), 0)),
+        (Refusal::WrongEnd, receiver.give(&mut hosts[1], Bits::new(&text, 36), 0)),
+        (Refusal::WrongEnd, sender.allow(&mut hosts[0]).map(|it| it as usize)),
+        (Refusal::AlreadyAsked, Stream::send(&mut hosts[0], at, 8, 80).map(|_| 0)),
+    ] {
+        assert_eq!(answer, Err(refusal));
+    }
+    assert_eq!(sender.give(&mut hosts[0], Bits::new(&text, 36), 72), Ok(0));
+    hosts[0].close(at).unwrap();
+    assert_eq!(sender.give(&mut hosts[0], Bits::new(&text, 36), 0), Err(Refusal::Closing));
+    settle(&mut hosts, &mut subnet);
+    assert_eq!(sender.give(&mut hosts[0], Bits::new(&text, 36), 0), Err(Refusal::NoEntry));
+    assert_eq!((sender.space(&hosts[0]), receiver.allow(&mut hosts[1])), (0, Ok(0)));
 }
