@@ -155,9 +155,9 @@ BODIES = (
     ("bytes that are moved over themselves", "local.get 0; i64.const 1; i64.add; local.get 0; i64.const 7; memory.copy; local.get 0; i64.load", 0, 0x0605040302010000),
     ("bytes that are filled", "local.get 0; i32.const 0x1ab; i64.const 3; memory.fill; local.get 0; i64.load", 0, 0x0706050403ababab),
     ("a comparison as a number", "local.get 1; i64.eqz; i32.const 5; i32.add; i64.extend_i32_u", 0, 6),
-    ("a local with itself", "local.get 1; local.get 1; i64.eq; local.get 1; local.get 1; i64.lt_u; i32.add; i64.extend_i32_u", 3, 1),
+    ("a local with itself", "local.get 1; local.get 1; i64.eq; i32.const 2; i32.mul; local.get 1; local.get 1; i64.lt_u; i32.add; i64.extend_i32_u", 3, 2),
 )
-# What is refused: a word of why, and the module.
+# A function for modules that are refused.
 LITTLE = function([], [I64], "i64.const 1")
 
 
