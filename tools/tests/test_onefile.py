@@ -1,6 +1,7 @@
 """onefile/maker writes a module of WebAssembly as C that computes what the instructions say, and refuses what it does not know. The modules
 are put together here, instruction by instruction, and what they return was worked out by hand."""
 import os
+import re
 import shutil
 import subprocess
 import sys
@@ -241,10 +242,24 @@ class Onefile(unittest.TestCase):
         self.assertNotIn("clap", text)
         self.assertNotIn("Unicode", text)
 
+    def test_each_function_is_called(self):
+        """By what onefile/try runs over the file: so each is compared with the native library, or with what it is to do."""
+        texts = []
+        for path in "examples/embed/digest.c", "include/fuzz/calls.c", "onefile/lent.c", "onefile/lent_digest.c":
+            with open(os.path.join(TOP, path), encoding="utf-8") as source:
+                texts.append(source.read())
+        with open(os.path.join(TOP, "include/ncp.h"), encoding="utf-8") as header:
+            functions = re.findall(r"^[\w ]+[ *](ncp_\w+)\([^;]*\);$", header.read(), re.M)
+        self.assertGreater(len(functions), 48)
+        self.assertEqual([it for it in functions if not re.search(rf"\b{it}\(", "".join(texts))], [])
+
     def test_usage(self):
-        for words in ([], ["--module"], ["--from", "one"], ["--other"], ["one", "two"]):
-            ran = subprocess.run([f"{TOP}/onefile/build", *words], stdout=subprocess.PIPE, stderr=subprocess.PIPE, text=True)
-            self.assertEqual((ran.returncode, ran.stdout, ran.stderr.split(":")[0]), (2, "", "usage"), words)
+        rows = {"build": ([], ["--module"], ["--from", "one"], ["--other"], ["one", "two"]), "try": (["no such file"], ["one", "two"]), "fuzz": (["x"], ["1", "2", "3"]),
+                "faults": (["x"], ["1", "2", "3", "4"])}
+        for name, each in rows.items():
+            for words in each:
+                ran = subprocess.run([f"{TOP}/onefile/{name}", *words], stdout=subprocess.PIPE, stderr=subprocess.PIPE, text=True)
+                self.assertEqual((ran.returncode, ran.stdout, ran.stderr.split(":")[0]), (2, "", "usage"), (name, words))
 
 
 if not shutil.which("cc"):
