@@ -459,6 +459,22 @@ const char *ncp_word(uint32_t code);
 /* The version of the library: the NCP_VERSION with which it was built. */
 const char *ncp_version(void);
 
+/* A host in memory that you lend. These two are in ncp.c alone, the library as one C file, if NCP_IN is defined when it
+ * and what calls them are compiled. */
+#ifdef NCP_IN
+/* How many bytes are enough for a host of `count` peers while at most `connections` connections that were asked for here
+ * have room, `room` bits each. 0 if no host has so many peers. Rooms of several sizes may want more. */
+size_t ncp_size(size_t count, size_t connections, uint32_t room);
+
+/* Makes a host as ncp_new does, in `size` bytes of memory that you lend: do not touch them before ncp_free. All that is
+ * allocated for this host later is of them too, and what is freed is used again. If they are full, the call that needs
+ * more returns its error for lack of memory. So do ncp_copy, whose copy is in the same memory, ncp_load, which needs room
+ * for both hosts for a while, and ncp_save, which needs some four times what it writes. Hosts in the same memory count as
+ * one for threads. `host` has to be empty.
+ * Errors, in order: NCP_BUSY (`host` is not empty), NCP_NEW_BAD_PEERS, NCP_NEW_OUT_OF_MEMORY (`size` is too small). */
+uint32_t ncp_new_in(struct ncp_host *host, uint8_t me, const uint8_t *peers, size_t count, void *memory, size_t size);
+#endif
+
 /* The structs above by their names, in their order: NCP_STRUCTS(EACH) is EACH(ncp_host) EACH(ncp_subnet) and so on. */
 #define NCP_STRUCTS(EACH) \
     EACH(ncp_host) EACH(ncp_subnet) EACH(ncp_arrived) EACH(ncp_flags) EACH(ncp_counted) EACH(ncp_discarded) EACH(ncp_noted) \

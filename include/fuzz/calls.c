@@ -5,6 +5,7 @@
 #include "ncp_capture.h"
 #include "ncp_events.h"
 #include "dice.h"
+#define SIZE_OF(name) sizeof(struct name),
 
 /* The first three hosts have their places as numbers and one another as peers; the last is any. */
 enum { TALK = 3, HOSTS = 4, MARK = 0xa5, KEPT = 16, LONGEST_SAVE = 65536, MOST_EVENTS = 4096 };
@@ -360,6 +361,28 @@ static void heap(void)
     rattle_dealloc(then.is_there ? then.block : first.block);
 }
 
+/* The names of all numbers, in both forms, and what the library says of itself. */
+static void names(void)
+{
+    const size_t sizes[] = {NCP_STRUCTS(SIZE_OF) 0};
+    for (uint32_t code = 0; code < 256; code++) {
+        const char *word = ncp_word(code);
+        const size_t letters = strlen(word);
+        char *name = (char *)block_of(letters);
+        size_t len = MARK;
+        if (letters == 0) {
+            HOLDS(ncp_name(code, name, 0, &len) == NCP_NOTHING && len == MARK);
+        } else {
+            HOLDS(ncp_name(code, name, letters - 1, &len) == NCP_SHORT_BUFFER && len == MARK);
+            HOLDS(ncp_name(code, name, letters, &len) == NCP_DONE && len == letters && memcmp(name, word, letters) == 0);
+            HOLDS(letters <= NCP_LONGEST_NAME);
+        }
+        free(name);
+    }
+    HOLDS(strcmp(ncp_version(), NCP_VERSION) == 0);
+    for (size_t place = 0; place < sizeof sizes / sizeof *sizes; place++) HOLDS(ncp_sizes()[place] == sizes[place]);
+}
+
 static void step(void)
 {
     const uint32_t local = a_socket(), remote = local ^ (one_in(8) ? (uint32_t)pick(8) : 1);
@@ -387,6 +410,7 @@ int main(int argc, char **argv)
     static const uint8_t numbers[] = {1, 2, 3};
     file = fopen("/dev/null", "wb");
     if (file == NULL || !ncp_capture_begin(file)) return 1;
+    names();
     for (unsigned place = 0; place < TALK; place++) begin(place);
     HOLDS(ncp_subnet_new(&subnet, numbers, TALK) == NCP_DONE);
     for (input = 1; input <= inputs; input++) step();

@@ -22,7 +22,7 @@ echo rt 4.4.4
 # Each step says its name and how nice it is, and fails where FAILS has its name, or where FAILS_ONCE has it the first time.
 STEP = """#!/bin/sh
 name=${0##*/}
-case $0 in */fuzz/run) name=random ;; */web/test) name=page ;; */prebuild) [ "$1" != --again ] || name=again ;; esac
+case $0 in */fuzz/run) name=random ;; */web/test) name=page ;; */onefile/fuzz) name=functions ;; */prebuild) [ "$1" != --again ] || name=again ;; esac
 echo "$name $* at $(nice)"
 case " $LEAVES_OUT " in *" $name "*) echo "aarch64: left out, since its compiler is not there" ;; esac
 grep -q "^$name" "$ROOM/asked" 2>/dev/null && FAILS_ONCE=
@@ -30,7 +30,7 @@ echo "$name $*" >>"$ROOM/asked"
 case " $FAILS $FAILS_ONCE " in *" $name "*) exit 1 ;; esac
 """
 STEPS = ("ncp", "tools/try_launcher", "examples/compare", "tools/try_habits", "examples/embed/run", "bindings/test", "tools/index", "tools/words", "wireshark/test",
-         "wireshark/fuzz", "include/fuzz/run", "web/build", "web/test", "web/test_arrivals", "tools/prebuild", "tools/mutants", "tools/prove")
+         "wireshark/fuzz", "include/fuzz/run", "onefile/try", "onefile/fuzz", "web/build", "web/test", "web/test_arrivals", "tools/prebuild", "tools/mutants", "tools/prove")
 COMMANDS = ("cc", "clang", "valgrind", "tshark", "sharkd", "lua5.2")
 NONE = """import unittest
 
@@ -91,9 +91,17 @@ class Gate(unittest.TestCase):
         for line in "embed/run --prebuilt", "bindings/test", "wireshark/test", "wireshark/fuzz", "web/test":
             self.assertIn(f"| $ {'examples/' if line.startswith('embed') else ''}{line}", said)
         self.assertIn("at 19\n", said)
-        for name in "try_launcher", "compare", "try_habits", "run", "random", "fuzz", "index", "words", "page":
+        for name in "try_launcher", "compare", "try_habits", "run", "random", "try", "functions", "fuzz", "index", "words", "page":
             self.assertEqual(self.asked(name), 1, said)
         self.assertNotIn("unproved", said)
+
+    def test_everywhere(self):
+        status, said, _ = self.said(sys.executable, "test", "everywhere")
+        self.assertEqual(status, 0, said)
+        self.assertIn("\ntry --everywhere at ", said)
+        self.assertIn("\nfunctions --everywhere 1 at ", said)
+        for fails in "try", "functions":
+            self.assertEqual(self.said(sys.executable, "test", "everywhere", FAILS=fails)[0], 1)
 
     def test_a_gate_that_fails(self):
         self.assertEqual(self.gate(VERDICT="6 passed, 1 failed", STATUS="1")[::2], (1, "6 passed, 1 failed"))

@@ -34,6 +34,7 @@ def module():
     with mock.patch.object(sys, "dont_write_bytecode", True):
         loader.exec_module(found)
     found.WANTED = (("one", "of-one", "c"), ("two", "of-two", "page"))
+    found.WANTED_EVERYWHERE = (("three", "of-three", "everywhere"),)
     if os.environ.get("FAULT") == "slow":
         found.APT_GET = tuple("1" if it == f"{found.SECONDS}" else it for it in found.APT_GET)
     return found
@@ -74,6 +75,14 @@ class Needing(unittest.TestCase):
         self.put("one")
         self.assertEqual(self.need("--install"), (0, ["tools/need: installing of-two"]))
         self.assertEqual(self.asked(), ["of-two"])
+
+    def test_what_is_wanted_everywhere(self):
+        for name in "one", "two":
+            self.put(name)
+        self.assertEqual(self.need("--everywhere"), (1, ["tools/need: three is not here: of-three, for everywhere"]))
+        self.assertEqual(self.need("--everywhere", "--install")[1][0], "tools/need: installing of-three")
+        self.put("three")
+        self.assertEqual(self.need("--everywhere"), (0, []))
 
     def test_no_registry(self):
         for fault in "unreached", "lost", "slow":

@@ -27,6 +27,9 @@ cd "$(dirname "$0")/.." || exit
 [ "$1" != --module ] || { cat crates/ncp_web/src/lib.rt >"$2" && echo "$REMARK" >>"$2"; exit; }
 echo page >web/ncp.html
 """
+ONE_FILE = """#!/bin/sh
+cat "$(dirname "$0")/../crates/ncp_embed/src/lib.rt" >"$1" && "$(dirname "$0")/../tools/prebuild" --sources ncp.c >>"$1" && echo "$REMARK" >>"$1"
+"""
 PROGRAM = """#!/bin/sh
 # {remark}
 echo {answer} "$@"
@@ -65,7 +68,8 @@ class Prebuilding(unittest.TestCase):
         os.makedirs(f"{self.top}/.git")
         write(f"{self.top}/include/library", LIBRARY, 0o755)
         write(f"{self.top}/web/build", PAGE, 0o755)
-        for name in ("ncp.h", "ncp.c", "heap.c"):
+        write(f"{self.top}/onefile/build", ONE_FILE, 0o755)
+        for name in ("ncp.h", "checks.c", "heap.c"):
             write(f"{self.top}/include/{name}", f"/* {name} */\n")
         write(f"{self.top}/crates.txt", CRATES)
         write(f"{self.top}/crates/ncp/src/main.rt", "code\n")
@@ -79,6 +83,13 @@ class Prebuilding(unittest.TestCase):
         """Builds the program, after all sources were touched."""
         time.sleep(0.01)
         write(f"{self.top}/crates/ncp/out/ncp", PROGRAM.format(remark=remark, answer=answer), 0o755)
+
+    def text_of(self, name):
+        """What a file has, or None."""
+        if not os.path.exists(f"{self.top}/{name}"):
+            return None
+        with open(f"{self.top}/{name}", encoding="utf-8") as file:
+            return file.read()
 
     def prebuild(self, *words, **environment):
         """The status of tools/prebuild, and what it said."""
@@ -124,6 +135,20 @@ class Prebuilding(unittest.TestCase):
         self.assertEqual(self.prebuild("--has", "ncp.wasm")[0], 0)
         write(f"{self.top}/web/module/heap.c", "other code\n")
         self.assertEqual([self.prebuild("--has", name)[0] for name in ("ncp", "ncp.wasm", "libncp.a")], [0, 1, 0])
+
+    def test_what_the_one_file_is_made_of(self):
+        """The file has the sum of its sources inside; another way of writing it is another source."""
+        write(f"{self.top}/onefile/maker/heap.h", "code\n")
+        self.prebuild()
+        with open(f"{self.top}/prebuilt/ncp.c", encoding="utf-8") as file:
+            self.assertEqual(file.read(), f"code of the library\n{self.prebuild('--sources', 'ncp.c')[1]}\n")
+        for name in "onefile/maker/heap.h", "include/checks.c", "tools/proved_module.py", "web/module/wide.c", "THIRD-PARTY.md":
+            self.assertEqual(self.prebuild("--has", "ncp.c")[0], 0)
+            before = self.text_of(name)
+            write(f"{self.top}/{name}", "other code\n")
+            self.assertEqual(self.prebuild("--has", "ncp.c")[0], 1, name)
+            os.remove(f"{self.top}/{name}") if before is None else write(f"{self.top}/{name}", before)
+        self.assertEqual(self.prebuild("--has", "ncp.c")[0], 0)
 
     def test_each_target_has_its_archive(self):
         self.prebuild()
@@ -188,11 +213,11 @@ class Prebuilding(unittest.TestCase):
     def test_all_is_made_again_once(self):
         self.prebuild()
         status, said = self.prebuild("--again")
-        self.assertEqual((status, said.count("was made again, and is the same bytes")), (0, 5), said)
+        self.assertEqual((status, said.count("was made again, and is the same bytes")), (0, 6), said)
         status, said = self.prebuild("--again")
-        self.assertEqual((status, said.count("made again here before")), (0, 3), said)
+        self.assertEqual((status, said.count("made again here before")), (0, 4), said)
         status, said = self.prebuild("--all")
-        self.assertEqual((status, said.count("was made again, and is the same bytes")), (0, 5), said)
+        self.assertEqual((status, said.count("was made again, and is the same bytes")), (0, 6), said)
         self.assertIn("prebuilt/ncp is of these sources, and the same bytes as here", said)
 
     def test_a_file_that_was_swapped_with_its_sum(self):
@@ -213,17 +238,17 @@ class Prebuilding(unittest.TestCase):
         self.assertEqual(self.prebuild("--again")[0], 1)
         self.prebuild()
         status, said = self.prebuild("--again")
-        self.assertEqual((status, said.count("made again here before"), said.count("was made again, and is the same bytes")), (0, 2, 1), said)
+        self.assertEqual((status, said.count("made again here before"), said.count("was made again, and is the same bytes")), (0, 3, 1), said)
 
     def test_made_again_by_another_kit(self):
         self.prebuild()
         self.prebuild("--again")
         self.kit = "kit two"
         status, said = self.prebuild("--again")
-        self.assertEqual((status, said.count("was made again, and is the same bytes")), (0, 5), said)
+        self.assertEqual((status, said.count("was made again, and is the same bytes")), (0, 6), said)
         self.kit = "kit three"
         status, said = self.prebuild("--again", REMARK=" by kit three")
-        self.assertEqual((status, said.count("is other bytes than")), (1, 5), said)
+        self.assertEqual((status, said.count("is other bytes than")), (1, 6), said)
 
     def test_made_again_without_a_compiler(self):
         self.prebuild()

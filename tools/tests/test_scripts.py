@@ -77,7 +77,7 @@ class Library(Scripts):
 
     def setUp(self):
         super().setUp()
-        self.copy("include/install", "include/ncp.h", "include/ncp_capture.h", "include/ncp_events.h")
+        self.copy("include/install", "include/ncp.h", "include/ncp_capture.h", "include/ncp_events.h", "include/ncp_output.h")
         write(f"{self.top}/tools/prebuild", HAS, 0o755)
         for at in "", "aarch64/":
             write(f"{self.top}/prebuilt/{at}libncp.a", "archive\n")

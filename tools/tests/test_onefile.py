@@ -1,0 +1,270 @@
+"""onefile/maker writes a module of WebAssembly as C that computes what the instructions say, and refuses what it does not know. The modules
+are put together here, instruction by instruction, and what they return was worked out by hand."""
+import os
+import re
+import shutil
+import subprocess
+import sys
+import tempfile
+import unittest
+
+TOP = os.path.dirname(os.path.dirname(os.path.dirname(os.path.abspath(__file__))))
+sys.path.insert(0, os.path.join(TOP, "onefile", "maker"))
+import file
+import shim
+import wasm
+from translation import Translation
+
+I32, I64 = wasm.I32, wasm.I64
+CODES = {name: (code, after) for code, (name, after) in wasm.CODES.items()}
+FIRST = 65536
+
+
+def signed(value):
+    found = bytearray()
+    while True:
+        part, value = value & 0x7F, value >> 7
+        if (value, part & 0x40) in ((0, 0), (-1, 0x40)):
+            return bytes([*found, part])
+        found.append(part | 0x80)
+
+
+def unsigned(value):
+    found = bytearray()
+    while value > 0x7F:
+        found.append(value & 0x7F | 0x80)
+        value >>= 7
+    return bytes([*found, value])
+
+
+def vector(parts):
+    parts = list(parts)
+    return unsigned(len(parts)) + b"".join(parts)
+
+
+def named(text):
+    return unsigned(len(text)) + text.encode()
+
+
+def section(number, data):
+    return bytes([number]) + unsigned(len(data)) + data
+
+
+def instruction(text):
+    """`i64.const 5` as bytes; `memory.copy` and `memory.fill` have theirs."""
+    name, *words = text.split()
+    long = {"memory.copy": b"\xfc\x0a\0\0", "memory.fill": b"\xfc\x0b\0"}
+    if name in long:
+        return long[name]
+    code, after = CODES[name]
+    if after == wasm.BLOCK:
+        return bytes([code, {"": wasm.EMPTY, "i32": I32, "i64": I64}["".join(words)]])
+    values = [int(it, 0) for it in words]
+    if after == wasm.LABELS:
+        return bytes([code]) + vector(map(unsigned, values[:-1])) + unsigned(values[-1])
+    if after == wasm.PLACE:
+        return bytes([code, 0]) + unsigned(values[0] if values else 0)
+    if after == wasm.NUMBER:
+        bits = 32 if name.startswith("i32") else 64
+        return bytes([code]) + signed((values[0] + (1 << (bits - 1))) % (1 << bits) - (1 << (bits - 1)))
+    return bytes([code]) + b"".join(map(unsigned, values))
+
+
+def function(params, result, text, kinds=()):
+    """A function of a module: its type, and its body of instructions with semicolons between them."""
+    code = b"".join(instruction(it) for it in [*filter(None, map(str.strip, text.split(";"))), "end"])
+    body = vector(unsigned(1) + bytes([it]) for it in kinds) + code
+    return bytes([wasm.FUNCTION]) + vector(bytes([it]) for it in params) + vector(bytes([it]) for it in result), unsigned(len(body)) + body
+
+
+def module(functions, memory=4, data=b"", segment=".rodata", end=0, relocated=(), more=b""):
+    types, bodies = zip(*functions)
+    exports = [named(f"f{at}") + bytes([0]) + unsigned(at) for at in range(len(bodies))] + [named("__data_end") + b"\x03\x01"]
+    globals_ = [bytes([I64, 1, 0x42]) + signed(FIRST) + b"\x0b", bytes([I64, 0, 0x42]) + signed(end or FIRST + len(data)) + b"\x0b"]
+    segments = [b"\0\x42" + signed(FIRST) + b"\x0b" + unsigned(len(data)) + data] if data else []
+    names = named("name") + section(wasm.SEGMENT_NAMES, vector([b"\0" + named(segment)] if data else []))
+    relocs = named("reloc.DATA") + unsigned(6) + vector(b"\x10" + unsigned(it) + b"\0\0" for it in relocated)
+    return wasm.MAGIC + b"".join([section(1, vector(types)), section(3, vector(unsigned(at) for at in range(len(types)))), section(5, bytes([1, memory, 2])),
+                                  section(6, vector(globals_)), section(7, vector(exports)), section(10, vector(bodies)), section(11, vector(segments)),
+                                  section(0, names), section(0, relocs), more])
+
+
+def text_of(data):
+    return Translation(wasm.Module(data), "").text()
+
+
+def computed(functions, calls, **how):
+    """What calls of the functions return, as C. `m` is an address of 64 bytes that are their own numbers."""
+    with open(os.path.join(TOP, "onefile", "maker", "numbers.h"), encoding="utf-8") as numbers:
+        text = numbers.read() + text_of(module(functions, **how))
+    lines = "".join(f'    printf("%llx\\n", (unsigned long long){it});\n' for it in calls)
+    text += f"#include <stdio.h>\nint main(void)\n{{\n    static u8 bytes[64];\n    u64 m = ADDRESS(bytes);\n    int k;\n    (void)m;\n    for (k = 0; k < 64; k++) bytes[k] = (u8)k;\n{lines}    return 0;\n}}\n"
+    with tempfile.TemporaryDirectory() as folder:
+        with open(f"{folder}/made.c", "w", encoding="utf-8") as made:
+            made.write(text)
+        subprocess.run(["cc", "-std=c99", "-Wall", "-Wextra", "-pedantic", "-Werror", "-o", f"{folder}/made", f"{folder}/made.c"], check=True)
+        return [int(it, 16) for it in subprocess.run([f"{folder}/made"], stdout=subprocess.PIPE, text=True, check=True).stdout.split()]
+
+
+# Operations on numbers: two of them, or one, and the result.
+NUMBERS = (
+    ("i32.add", 0xffffffff, 2, 1), ("i64.add", 0xffffffffffffffff, 2, 1), ("i32.sub", 1, 2, 0xffffffff), ("i64.sub", 1, 2, 0xffffffffffffffff),
+    ("i32.mul", 0x10001, 0x10001, 0x20001), ("i64.mul", 0x100000001, 0x100000001, 0x200000001),
+    ("i32.div_s", 0xfffffff9, 2, 0xfffffffd), ("i32.div_u", 0xfffffff9, 2, 0x7ffffffc), ("i64.div_s", 0xfffffffffffffff9, 2, 0xfffffffffffffffd),
+    ("i64.div_u", 0xfffffffffffffff9, 2, 0x7ffffffffffffffc), ("i32.rem_s", 0xfffffff9, 4, 0xfffffffd), ("i32.rem_u", 0xfffffff9, 4, 1),
+    ("i64.rem_s", 0xfffffffffffffff9, 4, 0xfffffffffffffffd), ("i64.rem_u", 0xfffffffffffffff9, 4, 1),
+    ("i32.and", 12, 10, 8), ("i32.or", 12, 10, 14), ("i32.xor", 12, 10, 6), ("i64.and", 12 << 40, 10 << 40, 8 << 40), ("i64.or", 12, 10, 14), ("i64.xor", 12, 10, 6),
+    ("i32.shl", 1, 31, 0x80000000), ("i32.shl", 1, 33, 2), ("i64.shl", 1, 63, 1 << 63), ("i64.shl", 1, 33, 1 << 33), ("i64.shl", 1, 65, 2),
+    ("i32.shr_u", 0x80000000, 31, 1), ("i32.shr_s", 0x80000000, 31, 0xffffffff), ("i64.shr_u", 1 << 63, 63, 1), ("i64.shr_s", 1 << 63, 63, 0xffffffffffffffff),
+    ("i32.rotl", 0x80000001, 1, 3), ("i32.rotr", 3, 1, 0x80000001), ("i64.rotl", (1 << 63) + 1, 1, 3), ("i64.rotr", 3, 1, (1 << 63) + 1), ("i32.rotl", 5, 32, 5), ("i64.rotr", 5, 0, 5),
+    ("i32.lt_s", 0xffffffff, 1, 1), ("i32.lt_u", 0xffffffff, 1, 0), ("i64.lt_s", 0xffffffffffffffff, 1, 1), ("i64.lt_u", 0xffffffffffffffff, 1, 0),
+    ("i32.gt_s", 0xffffffff, 1, 0), ("i32.gt_u", 0xffffffff, 1, 1), ("i64.gt_s", 0xffffffffffffffff, 1, 0), ("i64.gt_u", 0xffffffffffffffff, 1, 1),
+    ("i32.le_s", 0xffffffff, 1, 1), ("i32.le_u", 1, 1, 1), ("i64.le_s", 2, 1, 0), ("i64.le_u", 0xffffffffffffffff, 1, 0),
+    ("i32.ge_s", 0xffffffff, 1, 0), ("i32.ge_u", 1, 2, 0), ("i64.ge_s", 1, 1, 1), ("i64.ge_u", 0xffffffffffffffff, 1, 1),
+    ("i32.eq", 5, 5, 1), ("i32.ne", 5, 5, 0), ("i64.eq", 5, 1 << 32 | 5, 0), ("i64.ne", 5, 1 << 32 | 5, 1),
+    ("i32.eqz", 0, 1), ("i32.eqz", 2, 0), ("i64.eqz", 1 << 32, 0), ("i64.eqz", 0, 1),
+    ("i32.clz", 0, 32), ("i32.clz", 1, 31), ("i64.clz", 0, 64), ("i64.clz", 1 << 40, 23), ("i32.ctz", 0, 32), ("i32.ctz", 8, 3), ("i64.ctz", 0, 64), ("i64.ctz", 1 << 40, 40),
+    ("i32.popcnt", 0xf0f1, 9), ("i64.popcnt", 0xf0f1 << 32 | 1, 10), ("i32.wrap_i64", 5 << 32 | 7, 7), ("i64.extend_i32_s", 0x80000000, 0xffffffff80000000),
+    ("i64.extend_i32_u", 0x80000000, 0x80000000), ("i32.extend8_s", 0x1ff, 0xffffffff), ("i32.extend16_s", 0x18000, 0xffff8000), ("i64.extend8_s", 0x180, 0xffffffffffffff80),
+    ("i64.extend16_s", 0x17fff, 0x7fff), ("i64.extend32_s", 0x180000000, 0xffffffff80000000),
+)
+# Bodies that are given the address of bytes 0, 1, 2 .. 63, and a number; what a call with this number returns.
+BODIES = (
+    ("loads, the least significant byte first", "local.get 0; i64.load 1", 0, 0x0807060504030201),
+    ("of 32 bits", "local.get 0; i32.load 4; i64.extend_i32_u", 0, 0x07060504),
+    ("of 16 bits, extended", "local.get 0; local.get 0; i64.const 0x8180; i64.store16; i64.load16_s", 0, 0xffffffffffff8180),
+    ("of 8 bits, extended", "local.get 0; i32.const 0x80; i32.store8; local.get 0; i32.load8_s; i64.extend_i32_u", 0, 0xffffff80),
+    ("of 32 bits, with a sign", "local.get 0; i64.const 0x80000000; i64.store32; local.get 0; i64.load32_s", 0, 0xffffffff80000000),
+    ("what is stored", "local.get 0; i64.const 0x1122334455667788; i64.store; local.get 0; i64.load8_u 7", 0, 0x11),
+    ("a store of 16 bits leaves the others", "local.get 0; i32.const 0xaabbcc; i32.store16; local.get 0; i64.load", 0, 0x070605040302bbcc),
+    ("a number that was read before a store", "local.get 0; i64.load; local.get 0; i64.const 5; i64.store", 0, 0x0706050403020100),
+    ("a local that was read before it changes", "local.get 1; i64.const 9; local.set 1", 4, 4),
+    ("a local after it changes", "local.get 1; drop; i64.const 9; local.set 1; local.get 1", 4, 9),
+    ("a tee", "local.get 1; i64.const 1; i64.add; local.tee 1; local.get 1; i64.mul", 4, 25),
+    ("an if", "local.get 1; i64.eqz; if i64; i64.const 3; else; i64.const 4; end", 0, 3),
+    ("its other side", "local.get 1; i64.eqz; if i64; i64.const 3; else; i64.const 4; end", 1, 4),
+    ("a select", "i64.const 3; i64.const 4; local.get 1; i32.wrap_i64; select", 1, 3),
+    ("its other side", "i64.const 3; i64.const 4; local.get 1; i32.wrap_i64; select", 0, 4),
+    ("a loop that sums up", "i64.const 0; local.set 2; loop; local.get 2; local.get 1; i64.add; local.set 2; local.get 1; i64.const 1; i64.sub; local.tee 1; i64.eqz; i32.eqz; br_if 0; end; local.get 2", 10, 55),
+    ("a way out of two blocks", "block i64; block; i64.const 7; local.get 1; i64.eqz; br_if 1; drop; end; i64.const 8; end", 0, 7),
+    ("no way out", "block i64; block; i64.const 7; local.get 1; i64.eqz; br_if 1; drop; end; i64.const 8; end", 1, 8),
+    ("a table of ways", "block; block; block; local.get 1; i32.wrap_i64; br_table 0 1 2; end; i64.const 10; return; end; i64.const 11; return; end; i64.const 12", 1, 11),
+    ("its last way", "block; block; block; local.get 1; i32.wrap_i64; br_table 0 1 2; end; i64.const 10; return; end; i64.const 11; return; end; i64.const 12", 77, 12),
+    ("after a return", "local.get 1; return; i64.const 4; i64.const 5; i64.add; block; nop; end", 6, 6),
+    ("an end that only one side reaches", "local.get 1; i64.eqz; if; i64.const 1; return; else; i64.const 2; local.set 1; end; local.get 1", 3, 2),
+    ("a frame", "global.get 0; i64.const 32; i64.sub; local.tee 2; global.set 0; local.get 2; local.get 1; i64.store 24; local.get 2; i64.load 24; local.get 2; i64.const 32; i64.add; global.set 0", 5, 5),
+    ("bytes that are moved over themselves", "local.get 0; i64.const 1; i64.add; local.get 0; i64.const 7; memory.copy; local.get 0; i64.load", 0, 0x0605040302010000),
+    ("bytes that are filled", "local.get 0; i32.const 0x1ab; i64.const 3; memory.fill; local.get 0; i64.load", 0, 0x0706050403ababab),
+    ("a comparison as a number", "local.get 1; i64.eqz; i32.const 5; i32.add; i64.extend_i32_u", 0, 6),
+    ("a local with itself", "local.get 1; local.get 1; i64.eq; i32.const 2; i32.mul; local.get 1; local.get 1; i64.lt_u; i32.add; i64.extend_i32_u", 3, 2),
+)
+# A function for modules that are refused.
+LITTLE = function([], [I64], "i64.const 1")
+
+
+class Onefile(unittest.TestCase):
+    def test_numbers(self):
+        functions, calls = [], []
+        for at, (name, *values) in enumerate(NUMBERS):
+            kind = I32 if name.startswith("i32") and name != "i32.wrap_i64" or name.startswith("i64.extend_i32") else I64
+            result = I32 if name.startswith("i32") or name.split(".")[1].split("_")[0] in ("eq", "ne", "lt", "gt", "le", "ge", "eqz") else I64
+            values = values[:-1]
+            functions.append(function([kind] * len(values), [result], "; ".join(f"local.get {k}" for k in range(len(values))) + f"; {name}"))
+            calls.append(f"f{at}({', '.join(f'{it}ull' for it in values)})")
+        for row, found in zip(NUMBERS, computed(functions, calls)):
+            self.assertEqual(found, row[-1], row)
+
+    def test_numbers_that_are_constants(self):
+        """The same with the second number in the instructions."""
+        rows = [it for it in NUMBERS if len(it) == 4]
+        functions, calls = [], []
+        for at, (name, one, other, _) in enumerate(rows):
+            kind = I32 if name.startswith("i32") else I64
+            result = kind if name.split(".")[1].split("_")[0] not in ("eq", "ne", "lt", "gt", "le", "ge") else I32
+            functions.append(function([kind], [result], f"local.get 0; {name[:3]}.const {other}; {name}"))
+            calls.append(f"f{at}({one}ull)")
+        for row, found in zip(rows, computed(functions, calls)):
+            self.assertEqual(found, row[-1], row)
+
+    def test_bodies(self):
+        for what, text, number, wanted in BODIES:
+            with self.subTest(what):
+                self.assertEqual(computed([function([I64, I64], [I64], text, [I64])], [f"f0(m, {number}ull)"]), [wanted])
+
+    def test_calls(self):
+        twice = function([I64], [I64], "local.get 0; local.get 0; i64.add")
+        caller = function([I64], [I64], "local.get 0; i64.load; local.get 0; i64.const 9; i64.store; local.get 0; i64.load; call 0; i64.sub")
+        self.assertEqual(computed([twice, caller], ["f1(m)"]), [0x0706050403020100 - 18])
+
+    def test_data(self):
+        """A number that the linker marked as an address is a place in the data, with what is added to it."""
+        body = function([], [I64], "i64.const 65538; i64.load8_u 1")
+        # The number stands after how many bodies there are, the size of this one, its locals, and the byte of the instruction.
+        relocs = named("reloc.CODE") + unsigned(5) + vector([bytes([15, 4, 0, 0])])
+        self.assertEqual(computed([body], ["f0()"], data=bytes([5, 6, 7, 8]), more=section(0, relocs)), [8])
+
+    def test_what_is_refused(self):
+        rows = (
+            ("no module", b"\0asm\2\0\0\0"),
+            ("32 bits", module([LITTLE], memory=0)),
+            ("instruction 43", module([(LITTLE[0], unsigned(7) + b"\0\x43\0\0\0\0\x0b")])),
+            ("instruction 11", module([(LITTLE[0], unsigned(5) + b"\0\x11\0\0\x0b")])),
+            ("instruction fc 8", module([(LITTLE[0], unsigned(5) + b"\0\xfc\x08\0\x0b")])),
+            ("not constant: .data", module([LITTLE], data=b"\1", segment=".data")),
+            ("not constant: zeros", module([LITTLE], data=b"\1", end=FIRST + 64)),
+            ("addresses in them", module([LITTLE], data=b"\1" * 8, relocated=[7])),
+            ("has its frame", module([function([], [], "global.get 0; i64.const 32; i64.sub; drop; global.get 0; drop")])),
+            ("second frame", module([function([], [], "global.get 0; global.get 0; i64.const 32; i64.sub; drop; i64.const 16; i64.sub; drop")])),
+            ("another sum", module([function([I64], [], "global.get 0; local.get 0; i64.sub; drop")])),
+            ("multiple", module([function([], [], "global.get 0; i64.const 64; i64.sub; i64.const -32; i64.and; drop")])),
+            ("without a frame", module([function([], [I64], "global.get 0")])),
+            ("a global", module([function([], [I64], "global.get 1")])),
+            ("several results", module([(bytes([wasm.FUNCTION, 0, 2, I64, I64]), LITTLE[1])])),
+            ("takes values", module([(LITTLE[0], unsigned(6) + b"\0\x02\0\x42\0\x0b")])),
+            ("in the middle", module([LITTLE])[:-3]),
+        )
+        for why, data in rows:
+            with self.subTest(why), self.assertRaisesRegex(wasm.Refused, why):
+                text_of(data)
+
+    def test_structs_lie_as_in_the_module(self):
+        """A number stands at a multiple of its size, and so does the next struct."""
+        fields, size = shim.structs_of("struct it {\n    uint8_t a;\n    uint32_t b; /* c */\n    uint16_t d;\n    uint8_t e[3];\n    bool f;\n};\n")["it"]
+        self.assertEqual([tuple(it) for it in fields], [(0, "uint8_t", "a"), (4, "uint32_t", "b"), (8, "uint16_t", "d"), (10, "uint8_t", "e[0]"), (11, "uint8_t", "e[1]"),
+                                                       (12, "uint8_t", "e[2]"), (13, "bool", "f")])
+        self.assertEqual(size, 16)
+
+    def test_the_licences(self):
+        """Whose code is in the file, and the two licences."""
+        text = file.licence(file.LICENCES.read_text(encoding="utf-8"), "ncp.c")
+        for wanted in ("Yaszkevo", 'Ulrik Sverdrup "bluss" 2015-2023', "Andrew Gallant", "Carl Lerche", "Andrea Corbellini", "thiserror", "Permission is hereby granted", "Neither the name"):
+            self.assertIn(wanted, text)
+        self.assertNotIn("clap", text)
+        self.assertNotIn("Unicode", text)
+
+    def test_each_function_is_called(self):
+        """By what onefile/try runs over the file: so each is compared with the native library, or with what it is to do."""
+        texts = []
+        for path in "examples/embed/digest.c", "include/fuzz/calls.c", "onefile/lent.c", "onefile/lent_digest.c":
+            with open(os.path.join(TOP, path), encoding="utf-8") as source:
+                texts.append(source.read())
+        with open(os.path.join(TOP, "include/ncp.h"), encoding="utf-8") as header:
+            functions = re.findall(r"^[\w ]+[ *](ncp_\w+)\([^;]*\);$", header.read(), re.M)
+        self.assertGreater(len(functions), 48)
+        self.assertEqual([it for it in functions if not re.search(rf"\b{it}\(", "".join(texts))], [])
+
+    def test_usage(self):
+        rows = {"build": ([], ["--module"], ["--from", "one"], ["--other"], ["one", "two"]), "try": (["no such file"], ["one", "two"]), "fuzz": (["x"], ["1", "2", "3"]),
+                "faults": (["x"], ["1", "2", "3", "4"])}
+        for name, each in rows.items():
+            for words in each:
+                ran = subprocess.run([f"{TOP}/onefile/{name}", *words], stdout=subprocess.PIPE, stderr=subprocess.PIPE, text=True)
+                self.assertEqual((ran.returncode, ran.stdout, ran.stderr.split(":")[0]), (2, "", "usage"), (name, words))
+
+
+if not shutil.which("cc"):
+    for name in "test_numbers", "test_numbers_that_are_constants", "test_bodies", "test_calls":
+        setattr(Onefile, name, unittest.skip("there is no C compiler")(getattr(Onefile, name)))
+
+if __name__ == "__main__":
+    unittest.main()
