@@ -32,6 +32,7 @@ pub fn texts_have_one_reading()
 /// A text of joined spellings is read as those commands, and with what begins no command behind them
 /// as those commands and its fault.
 pub fn spelled_commands_are_read()
+    // theorem: Commands whose numbers fit, written one after the other, are read again as the same commands.
     ensures commands { OfSpelled (λ commands. commands_in (spellings commands) ≡ commands) }
     ensures commands_alone { OfSpelled (λ commands. fault_in (spellings commands) ≡ None) }
     ensures tail { OfSpelledBefore (λ commands tail. commands_in (spellings commands ++ tail) ≡ commands) }

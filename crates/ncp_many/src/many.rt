@@ -115,6 +115,8 @@ impl<S: BitStore> Many<S> {
     pub fn step(&mut self, event: &ManyEvent) -> Result<(), AllocError>
         ensures step { OnOk result (IsManyStep event.now self.old self.new) }
         ensures err { OnErr result (self.new ≡ self.old) }
+        // theorem: Of each two of two to eight of these hosts with the subnet between them, the notes that name both keep
+        // the headline of two hosts, whatever happens, in whatever order, at and between the others.
         ensures headline { HeadlineOfEachTwo self.new.notes self.new.crowd }
         ensures taken { ForEachNoteOfTwo IsTaken self.new.notes self.new.crowd }
         ensures paid { ForEachTwo MovesArePaidFor self.new.notes self.new.crowd }

@@ -213,6 +213,9 @@ pub fn audit<S: Source, W: Sink>(
 
     // Of bytes that are told, the lines of the findings of the records before the first fault are written, and nothing
     // else.
+    // theorem: If the bytes of its source and of its sink are known, and neither has failed before, `audit` writes the lines
+    // of the findings in the records before the first fault of the file, and nothing else; after a failed read, those of the
+    // records that were read whole; after a failed write, a prefix of the lines.
     ensures told { (bytes : List ℕ) (was : List ℕ)
         → S.left source.old ≡ Some bytes → W.written sink.old ≡ Some was
         → Writes (AuditedAs standard auditor.old.umpire) (AuditedCut standard auditor.old.umpire) bytes was (S.left source.new) (W.written sink.new) (done_of result) }

@@ -12,6 +12,10 @@ use ncp_proof_runs::peers::each_peer_is_by_itself;
 /// The headline of each two hosts of one to eight peers: over any subnet that is honest between the two, whatever the other
 /// peers do and whatever becomes of their messages.
 pub fn headline_of_two_among_others()
+    // theorem: The headline over any subnet. If two of these hosts have one another among their one to eight peers, the
+    // notes of each are a run of that host by itself, the numbers of its calls fit, and each message between the two arrived
+    // once, whole, before its RFNM, or did not arrive and had none, then the notes in which the two name one another keep
+    // the headline. The other peers may be any program, over any subnet.
     ensures { (x y : Host) (ns : SidedNotes) → IsHonestRunAmong x y ns → Headline x.me y.me (as_notes (mutual_notes x.me y.me ns)) }
 {
     two_among_others_are_two_by_themselves();

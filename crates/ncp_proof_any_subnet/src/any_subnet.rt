@@ -36,6 +36,8 @@ pub fn any_honest_subnet_is_that_of_a_world()
 
 /// And the other way round: the two are the same, so the premise of these laws is neither stronger than honesty nor empty.
 pub fn hosts_over_any_honest_subnet_are_those_of_a_world()
+    // theorem: The notes of two hosts, each with the other as its only peer, are an honest run over some subnet if and only
+    // if they are the notes of a `World`, less what its subnet notes of itself.
     ensures { (a b : ℕ) (ns : SidedNotes) → IsHonestRun a b ns ↔ IsOfWorld a b ns }
 {
     any_honest_subnet_is_that_of_a_world();

@@ -73,6 +73,8 @@ pub fn the_headline()
     ensures beginning { (notes : List Note) (w : Hosts) → IsTranscript notes w → GotBegins notes w }
     ensures once { (notes : List Note) (w : Hosts) → IsTranscript notes w → EachByteOnce notes w }
     ensures allocation { (notes : List Note) (w : Hosts) → IsTranscript notes w → WithinAllocation notes w }
+    // theorem: Allocation adds up. After every transcript of two hosts, while both ends of a connection are open: what the
+    // receiver has outstanding is what the sender's counters hold and what is underway, in messages and in bits.
     ensures ledger { (notes : List Note) (w : Hosts) → IsTranscript notes w → LedgersBalanced notes w }
     ensures order { (notes : List Note) (w : Hosts) → IsTranscript notes w → CameInOrder notes w }
     ensures commands { (notes : List Note) (w : Hosts) → IsTranscript notes w → CommandsInOrder notes w }

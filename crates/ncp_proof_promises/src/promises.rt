@@ -14,6 +14,8 @@ use ncp_transcript_two::transcripts::each_host_is_by_itself;
 /// is answered by an ERR, and no control text has a fault. No text is answered as not connected, of the wrong
 /// size or beyond the allocation, and no bits are a faulty message.
 pub fn what_comes_acts_once_and_is_right()
+    // theorem: In every transcript of two hosts each control message that arrives does at the receiving host what its
+    // commands do by the rules, each once, in their order, and nothing else; and nothing at the sending host.
     ensures once { (notes : List Note) (w : Hosts) → IsTranscript notes w → EachActedOnce notes w }
     ensures right { (notes : List Note) (w : Hosts) → IsTranscript notes w → NoErrMade notes w }
 {}
@@ -30,6 +32,9 @@ pub fn no_err_is_ever_underway()
 /// it has no connection.
 pub fn only_resets_act_until_the_answer()
     ensures waiting { (notes : List Note) (w : Hosts) → IsTranscript notes w → WaitsAlone notes w }
+    // theorem: In every transcript of two hosts, from making an RST until an RRP arrives, a host acts on nothing but RST and
+    // RRP: no call changes what it keeps of its peer, no text that arrives does, and each other command that arrives is
+    // dropped.
     ensures acts { (notes : List Note) (w : Hosts) → IsTranscript notes w → OnlyResetsActed notes w }
 {}
 
@@ -37,6 +42,9 @@ pub fn only_resets_act_until_the_answer()
 /// that came to one of them since it was last cleared, followed by those underway to it, are those that the
 /// other has made since that was last cleared. A host that is not up has made and heard nothing since then.
 pub fn commands_act_once_in_order()
+    // theorem: After every transcript of two hosts, if both are up: no RST or RRP is underway, and the commands that arrived
+    // at a host since it was last cleared, followed by those underway to it, are those that the other has made since that
+    // was last cleared, in order.
     ensures agree { (notes : List Note) (w : Hosts) → IsTranscript notes w → CommandsInOrder notes w }
     ensures silent { (notes : List Note) (w : Hosts) → IsTranscript notes w → AreSilentWhileDown notes w }
 {}
@@ -44,6 +52,8 @@ pub fn commands_act_once_in_order()
 /// From the Out of a text to its RFNM no pair whose texts go from that host on that link opens at either host:
 /// no call and no command of a control message opens one, and nothing else opens any.
 pub fn none_opens_while_its_link_has_a_text()
+    // theorem: In every transcript of two hosts, from the sending of a text on a link until its RFNM, no connection whose
+    // texts go from that host on that link opens, at either host.
     ensures { (notes : List Note) (w : Hosts) → IsTranscript notes w → OpenedUnderNoText notes w }
 {}
 

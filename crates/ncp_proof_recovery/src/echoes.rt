@@ -19,5 +19,7 @@ pub fn echoes_are_answered()
     ensures ever { (events : List NodeEvent) → IsSettledInModel (run events) → NoneAwaits (run events) }
     ensures asked { NoneAwaits (run echo_asks) → ⊥ }
     ensures two { (notes : List Note) (w : Hosts) → IsTranscript notes w → EchoesAreAnswered notes w }
+    // theorem: Of each two of two to eight hosts: if no message between them is ready, in transit or held, and both are up,
+    // neither awaits an echo of the other.
     ensures many { (notes : List ManyNote) (m : Crowd) → IsManyTranscript notes m → ForEachTwo EchoesAreAnswered notes m }
 {}

@@ -15,5 +15,8 @@ ghost use Rattle.ncp_proof_recovery.specs.Notes.{ResetRecovers};
 /// hosts it is so of each two (`many`), whatever happens at and between the others.
 pub fn resets_recover()
     ensures two { (notes : List Note) (w : Hosts) → IsTranscript notes w → ResetRecovers notes w }
+    // theorem: Of each two of two to eight hosts: if a reset between them was done, since then nobody has asked for anything
+    // between them but for messages that are held, and no message between them is ready, in transit or held, then both are
+    // up, neither has an end for the other, and neither awaits an echo, whatever was noted before.
     ensures many { (notes : List ManyNote) (m : Crowd) → IsManyTranscript notes m → ForEachTwo ResetRecovers notes m }
 {}

@@ -20,5 +20,8 @@ ghost use Rattle.ncp_proof_settling.specs.RunWork.{sent_new, brought};
 pub fn no_peer_makes_a_host_send_for_ever()
     ensures comes { (leader : Leader) (bits : List Bool) (s : PeerState) → peer_work (after_bits leader bits s).peer ≤ peer_work s.peer + bits_bring leader bits }
     ensures goes { (number on : ℕ) (m : List Bool) (s : PeerState) → slot_at s.slots on ≡ Empty → output_on number on s ≡ Some m → peer_work (after_output on m s).peer + 1 ≤ peer_work s.peer }
+    // theorem: Over every run of a host from its beginning, the new messages that it sends to a peer and the work that is
+    // left for that peer are no more than what its users' calls for that peer and the bits from that peer brought, whatever
+    // the other peers do.
     ensures run { (me : ℕ) (ns : List ℕ) (all : List HostNote) (n : ℕ) → FromBeginning me ns all → is_one_of n ns ≡ true → sent_new (notes_of_peer n all) new_state + peer_work (notes_for (notes_of_peer n all) new_state).peer ≤ brought (notes_of_peer n all) new_state }
 {}

@@ -30,6 +30,8 @@ pub fn takes_go_on()
 /// After any run, where an end that receives has opened and is not left, what `take` answered since the ask and what is
 /// held there are a beginning of what was given at the other host: of every pair, at either host.
 pub fn what_is_taken_and_held_begins_what_is_given()
+    // theorem: After every transcript of two hosts, if a receiving end has opened and has not made its CLS: what was taken
+    // since the ask, followed by what is held, is a prefix of what was given at the other host.
     ensures { (notes : List Note) (w : Hosts) (side : Side) (pair : Pair) → IsTranscript notes w → receives pair ≡ true → let end = get (had_for (side_number (other side) w) (host_of side w)).peer.ends pair in is_live end ≡ true → (or_new end).left ≡ false → (rest : List Bool) × (given (other side) (turned pair) notes ≡ (taken side pair notes ++ (or_new end).stored) ++ rest) }
 {
     transcripts_keep_the_headline();

@@ -9,6 +9,10 @@ pub fn the_rules_of_messages_are_exact()
 
 /// The same of a whole capture, of any number of hosts.
 pub fn the_rules_of_messages_are_exact_of_all()
+    // theorem: For a whole capture of any hosts and IMPs whose records fit a file, with never too many messages
+    // unacknowledged at once: the five rules of messages find nothing and judge all, if and only if by the records each link
+    // between each two hosts had one message out at a time, which arrived once, whole, before its RFNM, or did not arrive
+    // and had none and went next again, unchanged.
     ensures { IsExactOfAll }
 {}
 
@@ -20,6 +24,9 @@ pub fn all_is_watched()
 /// If nothing is found in such a capture, and all is judged, the messages on each link were delivered in the order in which
 /// they were sent, each once, and all but the last one at most.
 pub fn clean_is_in_order()
+    // theorem: If an audit finds nothing in a whole capture whose records fit a file, with never too many messages
+    // unacknowledged at once, and judges all messages from one host to another, then what arrived on each link between them
+    // is a prefix of what was sent there, each once, shorter by one at most.
     ensures { CleanIsInOrder }
 {}
 

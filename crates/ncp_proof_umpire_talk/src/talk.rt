@@ -12,6 +12,9 @@ ghost use Rattle.ncp_proof_umpire_talk.specs.Talking.{echo_before_its_reply, tex
 /// recorded at other interfaces, an audit finds nothing against it in its whole recording, by whatever rules are asked for,
 /// where its number and those of its calls have their places.
 pub fn no_host_is_blamed_by_any_rule()
+    // theorem: No false alarm. If a file has at the interface of one of these hosts its whole recording, from its beginning
+    // on, an audit of the whole capture finds nothing there against that host, by any rule: whatever its users ask with
+    // numbers that fit, whatever bits arrive, and whatever else the file has.
     ensures { NobodyBlamedAtAll }
 {}
 

@@ -78,6 +78,8 @@ pub fn run_link(
     ensures notes { IfOk result (λ run. AreNotesOf events.now run.1.items) }
 
     // Which messages are handed out.
+    // theorem: On one link, over every list of events: between a message that is handed out and the next one there is
+    // exactly one accepted answer.
     ensures between { IfOk result (λ run. OneAnswerBetween (deeds_of events.now run.1.items)) }
     ensures again { IfOk result (λ run. SameAfterFailure (deeds_of events.now run.1.items)) }
     ensures in_order { IfOk result (λ run. OthersInOrder (deeds_of events.now run.1.items)) }

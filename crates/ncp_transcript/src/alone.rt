@@ -67,6 +67,8 @@ impl<S: BitStore> Alone<S> {
     pub fn step(&mut self, input: &Input) -> Result<(), AllocError>
         ensures step { OnOk result (IsHostStep input.now self.old self.new) }
         ensures err { OnErr result (self.new ≡ self.old) }
+        // theorem: The notes of one host, one for each input, are a run of the rules: each says what the rules say at the
+        // state that the notes before it leave, and all together leave the host as it is.
         ensures run { IsHostTranscript self.new.notes self.new.host }
     {
         self.notes.note(&mut self.host, input)

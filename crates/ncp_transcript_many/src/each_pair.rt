@@ -19,6 +19,8 @@ use ncp_transcript_two::transcripts::transcripts_are_of_the_model;
 /// at and between the others; and what the two have for each other, and what is in transit between them, is
 /// what these notes leave of two new hosts. So what is proved of every transcript of two holds of each pair.
 pub fn each_pair_is_a_world_of_two()
+    // theorem: Of two to eight hosts with the subnet between them, the notes that name both of two are a transcript of these
+    // two hosts by themselves. So each law of transcripts of two hosts holds of them.
     ensures run { OfEachCrowd (ForEachPair IsTranscript) }
     ensures seen { OfEachCrowd SeenOfEachPair }
 {}

@@ -104,9 +104,21 @@ impl<S: BitStore> World<S> {
     pub fn step(&mut self, event: &Event) -> Result<(), AllocError>
         ensures step { OnOk result (IsStep event.now self.old self.new) }
         ensures err { OnErr result (self.new ≡ self.old) }
+        // theorem: Of two of these hosts with `Subnet` between them, by the notes of all that happened since they were new,
+        // in whatever order: whenever `take` returns, what it returned since the last ask is a prefix of what the other host
+        // had been given; never is more taken than was allowed since the ask; each message arrived whole before its RFNM, or
+        // did not arrive and had none; what arrived on a link is a prefix of what was sent there, shorter by one at most;
+        // each command that arrived was read, once; and neither host complains of the other.
         ensures headline { Headline self.new.hosts.number_a self.new.hosts.number_b self.new.notes }
         ensures taken { EachOutTaken self.new.notes self.new.hosts }
+        // theorem: The moves of two hosts so far (messages sent, delivered, lost, sent to a dead destination, or answered)
+        // and the work that is left are no more than the calls that were done, the losses and the dead destinations allow.
+        // So without further ones only so many moves can follow, in whatever order.
         ensures paid { MovesArePaidFor self.new.notes self.new.hosts }
+        // theorem: If no message of two hosts is ready, in transit or held, they are finished: no command waits, and no RST
+        // or RRP is wanted, owed or awaited. If both are up, then each pair has no ends, or was asked for by one side alone,
+        // or is open and all that was given was received but for what may not go, or has a receiver that holds text and
+        // whose sender has left.
         ensures finished { EndsFinished self.new.notes self.new.hosts }
         ensures run { IsTranscript self.new.notes self.new.hosts }
     {

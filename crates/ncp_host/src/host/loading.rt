@@ -97,6 +97,7 @@ impl<S: BitStore> Host<S> {
     /// Refused, in this order: `NotAHost` (the bytes do not begin with `NCP host` and a version), `OtherVersion` (it
     /// is not 1), and then `NotAHost` (no host is saved as these bytes) or `OutOfMemory`, whichever is seen first.
     pub fn load(alloc: Global, bytes: &[u8]) -> Result<Self, LoadFault>
+        // theorem: If `load` returns a host, the bytes are those that `save` makes of this host.
         ensures ok { IfOk result (λ host. saved host ≡ bytes.now) }
         ensures other { (result ≡ Err LoadFault.OtherVersion) ↔ (is_of_other_version bytes.now ≡ true) }
     {

@@ -110,6 +110,8 @@ impl<S: BitStore> World<S> {
     pub fn settle(&mut self) -> Result<usize, AllocError>
         ensures made { GoesOn self.old self.new }
         ensures many { IfOk result (λ many. length self.new.notes ≡ length self.old.notes + many) }
+        // theorem: `settle` makes no more events than the work that was left before it, which is paid for by the calls,
+        // losses and dead destinations until then.
         ensures within { IsWithinWork self.old self.new }
         ensures settled { OnOk result (IsSettled (seen self.new.hosts)) }
         ensures finished { OnOk result (AreFinished (seen self.new.hosts) (histories_of self.new.notes self.new.hosts)) }
