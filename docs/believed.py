@@ -42,7 +42,16 @@ def path_of(crate, module):
         paths = [f"{crate}/src/{'/'.join(rest[:end])}.rt" for end in range(len(rest), 0, -1)]
     else:
         paths = [f"{crate}/{folder}/{first}.antt"]
-    return next((it for it in paths if os.path.exists(os.path.join(CRATES, it))), None)
+    return next((it for it in paths if os.path.exists(os.path.join(CRATES, it))), None) or passed_on(crate, folder, first)
+
+
+@functools.cache
+def passed_on(crate, folder, name):
+    """The file of a module of another crate that this one passes on as its own."""
+    lib = f"{crate}/{folder}/Lib.antt"
+    text = text_of(lib) if os.path.exists(os.path.join(CRATES, lib)) else ""
+    found = re.search(rf"^pub use Rattle\.(\w+)\.({folder}\.{name})$", text, re.M)
+    return path_of(*found.groups()) if found else None
 
 
 def text_of(path):
