@@ -1,10 +1,14 @@
 #!/usr/bin/env python3
-"""Prints the definitions on which the headline rests, from the record that the clauses `headline` cite, as the rows of a
-table, and says whether docs/MODEL.md lists these and no others.
+"""Prints the definitions on which a statement rests, as rows `file,definition,lines`, and how many they are.
+
+    docs/believed.py                of the headline, from the record that the clauses `headline` cite; status 1 if docs/believed.csv
+                                    has not these and no others, or if they have more lines than they may
+    docs/believed.py FILE NAME      of a definition of a file under crates/, premises and conclusion apart
 
 A definition rests on those that its own lines name. Names that are bound in a line count too where a definition has the
 same name, so the list may be too long, never too short; a module with parameters counts whole. Comments and blank lines are
 not counted."""
+import csv
 import functools
 import os
 import re
@@ -12,6 +16,7 @@ import sys
 
 TOP = os.path.join(os.path.dirname(os.path.abspath(__file__)), "..")
 CRATES = os.path.join(TOP, "crates")
+LISTED = os.path.join(TOP, "docs", "believed.csv")
 HEADLINE = ("ncp_statement/specs/Statement.antt", "Headline")
 # What the whole may have beside the plain types of notes.
 MOST_LINES = 400
@@ -24,6 +29,10 @@ CONSTRUCTOR = re.compile(r"\s+(?:pub )?(\w+) :")
 DATA = re.compile(r"^(?:pub )?data ")
 # A definition in a module of parameters, which is taken with the whole module.
 INSIDE = re.compile(r"  (?:(?:pub|abbrev|unfoldable|opaque|data|record) )+([^\s:({]+)")
+TOKEN = re.compile(r"[()\[\]{}]|[^\s()\[\]{}]+")
+OPENS, CLOSES = "([{", ")]}"
+# Parameters that a definition may have before its equation is put in its place.
+PLAIN = re.compile(r"\w[\w'-]*")
 
 
 def path_of(crate, module):
@@ -33,7 +42,16 @@ def path_of(crate, module):
         paths = [f"{crate}/src/{'/'.join(rest[:end])}.rt" for end in range(len(rest), 0, -1)]
     else:
         paths = [f"{crate}/{folder}/{first}.antt"]
-    return next((it for it in paths if os.path.exists(os.path.join(CRATES, it))), None)
+    return next((it for it in paths if os.path.exists(os.path.join(CRATES, it))), None) or passed_on(crate, folder, first)
+
+
+@functools.cache
+def passed_on(crate, folder, name):
+    """The file of a module of another crate that this one passes on as its own."""
+    lib = f"{crate}/{folder}/Lib.antt"
+    text = text_of(lib) if os.path.exists(os.path.join(CRATES, lib)) else ""
+    found = re.search(rf"^pub use Rattle\.(\w+)\.({folder}\.{name})$", text, re.M)
+    return path_of(*found.groups()) if found else None
 
 
 def text_of(path):
@@ -42,25 +60,28 @@ def text_of(path):
 
 
 class File:
-    """What one file of definitions names and defines."""
+    """What one file of definitions names and defines, and on which lines a definition stands."""
 
     def __init__(self, path):
-        self.names, self.modules, self.lines, self.makers = {}, {}, {}, {}
+        self.names, self.modules, self.lines, self.makers, self.places, self.library = {}, {}, {}, {}, {}, {}
         text = text_of(path)
         for crate, module, names, alias in USE.findall(text):
             used = path_of(crate, module)
-            if used and names:
-                for name in names.split(","):
-                    old, _, new = name.strip().partition(" as ")
+            for name in names.split(",") if names else ():
+                old, _, new = name.strip().partition(" as ")
+                if used:
                     self.names.setdefault(new or old, []).append((used, old))
-            elif used:
+                else:
+                    self.library[new or old] = f"{crate}.{module}"
+            if used and not names:
                 self.modules[alias or module.split(".")[-1]] = used
         if path.endswith(".antt"):
             self.read(text)
+        self.signs = [it for it in (*self.names, *self.lines) if "◌" in it]
 
     def read(self, text):
         at = None
-        for line in text.split("\n"):
+        for number, line in enumerate(text.split("\n"), 1):
             line = line.split("--")[0].rstrip()
             head, inside = HEAD.match(line), INSIDE.match(line)
             if line.startswith("module "):
@@ -79,6 +100,9 @@ class File:
                 made = CONSTRUCTOR.match(line)
                 if made and DATA.match(self.lines[at][0]):
                     self.makers[made.group(1)] = at
+            if line and at:
+                first, _ = self.places.get(at, (number, number))
+                self.places[at] = first, number
 
 
 file_at = functools.cache(File)
@@ -104,17 +128,18 @@ def cited(path, text):
     file = file_at(path)
     for module, word in WORD.findall(text):
         yield from meant(file.modules[module], word) if module in file.modules else known(path, module or word)
-    for name in [*file.names, *file.lines]:
-        if "◌" in name and all(sign in text for sign in name.split("◌")):
+    for name in file.signs:
+        if all(sign in text for sign in name.split("◌")):
             yield from known(path, name)
 
 
+@functools.cache
 def named_by(path, name):
-    return cited(path, "\n".join(file_at(path).lines[name]))
+    return frozenset(cited(path, "\n".join(file_at(path).lines[name])))
 
 
-def rests_on(start):
-    found, todo = set(), [start]
+def rests_on(*starts):
+    found, todo = set(), list(starts)
     while todo:
         one = todo.pop()
         if one not in found:
@@ -123,32 +148,169 @@ def rests_on(start):
     return found
 
 
+# --- premises and conclusion
+
+def read(path, text):
+    """The tokens of a text, each with the file by whose names it is read."""
+    return [(token, path) for token in TOKEN.findall(text)]
+
+
+def said(tokens):
+    """Tokens as one text."""
+    text = " ".join(token for token, _ in tokens)
+    return re.sub(r"(?<=[(\[{]) | (?=[)\]}])|(?<=[)\]}]) (?=\.\w)", "", text)
+
+
+def cited_by(tokens):
+    """What tokens cite, each by the names of its own file."""
+    texts = {}
+    for token, path in tokens:
+        texts.setdefault(path, []).append(token)
+    return {it for path, those in texts.items() for it in cited(path, " ".join(those))}
+
+
+def cut(tokens, sign):
+    """The parts of tokens between the signs that stand in no brackets."""
+    parts, depth = [[]], 0
+    for one in tokens:
+        depth += (one[0] in OPENS) - (one[0] in CLOSES)
+        if one[0] == sign and not depth:
+            parts.append([])
+        else:
+            parts[-1].append(one)
+    return parts
+
+
+def groups(tokens):
+    """The tokens as an application has them: single ones, and those in brackets with these."""
+    found, depth = [], 0
+    for one in tokens:
+        depth -= one[0] in CLOSES
+        if depth or one[0] in CLOSES:
+            found[-1].append(one)
+        else:
+            found.append([one])
+        depth += one[0] in OPENS
+    return found
+
+
+def bare(tokens):
+    """An application without brackets around it or around its head."""
+    each = groups(tokens)
+    while each and each[0][0][0] == "(":
+        each = [*groups(each[0][1:-1]), *each[1:]]
+    return each
+
+
+def equation_of(path, name):
+    """The parameters and the right side of a definition that is one equation with plain parameters."""
+    lines = file_at(path).lines[name]
+    begins = [at for at, line in enumerate(lines) if re.match(re.escape(name) + r"( |$)", line)]
+    if len(begins) != 1 or DATA.match(lines[0]):
+        return None
+    left, *right = cut(read(path, "\n".join(lines[begins[0]:])), "=")
+    parameters = [token for token, _ in left[1:]]
+    return (parameters, [one for at, part in enumerate(right) for one in ([("=", path)] if at else []) + part]) if right and all(map(PLAIN.fullmatch, parameters)) else None
+
+
+def unfolded(tokens):
+    """The definition at the head of an application, and what it says of its arguments; or nothing, if it is none that can be put there."""
+    head, *arguments = bare(tokens) or [[]]
+    if len(head) != 1 or any(one[0] in ("×", "≡", "⊎", "↔", "let", "λ") for one in [head[0], *(it[0] for it in arguments)]):
+        return None
+    (token, path), = head
+    found = [it for it in cited(path, token) if it[1]]
+    equation = equation_of(*found[0]) if len(found) == 1 and not token[:1] == "." else None
+    if not equation or len(equation[0]) != len(arguments):
+        return None
+    given = dict(zip(equation[0], arguments))
+    return found[0], [one for it in equation[1] for one in put(given, it)]
+
+
+def put(given, one):
+    """What stands in the place of a token, if it is a parameter or begins with one."""
+    name, dot, fields = one[0].partition(".")
+    if name not in given:
+        return [one]
+    argument = given[name]
+    if not dot:
+        return argument
+    return [(f"{argument[0][0]}.{fields}", argument[0][1])] if len(argument) == 1 else [*argument, (f".{fields}", one[1])]
+
+
+def apart(tokens):
+    """The premises of a statement, its conclusion, and the definitions that were put in their places to find them."""
+    *premises, last = cut(tokens, "→")
+    one = unfolded(last)
+    if one:
+        more, conclusion, names = apart(one[1])
+        if more:
+            return [*premises, *more], conclusion, [one[0], *names]
+    return premises, last, []
+
+
+def binds(premise):
+    """Whether a part before an arrow says no more than which names there are."""
+    return all(it[0][0] in ("(", "{") and len(it) > 3 and any(one[0] == ":" for one in it) for it in groups(premise))
+
+
+class Statement:
+    """A statement, as the names of a file read its text: its premises, its conclusion, and on what each rests."""
+
+    def __init__(self, path, text):
+        found, self.conclusion, names = apart(read(path, text))
+        self.premises = [it for it in found if not binds(it)]
+        self.all = rests_on(*cited(path, text))
+        self.of_conclusion = rests_on(*cited_by(self.conclusion)) | {*names}
+        self.of_premises = self.all - self.of_conclusion
+
+
+def lines_in(found):
+    """How many definitions these are, and how many lines they have."""
+    definitions = [it for it in found if it[1]]
+    return len(definitions), sum(len(file_at(path).lines[name]) for path, name in definitions)
+
+
+# --- what the gate compares
+
+def rows(found):
+    """The rows of definitions, by files; of plain data, which is declared in the code, the file alone."""
+    order = {path: list(file_at(path).lines) for path, name in found if name}
+    each = sorted(found, key=lambda it: (not it[1], it[0], order[it[0]].index(it[1]) if it[1] else 0))
+    return [(path, name, str(len(file_at(path).lines[name])) if name else "") for path, name in each]
+
+
 def listed():
-    """The definitions of the table in docs/MODEL.md, by their files; of plain data the files alone."""
-    with open(os.path.join(TOP, "docs", "MODEL.md"), encoding="utf-8") as file:
-        part = file.read().split("## What has to be believed\n")[1].split("\n## ")[0]
-    rows = re.findall(r"^\| `(\w+/specs/\w+\.antt)` \| ([^|]*) \|", part, re.M)
-    found = {(path, name) for path, names in rows for name in re.findall(r"`([^`]+)`", names)}
-    return found | {(path, "") for path in re.findall(r"\w+/src/\w+\.rt", part)}
+    """The definitions of docs/believed.csv."""
+    if not os.path.exists(LISTED):
+        return set()
+    with open(LISTED, encoding="utf-8", newline="") as file:
+        return {(path, name) for path, name, _ in list(csv.reader(file))[1:]}
+
+
+def printed(what, found):
+    count, lines = lines_in(found)
+    print(f"{what}{count} definitions, {lines} lines, {len({path for path, name in found if name})} files")
 
 
 def main():
-    rests, said = rests_on(HEADLINE), listed()
-    total = 0
-    for path in sorted({path for path, name in rests if name}):
-        names = [name for name in file_at(path).lines if (path, name) in rests]
-        count = sum(len(file_at(path).lines[name]) for name in names)
-        total += count
-        print(f"| `{path}` | {', '.join(f'`{name}`' for name in names)} | {count} |")
-    print("plain data:", ", ".join(f"`{path}`" for path, name in sorted(rests) if not name))
-    print(f"{sum(1 for path, name in rests if name)} definitions, {total} lines, {len({path for path, name in rests if name})} files")
-    for path, name in sorted(rests - said):
-        print("NOT LISTED", path, name)
-    for path, name in sorted(said - rests):
-        print("LISTED WITHOUT NEED", path, name)
-    if total > MOST_LINES:
-        print(f"MORE THAN {MOST_LINES} LINES")
-    sys.exit(rests != said or total > MOST_LINES)
+    words = sys.argv[1:]
+    if words and (len(words) != 2 or not os.path.isfile(os.path.join(CRATES, words[0])) or not known(*words)):
+        sys.exit("usage: docs/believed.py [FILE NAME], a file of definitions under crates/ and a name that it defines")
+    found = rests_on(*known(*words)) if words else rests_on(HEADLINE)
+    for row in rows(found):
+        print(",".join(row))
+    if words:
+        equation = equation_of(*known(*words)[0])
+        both = Statement(words[0], said(equation[1]) if equation else words[1])
+        printed("the conclusion: ", both.of_conclusion | {known(*words)[0]})
+        printed("besides, the premises: ", found - both.of_conclusion - {known(*words)[0]})
+    printed("", found)
+    wrong = [] if words else [f"NOT LISTED {path} {name}" for path, name in sorted(found - listed())]
+    wrong += [] if words else [f"LISTED WITHOUT NEED {path} {name}" for path, name in sorted(listed() - found)]
+    wrong += [f"MORE THAN {MOST_LINES} LINES"] if not words and lines_in(found)[1] > MOST_LINES else []
+    print("\n".join(wrong), end="\n" if wrong else "")
+    sys.exit(1 if wrong else 0)
 
 
 if __name__ == "__main__":

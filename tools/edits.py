@@ -10,13 +10,18 @@ those of a crate one after the other, in the order of their names:
     new: what comes in its place
 
 Further lines `old:` and `new:` are of the same file, and find what the ones before them made.
+
+mutants/refused.csv has the clause that refused each in a whole run: its file, its function, and its name, which is empty if the
+clause has none. tools/refusals writes it.
 """
+import csv
 import os
 import re
 from collections import Counter
 from typing import NamedTuple
 
 ENDING, PASSED = ".edits", ".passed"
+REFUSALS, COLUMNS = "refused.csv", ["edit", "file", "function", "clause"]
 NAME = re.compile(r"[A-Za-z0-9_-][A-Za-z0-9_.-]*")
 PARTS = ("src/", "specs/", "proofs/")
 
@@ -127,6 +132,21 @@ def of_crate(top, crate):
     return parsed(crate, text_of(path))[0] if os.path.isfile(path) else []
 
 
+def refusals(top):
+    """The file, the function and the clause that refused edits in a whole run, by their labels."""
+    path = f"{top}/mutants/{REFUSALS}"
+    if not os.path.isfile(path):
+        return {}
+    with open(path, encoding="utf-8", newline="") as file:
+        return {label: tuple(place) for label, *place in list(csv.reader(file))[1:]}
+
+
+def write_refusals(top, found):
+    """Writes what `refusals` reads, in the order of the labels."""
+    with open(f"{top}/mutants/{REFUSALS}", "w", encoding="utf-8", newline="") as file:
+        csv.writer(file, lineterminator="\n").writerows([COLUMNS, *([label, *found[label]] for label in sorted(found))])
+
+
 def wrong_file(top, crates, crate):
     """What is wrong with the edits of one crate."""
     if crate not in crates:
@@ -149,6 +169,6 @@ def wrong(top, crates):
     """What is wrong with the form of the edits beside the gate: lines with their files."""
     files = sorted(os.listdir(f"{top}/mutants")) if os.path.isdir(f"{top}/mutants") else []
     named = [it.removesuffix(ENDING) for it in files if it.endswith(ENDING)]
-    known = {f"{it}{ending}" for it in named for ending in (ENDING, PASSED)}
+    known = {REFUSALS, *(f"{it}{ending}" for it in named for ending in (ENDING, PASSED))}
     return [f"mutants/{it}: no file of edits, and of none what was passed" for it in files if it not in known] + [
         f"mutants/{it}{ENDING}: {why}" for it in named for why in wrong_file(top, crates, it)]

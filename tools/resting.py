@@ -20,7 +20,7 @@ import once
 
 TOP = os.path.dirname(os.path.dirname(os.path.abspath(__file__)))
 CRATES = f"{TOP}/crates"
-index = once.loaded(f"{TOP}/tools/index")
+reading = once.loaded(f"{TOP}/tools/reading.py")
 believed = once.loaded(f"{TOP}/docs/believed.py")
 # The first line of a declaration, and its last: a closing bracket where it began, or the first line itself.
 DECLARES = re.compile(r"\s*(?:pub(?:\(\w+\))? )?(struct|enum|type|const(?! fn)|static|trait) (\w+)")
@@ -59,7 +59,7 @@ def files_of(crate, part):
 @functools.cache
 def reach_of_names(crate):
     """A crate and those below it, whose names it can use."""
-    return sorted({crate, *index.below(crate)})
+    return sorted({crate, *reading.below(crate)})
 
 
 def crate_of(path):
@@ -93,7 +93,7 @@ class Function:
 
 @functools.cache
 def functions_of(crate):
-    return [Function(it) for it in index.crates()[crate].functions]
+    return [Function(it) for it in reading.crates()[crate].functions]
 
 
 @functools.cache

@@ -29,7 +29,7 @@ grep -q "^$name" "$ROOM/asked" 2>/dev/null && FAILS_ONCE=
 echo "$name $*" >>"$ROOM/asked"
 case " $FAILS $FAILS_ONCE " in *" $name "*) exit 1 ;; esac
 """
-STEPS = ("ncp", "tools/try_launcher", "examples/compare", "tools/try_habits", "examples/embed/run", "bindings/test", "tools/index", "tools/words", "wireshark/test",
+STEPS = ("ncp", "tools/try_launcher", "examples/compare", "tools/try_habits", "examples/embed/run", "bindings/test", "tools/index", "tools/words", "tools/try_reference", "wireshark/test",
          "wireshark/fuzz", "include/fuzz/run", "onefile/try", "onefile/fuzz", "web/build", "web/test", "web/test_arrivals", "tools/prebuild", "tools/mutants", "tools/prove")
 COMMANDS = ("cc", "clang", "valgrind", "tshark", "sharkd", "lua5.2")
 NONE = """import unittest
