@@ -37,6 +37,16 @@ static void post(const char *digits)
     send_message(&line, message, 8 * len);
 }
 
+/* Takes datagrams until the host is ready, or is not. */
+static void until_ready(bool wanted)
+{
+    const time_t begun = time(NULL);
+    while (line.is_ready != wanted) {
+        take_part(&line);
+        if (time(NULL) - begun > PATIENCE) fail(wanted ? "the host is not ready" : "the host does not end", __LINE__);
+    }
+}
+
 /* The bits of the next message of the host that is no NOP. */
 static size_t next_message(int at)
 {
@@ -75,7 +85,7 @@ static void answer(uint8_t type)
 static void comes_up(void)
 {
     bool was_reset[PEERS + 1] = {false};
-    while (!line.is_ready) take_part(&line);
+    until_ready(true);
     send_nops(&line);
     for (int count = 0; count < PEERS; count++) {
         uint8_t rst[] = {REGULAR, 0, 0, 0, 0, 8, 0, 1, 0, 12};
@@ -261,6 +271,6 @@ int main(int argc, char **argv)
     refuses();
     peers_begin_again();
     kill((pid_t)number_in(argv[4], 2, INT32_MAX), SIGTERM);
-    while (line.is_ready) take_part(&line);
+    until_ready(false);
     return 0;
 }
