@@ -168,7 +168,6 @@ static void take_message(size_t bits)
     arrived = hand(part, line.message, sizeof line.message, bits);
     if (arrived.what == NCP_ARRIVED_SHORT) return;
     if (arrived.kind == GOING_DOWN) puts("the IMP is going down");
-    if (!host.is_peer[arrived.peer]) return;
     if (arrived.kind == NCP_TYPE_ERROR_IN_MESSAGE) hand(part, incomplete, sizeof incomplete, 8 * sizeof incomplete);
     if (arrived.kind == REGULAR) ncp_wake(part, arrived.peer);
     serve(arrived.peer);

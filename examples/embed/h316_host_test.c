@@ -37,6 +37,16 @@ static void post(const char *digits)
     send_message(&line, message, 8 * len);
 }
 
+/* Takes datagrams until the host is ready, or is not. */
+static void until_ready(bool wanted)
+{
+    const time_t begun = time(NULL);
+    while (line.is_ready != wanted) {
+        take_part(&line);
+        if (time(NULL) - begun > PATIENCE) fail(wanted ? "the host is not ready" : "the host does not end", __LINE__);
+    }
+}
+
 /* The bits of the next message of the host that is no NOP. */
 static size_t next_message(int at)
 {
@@ -75,7 +85,7 @@ static void answer(uint8_t type)
 static void comes_up(void)
 {
     bool was_reset[PEERS + 1] = {false};
-    while (!line.is_ready) take_part(&line);
+    until_ready(true);
     send_nops(&line);
     for (int count = 0; count < PEERS; count++) {
         uint8_t rst[] = {REGULAR, 0, 0, 0, 0, 8, 0, 1, 0, 12};
@@ -171,13 +181,35 @@ static void waits_for_room(void)
     add(digits, "62", 50);
     post(digits);
     NOTHING_ELSE();
+    for (int count = 0; count < 3; count++) post("00 09 02 00 00 08 0001 00 63");
+    IS("00 09 00 00 00 08 0008 00 04 02 0004 00000170"); /* 400 + 24 bits came, and 7 bytes wait */
     post("00 09 00 00 00 08 0008 00 04 2d 0008 00003000");
     strcpy(digits, "00 09 2d 00 00 08 03df 00 ");
     add(digits, "61", 978), add(digits, "62", 13);
     IS(digits);
-    strcpy(digits, "00 09 2d 00 00 08 0025 00 ");
-    add(digits, "62", 37);
+    strcpy(digits, "00 09 2d 00 00 08 0028 00 ");
+    add(digits, "62", 37), add(digits, "63", 3);
     IS(digits);
+}
+
+/* The ninth peer closes while text waits: 12,288 - 7,928 - 320 bits may go back, so 505 of 1,000 bytes go. Of 1,000 more 529 have room, and 471
+ * wait until nothing goes back any more. The connection ends with them, and in the same message another is asked for. */
+static void closes_while_text_waits(void)
+{
+    char digits[LONGEST_DIGITS] = "00 09 02 00 00 08 03e8 00 ";
+    add(digits, "64", 1000);
+    post(digits);
+    IS("00 09 00 00 00 08 0008 00 04 02 0001 00001f78"); /* 8,056 bits came since */
+    strcpy(digits, "00 09 2d 00 00 08 01f9 00 ");
+    add(digits, "64", 505);
+    IS(digits);
+    strcpy(digits, "00 09 02 00 00 08 03e8 00 ");
+    add(digits, "65", 1000);
+    post(digits);
+    IS("00 09 00 00 00 08 0008 00 04 02 0001 00001088"); /* 8,000 bits came, and 3,768 wait */
+    post("00 09 00 00 00 08 0009 00 03 00000003 00000002");
+    post("00 09 00 00 00 08 0013 00 03 00000002 00000003 02 00000005 00000002 08");
+    IS("00 09 00 00 00 08 0024 00 03 00000003 00000002 03 00000002 00000003 01 00000002 00000005 02 04 02 0008 00002000");
 }
 
 /* The sixtieth peer sends a byte of 36 bits, with padding after it. Then it closes, and so does the host. */
@@ -234,10 +266,11 @@ int main(int argc, char **argv)
     restarts();
     allows_more();
     waits_for_room();
+    closes_while_text_waits();
     sixtieth();
     refuses();
     peers_begin_again();
     kill((pid_t)number_in(argv[4], 2, INT32_MAX), SIGTERM);
-    while (line.is_ready) take_part(&line);
+    until_ready(false);
     return 0;
 }
