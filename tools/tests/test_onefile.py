@@ -89,26 +89,42 @@ def module(functions, memory=4, data=b"", segment=".rodata", end=0, relocated=()
                                   section(0, names), section(0, relocs), more])
 
 
+MAIN = """#include <stdio.h>
+static u8 *fresh(void)
+{
+    static u8 bytes[64];
+    for (int k = 0; k < 64; k++) bytes[k] = (u8)k;
+    return bytes;
+}
+int main(void)
+{
+    u64 m;
+%s    (void)m;
+    return 0;
+}
+"""
+
+
 def text_of(data):
     return Translation(wasm.Module(data), "").text()
 
 
 def computed(functions, calls, **how):
-    """What calls of the functions return, as C. `m` is an address of 64 bytes that are their own numbers."""
+    """What calls of the functions return, as C. `m` is each time an address of 64 bytes that are their own numbers."""
     with open(os.path.join(TOP, "onefile", "maker", "numbers.h"), encoding="utf-8") as numbers:
         text = numbers.read() + text_of(module(functions, **how))
-    lines = "".join(f'    printf("%llx\\n", (unsigned long long){it});\n' for it in calls)
-    text += f"#include <stdio.h>\nint main(void)\n{{\n    static u8 bytes[64];\n    u64 m = ADDRESS(bytes);\n    int k;\n    (void)m;\n    for (k = 0; k < 64; k++) bytes[k] = (u8)k;\n{lines}    return 0;\n}}\n"
+    lines = "".join(f'    m = ADDRESS(fresh());\n    printf("%llx\\n", (unsigned long long){it});\n' for it in calls)
+    text += MAIN % lines
     with tempfile.TemporaryDirectory() as folder:
         with open(f"{folder}/made.c", "w", encoding="utf-8") as made:
             made.write(text)
-        subprocess.run(["cc", "-std=c99", "-Wall", "-Wextra", "-pedantic", "-Werror", "-o", f"{folder}/made", f"{folder}/made.c"], check=True)
+        subprocess.run(["cc", "-std=c99", "-Wall", "-Wextra", "-pedantic", "-Werror", "-fsanitize=undefined", "-fsanitize-undefined-trap-on-error", "-o", f"{folder}/made", f"{folder}/made.c"], check=True)
         return [int(it, 16) for it in subprocess.run([f"{folder}/made"], stdout=subprocess.PIPE, text=True, check=True).stdout.split()]
 
 
 # Operations on numbers: two of them, or one, and the result.
 NUMBERS = (
-    ("i32.add", 0xffffffff, 2, 1), ("i64.add", 0xffffffffffffffff, 2, 1), ("i32.sub", 1, 2, 0xffffffff), ("i64.sub", 1, 2, 0xffffffffffffffff),
+    ("i32.add", 0xffffffff, 2, 1), ("i64.add", 0xffffffffffffffff, 2, 1), ("i32.add", 2, 0xffffffff, 1), ("i64.add", 2, 0xfffffffffffffffe, 0), ("i32.sub", 1, 2, 0xffffffff), ("i64.sub", 1, 2, 0xffffffffffffffff),
     ("i32.mul", 0x10001, 0x10001, 0x20001), ("i64.mul", 0x100000001, 0x100000001, 0x200000001),
     ("i32.div_s", 0xfffffff9, 2, 0xfffffffd), ("i32.div_u", 0xfffffff9, 2, 0x7ffffffc), ("i64.div_s", 0xfffffffffffffff9, 2, 0xfffffffffffffffd),
     ("i64.div_u", 0xfffffffffffffff9, 2, 0x7ffffffffffffffc), ("i32.rem_s", 0xfffffff9, 4, 0xfffffffd), ("i32.rem_u", 0xfffffff9, 4, 1),
@@ -126,7 +142,7 @@ NUMBERS = (
     ("i32.clz", 0, 32), ("i32.clz", 1, 31), ("i64.clz", 0, 64), ("i64.clz", 1 << 40, 23), ("i32.ctz", 0, 32), ("i32.ctz", 8, 3), ("i64.ctz", 0, 64), ("i64.ctz", 1 << 40, 40),
     ("i32.popcnt", 0xf0f1, 9), ("i64.popcnt", 0xf0f1 << 32 | 1, 10), ("i32.wrap_i64", 5 << 32 | 7, 7), ("i64.extend_i32_s", 0x80000000, 0xffffffff80000000),
     ("i64.extend_i32_u", 0x80000000, 0x80000000), ("i32.extend8_s", 0x1ff, 0xffffffff), ("i32.extend16_s", 0x18000, 0xffff8000), ("i64.extend8_s", 0x180, 0xffffffffffffff80),
-    ("i64.extend16_s", 0x17fff, 0x7fff), ("i64.extend32_s", 0x180000000, 0xffffffff80000000),
+    ("i64.extend16_s", 0x17fff, 0x7fff), ("i64.extend16_s", 0x18000, 0xffffffffffff8000), ("i64.extend32_s", 0x180000000, 0xffffffff80000000),
 )
 # Bodies that are given the address of bytes 0, 1, 2 .. 63, and a number; what a call with this number returns.
 BODIES = (
@@ -152,6 +168,23 @@ BODIES = (
     ("its last way", "block; block; block; local.get 1; i32.wrap_i64; br_table 0 1 2; end; i64.const 10; return; end; i64.const 11; return; end; i64.const 12", 77, 12),
     ("after a return", "local.get 1; return; i64.const 4; i64.const 5; i64.add; block; nop; end", 6, 6),
     ("an end that only one side reaches", "local.get 1; i64.eqz; if; i64.const 1; return; else; i64.const 2; local.set 1; end; local.get 1", 3, 2),
+    ("an end that only the first side reaches", "local.get 1; i64.eqz; if; i64.const 2; local.set 1; else; i64.const 1; return; end; local.get 1", 0, 2),
+    ("a sum before an if that changes what it reads", "local.get 1; i64.const 1; i64.add; local.get 1; i64.eqz; if; i64.const 9; local.set 1; end", 4, 5),
+    ("the same if it does", "local.get 1; i64.const 1; i64.add; local.get 1; i64.eqz; if; i64.const 9; local.set 1; end", 0, 1),
+    ("a local before an if that changes it", "local.get 1; local.get 1; i64.eqz; if; i64.const 9; local.set 1; end", 4, 4),
+    ("a sum with memory that changes", "local.get 0; i64.load; i64.const 1; i64.add; local.get 0; i64.const 5; i64.store", 0, 0x0706050403020101),
+    ("a sum with memory on its right", "i64.const 1; local.get 0; i64.load; i64.add; local.get 0; i64.const 5; i64.store", 0, 0x0706050403020101),
+    ("a count of what changes", "local.get 1; i64.popcnt; i64.const 0; local.set 1", 7, 3),
+    ("a question about what changes", "local.get 1; i64.eqz; i64.const 0; local.set 1; i64.extend_i32_u", 7, 0),
+    ("a select of what changes", "local.get 1; i64.const 4; i32.const 1; select; i64.const 9; local.set 1", 3, 3),
+    ("a select of the other that changes", "i64.const 4; local.get 1; i32.const 0; select; i64.const 9; local.set 1", 3, 3),
+    ("a select by what changes", "i64.const 3; i64.const 4; local.get 1; i32.wrap_i64; select; i64.const 0; local.set 1", 1, 3),
+    ("a select of memory that changes", "local.get 0; i64.load; i64.const 4; i32.const 1; select; local.get 0; i64.const 5; i64.store", 0, 0x0706050403020100),
+    ("a select of other memory that changes", "i64.const 4; local.get 0; i64.load; i32.const 0; select; local.get 0; i64.const 5; i64.store", 0, 0x0706050403020100),
+    ("the place of a load that changes", "local.get 0; i64.load; i64.const 0; local.set 0", 0, 0x0706050403020100),
+    ("memory that is moved", "local.get 0; i64.load; local.get 0; local.get 0; i64.const 8; i64.add; i64.const 8; memory.copy", 0, 0x0706050403020100),
+    ("memory that is filled", "local.get 0; i64.load; local.get 0; i32.const 1; i64.const 8; memory.fill", 0, 0x0706050403020100),
+    ("the top of the stack", "global.get 0; local.set 2; block; end; global.get 0; i64.const 32; i64.sub; local.set 1; local.get 2; local.get 1; i64.sub", 0, 32),
     ("a frame", "global.get 0; i64.const 32; i64.sub; local.tee 2; global.set 0; local.get 2; local.get 1; i64.store 24; local.get 2; i64.load 24; local.get 2; i64.const 32; i64.add; global.set 0", 5, 5),
     ("bytes that are moved over themselves", "local.get 0; i64.const 1; i64.add; local.get 0; i64.const 7; memory.copy; local.get 0; i64.load", 0, 0x0605040302010000),
     ("bytes that are filled", "local.get 0; i32.const 0x1ab; i64.const 3; memory.fill; local.get 0; i64.load", 0, 0x0706050403ababab),
@@ -187,14 +220,16 @@ class Onefile(unittest.TestCase):
             self.assertEqual(found, row[-1], row)
 
     def test_bodies(self):
-        for what, text, number, wanted in BODIES:
-            with self.subTest(what):
-                self.assertEqual(computed([function([I64, I64], [I64], text, [I64])], [f"f0(m, {number}ull)"]), [wanted])
+        found = computed([function([I64, I64], [I64], text, [I64]) for _, text, _, _ in BODIES], [f"f{at}(m, {row[2]}ull)" for at, row in enumerate(BODIES)])
+        self.assertEqual({row[0]: it for row, it in zip(BODIES, found)}, {what: wanted for what, _, _, wanted in BODIES})
 
     def test_calls(self):
-        twice = function([I64], [I64], "local.get 0; local.get 0; i64.add")
-        caller = function([I64], [I64], "local.get 0; i64.load; local.get 0; i64.const 9; i64.store; local.get 0; i64.load; call 0; i64.sub")
-        self.assertEqual(computed([twice, caller], ["f1(m)"]), [0x0706050403020100 - 18])
+        less = function([I64, I64], [I64], "local.get 0; local.get 1; i64.sub")
+        clears = function([I64], [I64], "local.get 0; i64.const 0; i64.store; i64.const 1")
+        # What was loaded before a call that clears it, and what is loaded after it.
+        before = function([I64], [I64], "local.get 0; i64.load; local.get 0; call 1; i64.add")
+        after = function([I64], [I64], "local.get 0; call 1; drop; local.get 0; i64.load; i64.const 3; call 0")
+        self.assertEqual(computed([less, clears, before, after], ["f0(9, 4)", "f2(m)", "f3(m)"]), [5, 0x0706050403020101, 0xfffffffffffffffd])
 
     def test_data(self):
         """A number that the linker marked as an address is a place in the data, with what is added to it."""
@@ -202,6 +237,10 @@ class Onefile(unittest.TestCase):
         # The number stands after how many bodies there are, the size of this one, its locals, and the byte of the instruction.
         relocs = named("reloc.CODE") + unsigned(5) + vector([bytes([15, 4, 0, 0])])
         self.assertEqual(computed([body], ["f0()"], data=bytes([5, 6, 7, 8]), more=section(0, relocs)), [8])
+        # So is what a load adds to an index.
+        body = function([I64], [I64], "local.get 0; i64.load8_u 65537")
+        relocs = named("reloc.CODE") + unsigned(5) + vector([bytes([14, 7, 0, 0])])
+        self.assertEqual(computed([body], ["f0(2)"], data=bytes([5, 6, 7, 8]), more=section(0, relocs)), [8])
 
     def test_what_is_refused(self):
         rows = (
