@@ -244,10 +244,10 @@ def without_margin(text):
     return "\n".join([first.rstrip(), *((it[margin:] if rest else it).rstrip() for it in rest)])
 
 
-def functions_in(crate, path):
-    """The functions of a file."""
+def functions_in(crate, path, text=None):
+    """The functions of a file, or of another text in its place."""
     owner, doc, current, found = None, [], None, []
-    lines = text_of(path).splitlines()
+    lines = (text_of(path) if text is None else text).splitlines()
     for number, line in enumerate(lines, 1):
         stripped = line.strip()
         begun = OWNER.match(line)
