@@ -31,6 +31,35 @@ impl Low {{
 EXPORT = """//! More.
 pub extern "C" fn called(one: u8, two: u8, three: u8, four: u8, five: u8, six: u8) {}
 """
+SHARED_LOW = """pub struct Lane<T> {
+    pub struct Within;
+}
+pub(crate) struct Hidden;
+pub enum Only {}
+pub use other::Alias;
+impl Only {
+    pub fn new() {}
+}
+pub fn shared() {}
+pub const fn alone() {}
+"""
+SHARED_HIGH = """pub trait Lane {}
+pub struct Hidden;
+pub struct Alias;
+impl Hidden {
+    pub fn new() {}
+}
+pub extern "C" fn shared() {}
+pub struct Lane;
+"""
+PAGE = """use Rattle.low.specs.Things.{told, At}
+
+pub at : ℕ → ℕ
+at n = told n
+
+pub record Headline : Type 0 where
+  pub first : at 1 ≡ 1
+"""
 TESTS = """#[test]
 fn a_test(page: u8, sink: u8) {
     low.call_back(1);
@@ -43,7 +72,10 @@ use Rattle.low.specs.Things.{told}
 """
 FILES = {
     "crates/low/src/lib.rt": LOW,
-    "crates/low/specs/Things.antt": "told : ℕ → ℕ\ntold n = n\n\npub record At : Type where\n  at : ℕ\n",
+    "crates/low/src/shared.rt": SHARED_LOW,
+    "crates/high/src/shared.rt": SHARED_HIGH,
+    "crates/ncp_statement/specs/Statement.antt": PAGE,
+    "crates/low/specs/Things.antt": "pub told : ℕ → ℕ\ntold n = n\n\npub record At : Type where\n  at : ℕ\n",
     "crates/high/src/lib.rt": EXPORT,
     "crates/high/specs/Others.antt": "abbrev told : ℕ → ℕ\ntold n = n\n\nalone (n : ℕ) : ℕ\nalone n = n\n",
     "crates/ncp_proof_low/src/laws.rt": "ghost use Rattle.low.specs.Things as things;\n",
@@ -51,7 +83,7 @@ FILES = {
     "crates/ncp_world/src/lib.rt": "//! A world.\n\nfn run() {}\n",
     "crates/ncp_test_low/src/lib.rt": TESTS,
 }
-WANTED = {"streams": "1", "parameters": "2", "exports": "1", "clauses": "1", "meanings": "1", "names": "1", "names-in-proofs": "2", "tower": "3", "act": "2"}
+WANTED = {"streams": "1", "parameters": "2", "exports": "1", "clauses": "1", "meanings": "1", "types": "1", "functions": "1", "cited": "1", "names": "1", "names-in-proofs": "2", "tower": "3", "act": "2"}
 
 
 class Figures(unittest.TestCase):
@@ -63,8 +95,9 @@ class Figures(unittest.TestCase):
             os.makedirs(os.path.dirname(path), exist_ok=True)
             with open(path, "w", encoding="utf-8") as file:
                 file.write(text)
-        os.mkdir(f"{self.room.name}/tools")
-        shutil.copy(f"{TOP}/tools/figures", f"{self.room.name}/tools")
+        for folder, name in (("tools", "figures"), ("docs", "believed.py")):
+            os.mkdir(f"{self.room.name}/{folder}")
+            shutil.copy(f"{TOP}/{folder}/{name}", f"{self.room.name}/{folder}")
 
     def figures(self, *words):
         ran = subprocess.run([f"{self.room.name}/tools/figures", *words], stdout=subprocess.PIPE, stderr=subprocess.PIPE, text=True)
@@ -79,6 +112,20 @@ class Figures(unittest.TestCase):
         self.assertEqual(self.figures("--where", "parameters"), (0, "crates/high/src/lib.rt:2: called: 6\ncrates/low/src/lib.rt:6: many: 6\n"))
         self.assertEqual(self.figures("--where", "exports"), (0, "crates/high/src/lib.rt:2: called: 6\n"))
         self.assertEqual(self.figures("--where", "meanings"), (0, "crates/high/specs/Others.antt:1: told: high, low\n"))
+
+    def test_one_name_for_two_things(self):
+        self.assertEqual(self.figures("--where", "types"), (0, "crates/high/src/shared.rt:1: Lane: high, low\n"))
+        self.assertEqual(self.figures("--where", "functions"), (0, "crates/high/src/shared.rt:7: shared: high, low\n"))
+        self.assertEqual(self.figures("--where", "cited"), (0, "crates/low/specs/Things.antt:1: told: high\n"))
+
+    def test_what_is_kept(self):
+        self.assertEqual(self.figures("--check"), (1, "figures: cited: 1, and 0 at most: tools/figures --where cited\n"))
+        os.remove(f"{self.room.name}/crates/high/specs/Others.antt")
+        self.assertEqual(self.figures("--check"), (0, ""))
+
+    def test_without_a_page(self):
+        os.remove(f"{self.room.name}/docs/believed.py")
+        self.assertEqual(self.figures("--where", "cited"), (0, ""))
 
     def test_a_figure_that_is_none(self):
         self.assertEqual(self.figures("--where", "beauty"), (1, ""))
