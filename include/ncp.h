@@ -463,7 +463,7 @@ const char *ncp_version(void);
  * and what calls them are compiled. */
 #ifdef NCP_IN
 /* How many bytes are enough for a host of `count` peers while at most `connections` connections that were asked for here
- * have room, `room` bits each. 0 if no host has so many peers. Rooms of several sizes may want more. */
+ * have room, `room` bits each. 0 if no host has that many peers. Rooms of several sizes may want more. */
 size_t ncp_size(size_t count, size_t connections, uint32_t room);
 
 /* Makes a host as ncp_new does, in `size` bytes of memory that you lend: do not touch them before ncp_free. All that is

@@ -7,7 +7,7 @@
  *     ...
  *     if (ncp_next_output(&host, out, sizeof out, &bits) == NCP_DONE) ncp_capture_message(file, NCP_TO_IMP, 1, out, bits);
  *
- * Each returns whether all was written. After a failed write no more is written, so nothing follows on a part of a record.
+ * Each returns whether all was written. After a failed write nothing is written, so nothing follows on a part of a record.
  *
  * Each record is passed on at once, in one write. So a program that is killed has lost none, and its file ends after a
  * record. There is one exception: Linux may stop a write to a file in the middle if the program is killed just then, and
@@ -32,7 +32,7 @@ enum ncp_direction {
 /* Lengths in bytes: of what is before a message in its record, and of the longest message. */
 enum { NCP_RECORD_HEAD = 4, NCP_RECORD_LONGEST = 1024 };
 
-/* Writes bytes, of which stdio then keeps none back. */
+/* Writes bytes; stdio then keeps none of them back. */
 static inline bool ncp_capture_write(FILE *file, const void *bytes, size_t len)
 {
     return !ferror(file) && fwrite(bytes, 1, len, file) == len && fflush(file) == 0;
