@@ -11,8 +11,8 @@ which order, and docs/EMBEDDING.md how a host is driven.
         ...
 
 A refusal is an exception, a subclass of Refused that has its name: NotUp, NoEntry, BadPeers. It changes nothing. The library is
-that of NCP_LIBRARY, if this is set, of prebuilt/ if this file stands in the repository, or the one that is installed; one of another
-version is refused. Threads may share a host: its calls come one after the other. Builds of Python without a global lock are refused.
+that of NCP_LIBRARY, if this is set, of prebuilt/ if this file stands in the repository, of the package if this is one with a library
+inside, or the one that is installed; one of another version is refused. Threads may share a host: its calls come one after the other. Builds of Python without a global lock are refused.
 """
 import ctypes
 import operator
@@ -146,9 +146,12 @@ def _repository():
 def _path():
     """Where the library is. That of the repository has to be built from its sources."""
     named, top = os.environ.get("NCP_LIBRARY"), _repository()
+    name = SONAME if platform.machine() == "x86_64" else f"{platform.machine()}/{SONAME}"
+    inside = Path(__file__).resolve().parent / name
+    if not named and Path(__file__).name == "__init__.py" and inside.is_file():
+        return str(inside)
     if named or not top:
         return named or SONAME
-    name = SONAME if platform.machine() == "x86_64" else f"{platform.machine()}/{SONAME}"
     if subprocess.run([top / "tools/prebuild", "--has", name], stdout=subprocess.DEVNULL, stderr=subprocess.DEVNULL).returncode:
         raise ImportError(f"{top}/prebuilt/{name} is not built from the sources of this repository: run tools/prebuild, or set NCP_LIBRARY")
     return str(top / "prebuilt" / name)

@@ -2,8 +2,10 @@
 """The binding: refusals, what is answered, captures and events, which library it loads; two_hosts.py prints what the example in C
 prints; and the examples of README.md are as they print."""
 import array
+import ast
 import contextlib
 import doctest
+import inspect
 import io
 import os
 import pickle
@@ -364,6 +366,48 @@ class Binding(unittest.TestCase):
         self.assertEqual((TOP / "include/abi.txt").read_text(encoding="utf-8").splitlines(), lines, why)
 
 
+class Types(unittest.TestCase):
+    """The types of ncp.pyi, which stands beside ncp.py, are of the names and the parameters that there are."""
+
+    def setUp(self):
+        self.told = ast.parse(Path(ncp.__file__).with_suffix(".pyi").read_text(encoding="utf-8"))
+
+    def parameters(self, function):
+        words = function.args
+        named = [it.arg for it in words.args] + ([f"*{words.vararg.arg}"] if words.vararg else [])
+        defaults = len(words.args) - len(words.defaults)
+        return [name + ("=" if defaults <= at < len(words.args) else "") for at, name in enumerate(named)]
+
+    def found(self, function):
+        return [("*" if it.kind is it.VAR_POSITIONAL else "") + name + ("=" if it.default is not it.empty else "") for name, it in inspect.signature(function).parameters.items()]
+
+    def test_each_public_name_has_its_type(self):
+        names = {it.name for it in self.told.body if hasattr(it, "name")} | {it.target.id for it in self.told.body if isinstance(it, ast.AnnAssign)} - {"__getattr__"}
+        own = {name for name, it in vars(ncp).items() if not name.startswith("_") and getattr(it, "__module__", ncp.__name__) == ncp.__name__ and not inspect.ismodule(it)}
+        self.assertEqual(names - {"__getattr__"}, own - set(ncp._CLASSES))
+
+    def test_each_function_has_its_parameters(self):
+        count = 0
+        for it in self.told.body:
+            if isinstance(it, ast.FunctionDef) and it.name != "__getattr__":
+                self.assertEqual(self.parameters(it), self.found(getattr(ncp, it.name)), it.name)
+            for inside in it.body if isinstance(it, ast.ClassDef) else ():
+                if isinstance(inside, ast.FunctionDef) and not inside.decorator_list:
+                    self.assertEqual(self.parameters(inside), self.found(vars(getattr(ncp, it.name)).get(inside.name) or getattr(getattr(ncp, it.name), inside.name)), f"{it.name}.{inside.name}")
+                    count += 1
+        self.assertGreater(count, 40)
+
+    def test_each_method_and_field_has_its_type(self):
+        for it in self.told.body:
+            kind = getattr(ncp, it.name) if isinstance(it, ast.ClassDef) else None
+            if kind is None:
+                continue
+            told = {inside.name if isinstance(inside, ast.FunctionDef) else inside.target.id for inside in it.body if isinstance(inside, (ast.FunctionDef, ast.AnnAssign))}
+            fields = [name for name, _ in getattr(kind, "_fields_", ())] or list(getattr(kind, "_fields", ()))
+            own = {name for owner in (kind, *kind.__mro__[1:2]) for name in vars(owner) if owner.__module__ == ncp.__name__ and not name.startswith("_") and name not in ("index", "count")}
+            self.assertLessEqual({*fields, *own}, told | ({"index", "count"} if issubclass(kind, tuple) else set()), it.name)
+
+
 class Loading(unittest.TestCase):
     """Which library a copy of ncp.py loads, in a process of its own."""
 
@@ -375,7 +419,7 @@ class Loading(unittest.TestCase):
 
     def copied_to(self, folder):
         (self.room / folder).mkdir(parents=True, exist_ok=True)
-        shutil.copy(HERE / "ncp.py", self.room / folder)
+        shutil.copy(ncp.__file__, self.room / folder / "ncp.py")
         return folder
 
     def library(self, source):
@@ -397,6 +441,17 @@ class Loading(unittest.TestCase):
         planted.write_text("of anybody")
         for folder in "any/folder", "bindings/python":
             self.assertEqual(self.said(self.copied_to(folder)), ncp.SONAME)
+
+    def test_a_package_takes_the_library_inside(self):
+        package = self.room / "any/ncp"
+        package.mkdir(parents=True)
+        shutil.copy(ncp.__file__, package / "__init__.py")
+        self.assertEqual(self.said("any"), ncp.SONAME)
+        inside = package / (ncp.SONAME if ncp.platform.machine() == "x86_64" else f"{ncp.platform.machine()}/{ncp.SONAME}")
+        inside.parent.mkdir(exist_ok=True)
+        shutil.copy(self.installed / ncp.SONAME, inside)
+        self.assertEqual(self.said("any"), str(inside))
+        self.assertIn("any.so: cannot open", self.said("any", before="import os; os.environ['NCP_LIBRARY'] = 'any.so'\ntry:\n    import ncp\nexcept OSError as error:\n    print(error); os._exit(0)"))
 
     def test_in_the_repository_it_is_of_these_sources(self):
         folder = self.copied_to("bindings/python")
