@@ -13,8 +13,8 @@ Hosts, links and sizes of bytes are numbers of 8 bits, sockets and rooms of 32; 
 rooms are counted in bits. A refusal is an exception, a subclass of Refused that has its name: NotUp, NoEntry, BadPeers. It changes
 nothing. If several apply, it is the first one that a method lists; NoHost or NoSubnet comes before all, after `free`.
 
-The library is that of NCP_LIBRARY, if this is set, of prebuilt/ if this file is in the repository, or the one that is installed; one of
-another version is refused. Threads may share a host: its calls come one after the other. Builds of Python without a global lock are refused.
+The library is that of NCP_LIBRARY, if this is set, of prebuilt/ if this file is in the repository, of the package if a
+library is inside, or the one that is installed; one of another version is refused. Threads may share a host: its calls come one after the other. Builds of Python without a global lock are refused.
 """
 from __future__ import annotations
 
@@ -243,9 +243,12 @@ def _repository() -> Optional[Path]:
 def _path() -> str:
     """Where the library is. That of the repository has to be built from its sources."""
     named, top = os.environ.get("NCP_LIBRARY"), _repository()
+    name = SONAME if platform.machine() == "x86_64" else f"{platform.machine()}/{SONAME}"
+    inside = Path(__file__).resolve().parent / name
+    if not named and Path(__file__).name == "__init__.py" and inside.is_file():
+        return str(inside)
     if named or not top:
         return named or SONAME
-    name = SONAME if platform.machine() == "x86_64" else f"{platform.machine()}/{SONAME}"
     if subprocess.run([top / "tools/prebuild", "--has", name], stdout=subprocess.DEVNULL, stderr=subprocess.DEVNULL).returncode:
         raise ImportError(f"{top}/prebuilt/{name} is not built from the sources of this repository: run tools/prebuild, or set NCP_LIBRARY")
     return str(top / "prebuilt" / name)

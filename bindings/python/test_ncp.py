@@ -884,7 +884,7 @@ class Loading(unittest.TestCase):
 
     def copied_to(self, folder):
         (self.room / folder).mkdir(parents=True, exist_ok=True)
-        shutil.copy(HERE / "ncp.py", self.room / folder)
+        shutil.copy(ncp.__file__, self.room / folder / "ncp.py")
         return folder
 
     def library(self, source):
@@ -906,6 +906,17 @@ class Loading(unittest.TestCase):
         planted.write_text("of anybody")
         for folder in "any/folder", "bindings/python":
             self.assertEqual(self.said(self.copied_to(folder)), ncp.SONAME)
+
+    def test_a_package_takes_the_library_inside(self):
+        package = self.room / "any/ncp"
+        package.mkdir(parents=True)
+        shutil.copy(ncp.__file__, package / "__init__.py")
+        self.assertEqual(self.said("any"), ncp.SONAME)
+        inside = package / (ncp.SONAME if ncp.platform.machine() == "x86_64" else f"{ncp.platform.machine()}/{ncp.SONAME}")
+        inside.parent.mkdir(exist_ok=True)
+        shutil.copy(self.installed / ncp.SONAME, inside)
+        self.assertEqual(self.said("any"), str(inside))
+        self.assertIn("any.so: cannot open", self.said("any", before="import os; os.environ['NCP_LIBRARY'] = 'any.so'\ntry:\n    import ncp\nexcept OSError as error:\n    print(error); os._exit(0)"))
 
     def test_in_the_repository_it_is_of_these_sources(self):
         folder = self.copied_to("bindings/python")
