@@ -1,5 +1,7 @@
 """onefile/maker writes a module of WebAssembly as C that computes what the instructions say, and refuses what it does not know. The modules
 are put together here, instruction by instruction, and what they return was worked out by hand."""
+import contextlib
+import io
 import os
 import re
 import shutil
@@ -7,9 +9,11 @@ import subprocess
 import sys
 import tempfile
 import unittest
+from unittest import mock
 
 TOP = os.path.dirname(os.path.dirname(os.path.dirname(os.path.abspath(__file__))))
-sys.path.insert(0, os.path.join(TOP, "onefile", "maker"))
+sys.path[:0] = [os.path.join(TOP, "onefile"), os.path.join(TOP, "onefile", "maker")]
+import compilers
 import file
 import shim
 import wasm
@@ -280,6 +284,25 @@ class Onefile(unittest.TestCase):
             self.assertIn(wanted, text)
         self.assertNotIn("clap", text)
         self.assertNotIn("Unicode", text)
+
+    def test_each_compiler_that_is_missing_is_named(self):
+        """So that in CI, where nothing may be left out, it is a failure."""
+        for is_everywhere, count in (False, 5), (True, 12):
+            said = io.StringIO()
+            with mock.patch("shutil.which", lambda _: None), contextlib.redirect_stdout(said):
+                self.assertEqual(compilers.those_here(is_everywhere), [])
+            self.assertEqual(said.getvalue().count("  left out: "), count)
+        self.assertIn("left out: s390x, 64 bits, big endian, since s390x-linux-gnu-gcc and qemu-s390x is not here", said.getvalue())
+        with mock.patch("shutil.which", lambda it: f"/bin/{it}"):
+            self.assertEqual([it.name for it in compilers.those_here(False)][:3], ["gcc", "clang", "tcc"])
+
+    def test_the_head(self):
+        """It names what the file is, its version, the sum of its sources, the kit and the licence."""
+        head = file.HEAD.format(name="ncp.c", version="2.0.0", sum="ab" * 32, kit="kit one")
+        self.assertTrue(head.startswith("/* SPDX-License-Identifier: MIT AND BSD-3-Clause */\n"))
+        for wanted in "Version 2.0.0", "ab" * 32, "kit one", "not proved", "NCP_MALLOC", "NCP_IN":
+            self.assertIn(wanted, head)
+        self.assertTrue(file.in_ascii(file.licence(file.LICENCES.read_text(encoding="utf-8"), "ncp.c")).isascii())
 
     def test_each_function_is_called(self):
         """By what onefile/try runs over the file: so each is compared with the native library, or with what it is to do."""
