@@ -1,3 +1,4 @@
+# SPDX-License-Identifier: MIT
 # The types of ncp.py. What each call does stands there.
 import ctypes
 from typing import BinaryIO, Iterable, Iterator, List, NamedTuple, Optional, SupportsIndex, Tuple, Type, Union
