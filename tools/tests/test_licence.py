@@ -12,7 +12,7 @@ TOP = os.path.dirname(os.path.dirname(os.path.dirname(os.path.abspath(__file__))
 BUILT_OF = {"ncp": "ncp", "libncp": "ncp_embed", "ncp.c": "ncp_embed", "ncp.wasm": "ncp_web"}
 BELOW = {"clap": ["strsim"]}
 # What others copy into their own work, and so names its licence in its first two lines.
-COPIED = ("include/*.h", "include/*.c", "bindings/python/*.py", "bindings/python/*.pyi", "bindings/python/*.toml", "bindings/rust/*/build.rs", "bindings/rust/*/src/*.rs", "bindings/rust/*/examples/*.rs",
+COPIED = ("include/*.h", "include/*.c", "bindings/python/*.py", "bindings/python/*.toml", "bindings/rust/*/build.rs", "bindings/rust/*/src/*.rs", "bindings/rust/*/examples/*.rs",
           "bindings/rust/*/tests/*.rs", "wireshark/plugin/*.lua", "wireshark/messages", "wireshark/capture/*.py", "web/page/*")
 
 
