@@ -12,6 +12,8 @@ docs/FORMATS.md, "Objects", lists the members; share/ncp.schema.json is their sc
 own, {"line": ..}, or {"bytes": ..} in hexadecimal digits if it is not UTF-8; so is each line of a record of which one is not as it should
 be. If no line feed ends it, it has "cut": true. So all that is read goes back to the same bytes, and memory is bounded.
 """
+from __future__ import annotations
+
 import argparse
 import json
 import os
@@ -21,7 +23,7 @@ import signal
 import sys
 from functools import cached_property, partial
 from itertools import combinations
-from typing import NamedTuple
+from typing import Any, Callable, Dict, Iterable, Iterator, List, NamedTuple, Optional, Sequence, Tuple, Union
 
 MOST_LINE = 16384  # bytes: a longer line is given in pieces; the longest of ncp has some 4,100
 MOST_DETAILS = 1100  # lines after a first one; a message has 1,015 commands at most
@@ -29,6 +31,10 @@ MOST_OBJECT = 2**20  # bytes of JSON
 CHUNK = 2**16
 IDLE = 0.05  # seconds without input after which an object is given that may be whole
 WRONG = 2
+# An object of JSON: its members by their names.
+Object = Dict[str, Any]
+# A text of lines or a part of one, in characters or in bytes.
+Text = Union[str, bytes, bytearray, memoryview]
 
 
 class NoLines(ValueError):
@@ -42,8 +48,8 @@ class Kind(NamedTuple):
     """How a member stands in a line: a pattern, its value by its text, and its text by its value (an empty one if it has none)."""
 
     pattern: str
-    value: object
-    text: object
+    value: Callable[[str], object]
+    text: Callable[[Any], str]
 
 
 class Form:
@@ -53,26 +59,26 @@ class Form:
 
     MEMBER = re.compile(r"\{(\w+)(?:([?!#*^@~])|:([^}]*))?\}")
 
-    def __init__(self, words, /, **always):
+    def __init__(self, words: str, /, **always: object) -> None:
         self.words, self.always = words, always
 
     @cached_property
-    def members(self):
+    def members(self) -> List[Tuple[str, Kind]]:
         return [(name, Kind(words, str, as_word) if words else KINDS[mark]) for name, mark, words in self.MEMBER.findall(self.words)]
 
-    def pattern_with(self, group):
+    def pattern_with(self, group: str) -> str:
         literals = [re.escape(it) for it in self.MEMBER.sub("\n", self.words).split("\n")]
         return literals[0] + "".join(group % kind.pattern + literal for (_, kind), literal in zip(self.members, literals[1:]))
 
     @cached_property
-    def pattern(self):
+    def pattern(self) -> re.Pattern[str]:
         return re.compile(self.pattern_with("(%s)"))
 
     @cached_property
-    def layout(self):
+    def layout(self) -> str:
         return self.MEMBER.sub("%s", self.words)
 
-    def read(self, text):
+    def read(self, text: str) -> Optional[Object]:
         """The members of a text; None if it is none of this form."""
         found = self.pattern.fullmatch(text)
         if not found:
@@ -81,7 +87,7 @@ class Form:
         made.update(self.always)
         return made
 
-    def write(self, made):
+    def write(self, made: Object) -> Optional[str]:
         """The text with these members; None if there is none."""
         for name, value in self.always.items():
             if name not in made or made[name] != value:
@@ -93,7 +99,7 @@ class Form:
         return text if self.pattern.fullmatch(text) else None
 
 
-def read_as(forms, text):
+def read_as(forms: Iterable[Form], text: str) -> Optional[Object]:
     for form in forms:
         made = form.read(text)
         if made is not None:
@@ -101,7 +107,7 @@ def read_as(forms, text):
     return None
 
 
-def write_as(forms, made):
+def write_as(forms: Iterable[Form], made: object) -> Optional[str]:
     if isinstance(made, dict):
         for form in forms:
             text = form.write(made)
@@ -110,19 +116,19 @@ def write_as(forms, made):
     return None
 
 
-def as_word(value):
+def as_word(value: object) -> str:
     return value if isinstance(value, str) else ""
 
 
-def as_number(value):
+def as_number(value: object) -> str:
     return str(value) if type(value) is int else ""
 
 
-def as_number_or_none(value):
+def as_number_or_none(value: object) -> str:
     return "-" if value is None else as_number(value)
 
 
-def as_flag(value):
+def as_flag(value: object) -> str:
     return {True: "1", False: "0"}[value] if type(value) is bool else ""
 
 
@@ -135,19 +141,19 @@ TIME = rf"{DATE}|(?!-0\.0{{6}})-?{SECONDS}"
 BEFORE_A_LINE = re.compile(rf"(-(?! at=)|{TIME}) ")
 
 
-def time_of(text):
+def time_of(text: str) -> Union[str, float, None]:
     if text == "-":
         return None
     return text if text.endswith("Z") else float(text)
 
 
-def as_time(value):
+def as_time(value: object) -> str:
     if isinstance(value, str):
         return value
     return f"{value:.6f}" if type(value) in (int, float) else ""
 
 
-def stamp_of(value):
+def stamp_of(value: object) -> str:
     """A time as it stands before a line."""
     text = "-" if value is None else as_time(value)
     if not BEFORE_A_LINE.fullmatch(text + " "):
@@ -177,12 +183,12 @@ COMMANDS = {
 COMMAND = {name: Form(f"{{name:{name}}}{words}") for name, (_, words) in COMMANDS.items()}
 
 
-def read_command(text):
+def read_command(text: str) -> Optional[Object]:
     form = COMMAND.get(text.partition(" ")[0])
-    return form and form.read(text)
+    return form.read(text) if form else None
 
 
-def write_command(made):
+def write_command(made: Any) -> str:
     """The line of a command; an empty text if it is none."""
     form = isinstance(made, dict) and COMMAND.get(as_word(made.get("name")))
     return form and form.write(made) or ""
@@ -204,7 +210,7 @@ KINDS["@"] = Kind("|".join(form.pattern_with("(?:%s)") for form in COMMAND.value
 TYPES = {"regular": 0, "going-down": 2, "nop": 4, "rfnm": 5, "dead": 7, "incomplete": 9}
 NAME = "{name:" + "|".join(TYPES) + "|type-(?:[0-9]|1[0-5])}"
 LEADER = NAME + " host={host} link={link}"
-MESSAGES = (("{name:short}", {}), (LEADER, {"flags": 0, "low": 0}), (f"{LEADER} flags={{flags}} low={{low}}", {}))
+MESSAGES: Tuple[Tuple[str, Object], ...] = (("{name:short}", {}), (LEADER, {"flags": 0, "low": 0}), (f"{LEADER} flags={{flags}} low={{low}}", {}))
 RECORDS = {
     version: [Form(front + words, **always) for words, always in MESSAGES]
     for version, front in ((1, "{record} "), (2, "{record} {direction:to-imp|from-imp} at={at} "))
@@ -245,8 +251,9 @@ BREAKS = {
     "text-size": "link={link} size={size} of={of_size}",
     "text-over": f"link={{link}} {OVER}",
 }
+JUDGED: Tuple[Tuple[str, Object], ...] = (("host={host}", {}), ("imp", {"imp": True}))
 FINDINGS = {
-    rule: [Form(f"{{record}} at={{at}} {who} {{rule:{rule}}} {words}".rstrip(), **always) for who, always in (("host={host}", {}), ("imp", {"imp": True}))]
+    rule: [Form(f"{{record}} at={{at}} {who} {{rule:{rule}}} {words}".rstrip(), **always) for who, always in JUDGED]
     for rule, words in BREAKS.items()
 }
 
@@ -263,10 +270,10 @@ CONNECTIONS = [
 # Events: after the number stands nothing, a side or a host, by the kind of the script; then what is done.
 ALONE, SIDE, MANY = "{event} ", "{event} {side:a|b} ", "{event} {at} "
 FLAGS = ("down", "want", "owe", "wait")
-PHASES = [(" up", {"up": True, **dict.fromkeys(FLAGS, False)})] + [
+PHASES: List[Tuple[str, Object]] = [(" up", {"up": True, **dict.fromkeys(FLAGS, False)})] + [
     ("".join(f" {flag}" for flag in flags), {"up": False, **{flag: flag in flags for flag in FLAGS}}) for count in range(1, 5) for flags in combinations(FLAGS, count)
 ]
-RESULTS = {
+RESULTS: Dict[str, List[Tuple[str, Object]]] = {
     **dict.fromkeys(("reset", "wake", "echo", "interrupt", "close", "ask-send", "ask-receive", "give", "allocate", "call-back"), [("", {})]),
     "phase": PHASES,
     "take": [(" bits={text_bits}", {"text": ""}), (" bits={text_bits} {text#}", {})],
@@ -286,7 +293,7 @@ CAME = (
 MOVES = {"deliver": (*CAME, "{what:nothing}"), "lose": ("{what:ok|nothing}",), "dead": ("{what:ok|nothing}",), "answer": ("{what:rfnm|incomplete|dead|nothing}",)}
 
 
-def event_forms():
+def event_forms() -> Dict[str, List[Form]]:
     """The forms of events, by what is done; those that name a side or a host first, since all members of the others are theirs too."""
     forms = {"settle": [Form("{event} {do:settle} {events}")], "in": [Form(f"{ALONE}{{do:in}} {what}") for what in CAME]}
     forms["out"] = [Form(f"{front}{{do:out}} {words}") for front in (SIDE, MANY, ALONE) for words in ("host={host} link={link} bits={bits}", "{what:nothing}")]
@@ -319,7 +326,7 @@ LETTERS = {True: [Form("letters", letters=""), Form("letters {letters^}")], Fals
 LEDGER = Form("ledger " + " ".join(f"{it}={{{it}_messages}}/{{{it}_bits}}" for it in ("out", "counters", "all", "text", "ret")))
 
 
-def forms_of_line(text):
+def forms_of_line(text: str) -> Sequence[Form]:
     """The forms that a first line may have, by its words."""
     words = text.split(" ", 4)
     first, second, third, fourth = (words + 4 * [""])[:4]
@@ -336,7 +343,7 @@ def forms_of_line(text):
     return {"segment": SEGMENTS, "ncp:": STOPS}.get(first, RECORDS[1])
 
 
-def forms_of_object(made):
+def forms_of_object(made: Object) -> Sequence[Form]:
     """The forms that the first line of an object may have, by its members."""
     if "event" in made:
         return EVENTS.get(as_word(made.get("do")), ())
@@ -348,7 +355,7 @@ def forms_of_object(made):
     return COUNTS
 
 
-def read_first(text):
+def read_first(text: str) -> Optional[Object]:
     """The object of a first line; None if it is none."""
     made = read_as(forms_of_line(text), text)
     if made and "record" in made and "name" in made and "rule" not in made and made["name"] != "short":
@@ -359,40 +366,41 @@ def read_first(text):
 # ---------------------------------------------------------------- the lines after a first one
 
 
-def is_message(made):
+def is_message(made: Object) -> bool:
     """Whether the lines of a regular message follow."""
     return "host" in made and (made.get("name") == "regular" and "rule" not in made or made.get("do") == "out")
 
 
-def has_times(made):
+def has_times(made: Object) -> bool:
     """Whether wireshark/messages puts times before its lines."""
     return "record" in made or "connection" in made
 
 
-def is_connection(made):
+def is_connection(made: Object) -> bool:
     return made.get("connection") is not None
 
 
 class Block:
     """An object whose lines are being read."""
 
-    def __init__(self, made, line, stamp):
-        self.made, self.lines, self.stamp, self.detail_stamp = made, [line], stamp, None
+    def __init__(self, made: Object, line: bytes, stamp: Optional[str]) -> None:
+        self.made, self.lines, self.stamp = made, [line], stamp
+        self.detail_stamp: Optional[str] = None
         self.unread = 0  # bytes of a control text of which no command was read
         if "error_count" in made:
             made["errors"] = []
 
-    def add(self, text, line, stamp):
+    def add(self, text: str, line: bytes, stamp: Optional[str]) -> bool:
         """Takes a line after the first, without its two spaces; false if it does not belong to the object."""
         if (stamp is None) != (self.stamp is None) or self.detail_stamp not in (None, stamp) or len(self.lines) > MOST_DETAILS or not self.add_text(text):
             return False
-        if self.detail_stamp is None and stamp != self.stamp:
+        if self.detail_stamp is None and stamp is not None and stamp != self.stamp:
             self.made["detail_time"] = time_of(stamp)
         self.detail_stamp = stamp
         self.lines.append(line)
         return True
 
-    def add_text(self, text):
+    def add_text(self, text: str) -> bool:
         made = self.made
         if "event" in made and "ledger" not in made and text.startswith("ledger "):
             made["ledger"] = None if text == "ledger none" else LEDGER.read(text)
@@ -407,7 +415,7 @@ class Block:
         made["errors"].append(error)
         return True
 
-    def add_to_message(self, text):
+    def add_to_message(self, text: str) -> bool:
         made = self.made
         if "count" not in made:
             return self.update(FAULT.read(text) or SIZE.read(text)) and self.begin_text()
@@ -423,26 +431,26 @@ class Block:
         self.unread -= COMMANDS[command["name"]][0]
         return self.unread >= 0
 
-    def begin_text(self):
+    def begin_text(self) -> bool:
         """On link 0 commands follow, if there are any."""
         made = self.made
         if made["link"] == 0 and made.get("size") == 8 and "count" in made:
             made["commands"], self.unread = [], made["count"]
         return True
 
-    def add_to_connection(self, text):
+    def add_to_connection(self, text: str) -> bool:
         made = self.made
         if "text" not in made:
             return self.update(read_as(TEXTS, text) or read_as(TEXTS_OF_MORE, text))
         return "letters" not in made and self.update(read_as(LETTERS[made["size"] == 8], text))
 
-    def update(self, members):
+    def update(self, members: Optional[Object]) -> bool:
         if members is None:
             return False
         self.made.update(members)
         return True
 
-    def lacks_lines(self):
+    def lacks_lines(self) -> bool:
         """Whether lines have to follow."""
         made = self.made
         if is_message(made) and "fault" not in made:
@@ -451,12 +459,12 @@ class Block:
             return "text" not in made
         return "errors" in made and len(made["errors"]) < made["error_count"]
 
-    def may_go_on(self):
+    def may_go_on(self) -> bool:
         """Whether another line may follow."""
         made = self.made
         return "do" in made and made["do"] != "settle" and "ledger" not in made or is_connection(made) and "letters" not in made or self.lacks_lines()
 
-    def is_as_read(self):
+    def is_as_read(self) -> bool:
         """Whether the object is one of whole lines, and goes back to them."""
         if self.lacks_lines() and len(self.lines) > 1:
             return False
@@ -469,23 +477,23 @@ class Block:
 # ---------------------------------------------------------------- back
 
 
-def shown(made):
+def shown(made: object) -> str:
     """What of an object stands in a sentence: its members' names, which may be a stranger's."""
     text = json.dumps(list(map(str, made)) if isinstance(made, dict) else type(made).__name__)
     return text if len(text) <= 100 else text[:100] + ".."
 
 
-def wanted(text, what):
+def wanted(text: Optional[str], what: str) -> str:
     if text is None:
         raise NoLines(f"no line of ncp has its {what}")
     return text
 
 
-def command_line(made):
+def command_line(made: object) -> str:
     return wanted(write_command(made) or None, "command")
 
 
-def details(made):
+def details(made: Object) -> Iterator[str]:
     """The lines after the first, without their two spaces."""
     if is_message(made):
         yield from message_details(made)
@@ -500,7 +508,7 @@ def details(made):
             yield "ledger none" if made["ledger"] is None else wanted(write_as([LEDGER], made["ledger"]), "ledger")
 
 
-def message_details(made):
+def message_details(made: Object) -> Iterator[str]:
     if "fault" in made:
         yield wanted(FAULT.write(made), "fault")
     elif "count" in made:
@@ -513,15 +521,15 @@ def message_details(made):
             yield wanted(write_as(TEXTS, made), "text")
 
 
-def raw_line(made):
+def raw_line(made: Object) -> bytes:
     """The line of an object that is no line of ncp."""
-    data = made["line"].encode() if "line" in made else bytes.fromhex(made["bytes"])
+    data: bytes = made["line"].encode() if "line" in made else bytes.fromhex(made["bytes"])
     if b"\n" in data:
         raise NoLines("a line feed stands inside its line")
     return data if made.get("cut") is True else data + b"\n"
 
 
-def lines_of(made):
+def lines_of(made: Object) -> bytes:
     """The lines of an object, as bytes. Members that are unknown are passed over; if it has none, that is a `NoLines`."""
     try:
         if "line" in made or "bytes" in made:
@@ -543,7 +551,7 @@ def lines_of(made):
 # ---------------------------------------------------------------- reading
 
 
-def raw(line):
+def raw(line: bytes) -> Object:
     """The object of a line that is none of ncp's."""
     is_cut = not line.endswith(b"\n")
     line = line if is_cut else line[:-1]
@@ -557,13 +565,13 @@ def raw(line):
 class Reader:
     """Lines on their way to objects, piece by piece."""
 
-    def __init__(self):
+    def __init__(self) -> None:
         self.rest = b""
         self.is_inside = False  # of a line that is too long
-        self.block = None
+        self.block: Optional[Block] = None
         self.had_last = False  # whether the last object had the line that not all have: a ledger, or letters
 
-    def feed(self, data):
+    def feed(self, data: bytes) -> Iterator[Object]:
         """The objects that are whole with these bytes."""
         *lines, self.rest = (self.rest + data).split(b"\n")
         for line in lines:
@@ -572,7 +580,7 @@ class Reader:
             piece, self.rest = self.rest[:MOST_LINE], self.rest[MOST_LINE:]
             yield from self.take_piece(piece)
 
-    def take(self, line):
+    def take(self, line: bytes) -> Iterator[Object]:
         """A line to its end."""
         while len(line) > MOST_LINE + 1:
             piece, line = line[:MOST_LINE], line[MOST_LINE:]
@@ -583,13 +591,13 @@ class Reader:
         else:
             yield from self.take_line(line)
 
-    def take_piece(self, piece):
+    def take_piece(self, piece: bytes) -> Iterator[Object]:
         """A piece of a line that is too long."""
         yield from self.leave(piece)
         self.is_inside = True
         yield raw(piece)
 
-    def take_line(self, line):
+    def take_line(self, line: bytes) -> Iterator[Object]:
         text = line[:-1].decode("ascii", "replace")
         found = BEFORE_A_LINE.match(text)
         stamp, text = (found[1], text[found.end() :]) if found else (None, text)
@@ -612,14 +620,14 @@ class Reader:
         if not self.block.may_go_on():
             yield from self.finish()
 
-    def leave(self, piece):
+    def leave(self, piece: bytes) -> Iterator[Object]:
         """The object before a piece of a line, which is not known to be whole if the piece may begin a line of it."""
         found = BEFORE_A_LINE.match(piece[:99].decode("ascii", "replace"))
         text = piece[found.end() :] if found else piece
         is_time = self.block and self.block.stamp is not None and b" " not in piece
         yield from self.give_up() if text[:1] in (b"", b" ") or is_time else self.finish()
 
-    def finish(self):
+    def finish(self) -> Iterator[Object]:
         """The object whose lines were read, if there is one."""
         block, self.block = self.block, None
         if block and block.is_as_read():
@@ -628,22 +636,22 @@ class Reader:
         elif block:
             yield from map(raw, block.lines)
 
-    def give_up(self):
+    def give_up(self) -> Iterator[Object]:
         """The lines of an object of which one is not as it should be."""
         block, self.block = self.block, None
         if block:
             yield from map(raw, block.lines)
 
-    def is_waiting(self):
+    def is_waiting(self) -> bool:
         """Whether there is an object that may be whole."""
         return self.block is not None and not self.rest and not self.block.lacks_lines() and not self.had_last
 
-    def idle(self):
+    def idle(self) -> Iterator[Object]:
         """The object that may be whole, now that nothing comes."""
         if self.is_waiting():
             yield from self.finish()
 
-    def end(self):
+    def end(self) -> Iterator[Object]:
         """The objects of what is left. A last line without a line feed is cut."""
         if self.rest:
             yield from self.leave(self.rest)
@@ -652,15 +660,14 @@ class Reader:
         yield from self.finish()
 
 
-def pieces(text):
+def pieces(text: Text) -> Iterator[Text]:
     return (text[place : place + CHUNK] for place in range(0, len(text), CHUNK))
 
 
-def read(lines):
+def read(lines: Union[Text, Iterable[Text]]) -> Iterator[Object]:
     """The objects of lines as a file gives them, each with its line feed, or of a whole text; bytes or str."""
     reader, has_ended = Reader(), True
-    is_whole = isinstance(lines, (str, bytes, bytearray, memoryview))
-    for data in pieces(lines) if is_whole else lines:
+    for data in pieces(lines) if (is_whole := isinstance(lines, (str, bytes, bytearray, memoryview))) else lines:
         if not (is_whole or has_ended):
             raise ValueError("a line without a line feed stands before another: give lines as a file does (splitlines(keepends=True)), or the whole text")
         data = data.encode("utf-8", "surrogateescape") if isinstance(data, str) else bytes(memoryview(data))
@@ -672,18 +679,18 @@ def read(lines):
 # ---------------------------------------------------------------- the command
 
 
-def as_json(made):
+def as_json(made: Object) -> bytes:
     """An object in a line of printable ASCII."""
     return json.dumps(made, separators=(",", ":")).replace("\x7f", "\\u007f").encode("ascii") + b"\n"
 
 
-def put(data):
+def put(data: bytes) -> None:
     left = memoryview(data)
     while left:
         left = left[os.write(1, left) :]
 
 
-def forth():
+def forth() -> int:
     """Lines from standard input, as objects."""
     reader = Reader()
     # Ctrl-C ends what is read, which may have something left to say; a second one ends this too.
@@ -697,12 +704,12 @@ def forth():
             return 0
 
 
-def spelled(data):
+def spelled(data: bytes) -> bytes:
     """Bytes for a terminal, which may act on what is not spelled."""
     return re.sub(rb"[^\n -~]", lambda found: b"\\x%02x" % found[0][0], data)
 
 
-def back():
+def back() -> int:
     """Objects from standard input, as lines."""
     to_terminal = os.isatty(1)
     with open(0, "rb", closefd=False) as source:
@@ -715,7 +722,7 @@ def back():
     return 0
 
 
-def parsed(text):
+def parsed(text: bytes) -> Object:
     """The object of a line of JSON."""
     if len(text) == MOST_OBJECT:
         raise NoLines(f"a line of {MOST_OBJECT} bytes or more is no object of ncp's lines")
@@ -728,12 +735,12 @@ def parsed(text):
     return made
 
 
-def complain(sentence):
+def complain(sentence: Optional[str]) -> int:
     print(f"ncp_lines: {sentence}", file=sys.stderr)
     return WRONG
 
 
-def main():
+def main() -> int:
     words = argparse.ArgumentParser(prog="ncp_lines", description=__doc__, formatter_class=argparse.RawDescriptionHelpFormatter)
     words.add_argument("--back", action="store_true", help="objects from standard input, as lines")
     chosen = words.parse_args()
