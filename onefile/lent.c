@@ -44,7 +44,7 @@ static void bring_up(struct ncp_host *host)
     static const uint8_t rfnm[] = {5, PEER, 0, 0}, rrp[] = {0, PEER, 0, 0, 0, 8, 0, 1, 0, 13};
     uint8_t message[NCP_LONGEST_MESSAGE];
     struct ncp_arrived arrived;
-    size_t bits;
+    size_t bits = 0;
     HOLDS(ncp_reset(host, PEER) == NCP_DONE);
     while (ncp_next_output(host, message, sizeof message, &bits) == NCP_DONE) HOLDS(ncp_receive(host, rfnm, sizeof rfnm, 32, &arrived) == NCP_DONE);
     HOLDS(ncp_receive(host, rrp, sizeof rrp, 80, &arrived) == NCP_DONE && ncp_is_up(host, PEER));
@@ -133,7 +133,7 @@ static void copies(void)
 {
     struct ncp_host host = NCP_EMPTY, copy = NCP_EMPTY;
     uint8_t first[4096], second[4096];
-    size_t one = ncp_size(1, MANY, 64), size = 2 * one, first_size, second_size;
+    size_t one = ncp_size(1, MANY, 64), size = 2 * one, first_size = 0, second_size = 0;
     unsigned round;
     HOLDS(ncp_new_in(&host, ME, peers, 1, lend(one), one) == NCP_DONE);
     HOLDS(ncp_copy(&host, &copy) == NCP_NEW_OUT_OF_MEMORY && !ncp_is_made(&copy));
@@ -159,7 +159,7 @@ static void full(void)
 {
     struct ncp_host host = NCP_EMPTY;
     static uint8_t saved[4096], again[65536];
-    size_t size = ncp_size(1, 4, ROOM) + 16384, saved_size, again_size;
+    size_t size = ncp_size(1, 4, ROOM) + 16384, saved_size = 0, again_size = 0;
     uint32_t why;
     unsigned count;
     HOLDS(ncp_new_in(&host, ME, peers, 1, lend(size), size) == NCP_DONE);
