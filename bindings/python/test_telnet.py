@@ -324,7 +324,8 @@ class Datagrams(unittest.TestCase):
     def test_which_numbers_are_taken(self):
         """Of each number whether it is taken: old ones are not, a few may be lost, and who begins again does so with 0 or 1."""
         for number, is_taken in ((1000, True), (1000, False), (1001, True), (1017, True), (1034, False), (1017, False), (999, False), (0, True), (1, True),
-                                 (1, False), (0, True), (5000, False), (5001, True), (5002, True), (2**32 - 1, False), (0, True)):
+                                 (1, False), (0, True), (5000, False), (5001, True), (5002, True), (2**32 - 1, False), (0, True), (7000, False), (7001, True),
+                                 (1, True)):
             self.assertEqual(self.takes((number, 3, "04000000")) != [None], is_taken, number)
         line = self.line
         line._taken = line._seen = 2**32 - 2
