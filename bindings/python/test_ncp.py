@@ -850,7 +850,7 @@ class Words(unittest.TestCase):
         self.assertEqual({*ncp._CLASSES}, named)
 
 
-@unittest.skipUnless(shutil.which("mypy"), "there is no mypy")
+@unittest.skipUnless(shutil.which("mypy") and (HERE / "ncp.py").is_file(), "there is no mypy, or ncp.py is a package that is installed")
 class Types(unittest.TestCase):
     def said(self, *files):
         """What mypy says of files, in a process of its own, without the settings of who runs it."""
@@ -917,7 +917,7 @@ class Loading(unittest.TestCase):
         inside.parent.mkdir(exist_ok=True)
         shutil.copy(self.installed / ncp.SONAME, inside)
         self.assertEqual(self.said("any"), str(inside))
-        self.assertIn("any.so: cannot open", self.said("any", before="import os; os.environ['NCP_LIBRARY'] = 'any.so'\ntry:\n    import ncp\nexcept OSError as error:\n    print(error); os._exit(0)"))
+        self.assertIn("any.so: cannot open", self.said("any", before="import os; os.environ['NCP_LIBRARY'] = 'any.so'\ntry:\n    import ncp\nexcept OSError as error:\n    print(error, flush=True); os._exit(0)"))
 
     def test_in_the_repository_it_is_of_these_sources(self):
         folder = self.copied_to("bindings/python")

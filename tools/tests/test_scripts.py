@@ -189,7 +189,7 @@ class AnotherRt(Scripts):
     """Another program is called rt: it is asked for its version, and for nothing else."""
 
     def test_what_wants_the_toolchain(self):
-        self.copy("tools/prove", "tools/build.py", "tools/once.py", "tools/toolchain", "web/build")
+        self.copy("tools/prove", "tools/build.py", "tools/once.py", "tools/toolchain", "tools/proved_module.py", "web/build")
         write(f"{self.top}/tools/sources", "#!/bin/sh\necho sum\n", 0o755)
         write(f"{self.top}/crates.txt", "ncp:\n")
         write(f"{self.top}/crates/ncp/src/main.rt", "")
