@@ -385,26 +385,24 @@ class Block:
 
     def __init__(self, made: Object, line: bytes, stamp: Optional[str]) -> None:
         self.made, self.lines, self.stamp = made, [line], stamp
-        self.detail_stamp: Optional[str] = None
         self.unread = 0  # bytes of a control text of which no command was read
         if "error_count" in made:
             made["errors"] = []
 
     def add(self, text: str, line: bytes, stamp: Optional[str]) -> bool:
         """Takes a line after the first, without its two spaces; false if it does not belong to the object."""
-        if (stamp is None) != (self.stamp is None) or self.detail_stamp not in (None, stamp) or len(self.lines) > MOST_DETAILS or not self.add_text(text):
+        if (stamp is None) != (self.stamp is None) or len(self.lines) > MOST_DETAILS or not self.add_text(text):
             return False
-        if self.detail_stamp is None and stamp is not None and stamp != self.stamp:
+        if stamp is not None and stamp != self.stamp:
             self.made["detail_time"] = time_of(stamp)
-        self.detail_stamp = stamp
         self.lines.append(line)
         return True
 
     def add_text(self, text: str) -> bool:
         made = self.made
-        if "event" in made and "ledger" not in made and text.startswith("ledger "):
-            made["ledger"] = None if text == "ledger none" else LEDGER.read(text)
-            return text == "ledger none" or made["ledger"] is not None
+        if "event" in made and text.startswith("ledger "):
+            made["ledger"] = LEDGER.read(text)  # None, which goes back to `ledger none` alone
+            return True
         if is_message(made):
             return self.add_to_message(text)
         if is_connection(made):
@@ -681,7 +679,7 @@ def read(lines: Union[Text, Iterable[Text]]) -> Iterator[Object]:
 
 def as_json(made: Object) -> bytes:
     """An object in a line of printable ASCII."""
-    return json.dumps(made, separators=(",", ":")).replace("\x7f", "\\u007f").encode("ascii") + b"\n"
+    return json.dumps(made, separators=(",", ":")).encode("ascii") + b"\n"
 
 
 def put(data: bytes) -> None:

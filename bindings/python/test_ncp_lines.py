@@ -343,9 +343,35 @@ class Hostile(ThereAndBack):
             for end in range(len(text)):
                 made = self.there_and_back(text[:end])
                 for each in made:
-                    is_first_alone = "regular" == each.get("name") and "size" not in each or each.get("do") and "ledger" not in each
-                    self.assertTrue(is_raw(each) or spelled(each) in whole or is_first_alone, (text[:end], each))
+                    is_first_line_at_the_end = each is made[-1] and text[end - 1 : end] == b"\n" and "commands" not in each
+                    self.assertTrue(is_raw(each) or spelled(each) in whole or is_first_line_at_the_end, (text[:end], each))
                 self.assertEqual(any("cut" in it for it in made), text[:end][-1:] not in (b"", b"\n"))
+        # What stands before the first line of another is whole.
+        for text, count in (b"1 a reset ok\n2", 1), (b"1 a reset ok\n2 a ou", 1), (b"1 a reset ok\n ", 0), (b"1 a reset ok\n  led", 0), (b"- 1 at=1", 0):
+            self.assertEqual(sum(not is_raw(it) for it in self.there_and_back(text)), count, text)
+        connection = b"- " + next(lines for lines, each in worked() if "late" in each).replace(b"\n  text", b"\n-   text")
+        for text, count in (b"-", 0), (b"- ", 0), (b"-   l", 0), (b"- 2", 1), (b"segm", 0), (b"segment ", 1):
+            self.assertEqual(sum(not is_raw(it) for it in self.there_and_back(connection + text)), count, text)
+
+    def test_times_that_differ(self):
+        for text in (
+            b"0.000000 1 regular host=2 link=2\n  size=8 count=1\n  text bits=8 61\n", b"1 regular host=2 link=2\n0.000000   size=8 count=1\n0.000000   text bits=8 61\n",
+            b"0.000000 1 regular host=2 link=2\n0.000000   size=8 count=1\n0.000001   text bits=8 61\n", b"0.000000 1 regular host=2 link=2\n0.000001   size=8 count=1\n0.000000   text bits=8 61\n",
+        ):
+            self.assertEqual(len(self.raws(text)), 3)
+
+    def test_what_is_whole_comes_at_once(self):
+        """And what may be whole if nothing comes; but what is not, or lacks what the last one had, waits."""
+        for said, at_once, idle in (
+            ("1 short", 1, 0), ("1 rfnm host=2 link=0", 1, 0), ("1 at=1 host=2 rrp-first", 1, 0), ("1 settle 6", 1, 0), ("ncp: BadLine", 1, 0), ("messages=0 short=0 regular=0 faults=0 bad=0", 1, 0),
+            ("- at=1 host=2 sent=1/8 came=2/9", 1, 0), ("1 regular host=2 link=2", 0, 0), ("1 regular host=2 link=2\n  size=8 count=1", 0, 0), ("1 regular host=2 link=2\n  size=8 count=1\n  text bits=8 61", 1, 0),
+            ("1 regular host=2 link=0\n  fault TextMissing", 1, 0), ("1 regular host=2 link=0\n  size=8 count=2\n  NOP", 0, 0), ("1 regular host=2 link=0\n  size=8 count=2\n  ECO data=1", 1, 0),
+            ("1 a reset ok", 0, 1), ("1 a reset ok\n  ledger none\n2 a reset ok", 1, 0), ("1 a reset ok\n  ledger none\n2 settle 6\n3 a reset ok", 2, 1), ("1 errors 2 ok 1", 0, 0), ("1 errors 2 ok 0", 0, 1),
+        ):
+            reader = ncp_lines.Reader()
+            self.assertEqual([len(list(reader.feed(f"{said}\n".encode()))), len(list(reader.idle()))], [at_once, idle], said)
+        reader = ncp_lines.Reader()
+        self.assertEqual([*reader.feed(b"1 a reset ok\n2"), *reader.idle()], [])
 
     def test_long_lines(self):
         """A line that is too long comes in pieces, wherever the bytes are cut, and nothing of it is taken for a line."""
@@ -358,6 +384,7 @@ class Hostile(ThereAndBack):
             self.assertEqual(len(made) - 2, -(-length // most))
             reader = ncp_lines.Reader()
             self.assertEqual([it for place in range(0, len(text), 1000) for it in reader.feed(text[place : place + 1000])] + list(reader.end()), made)
+            self.assertTrue(all(len(it["line"]) <= most for it in self.there_and_back(b"x" * length)))
         hidden = b"x" * most + b"3 short\n"
         self.assertEqual(self.raws(hidden), ["x" * most, "3 short"])
 
@@ -411,6 +438,7 @@ class Hostile(ThereAndBack):
             {"record": 1, "name": "regular", "host": 2, "link": 0, "flags": 0, "low": 0, "fault": "No\n"},
             {"record": 1, "name": "short", "time": "now"}, {"record": 1, "name": "short", "time": float("nan")}, {"record": 1, "name": "short", "time": [1]}, {"record": 1, "name": "short", "time": 1e300},
             {"event": 1, "do": "errors", "peer": 2, "ok": True, "error_count": 1, "errors": 5}, {"event": 1, "do": {}, "ok": True}, {"event": 1, "do": "reset", "peer": 2, "ok": True, "ledger": 3},
+            {"record": 1, "at": 1, "host": 1, "rule": "early", "what": "ECO", "began": 1, "wait": False, "owe": False},
             {"connection": 1}, {**connection, "letters": "a\nb"}, {**connection, "letters": 5}, {"segment": 2, "time": None, "reason": "restart"},
             {"line": "a\nb"}, {"line": 5}, {"line": "\ud800"}, {"bytes": "0"}, {"bytes": "0a"}, {"bytes": None}, {"record": 10**5000, "name": "short"},
         ):
@@ -447,7 +475,7 @@ class Command(unittest.TestCase):
         return json.loads(ran.stdout.readline()) if ready else None
 
     def test_there_and_back(self):
-        text = b"".join(lines for lines, _ in worked()) + b"\xff\n\x7f\x80\n\n1 sho"
+        text = b"".join(lines for lines, _ in worked()) + b"\xff\n\x7f\n\xc2\x80\n\n1 sho"
         there = run(data=text)
         self.assertEqual((there.returncode, there.stderr), (0, b""))
         self.assertTrue(re.fullmatch(rb"[ -~\n]*", there.stdout))
