@@ -37,6 +37,9 @@ FACTS = f"""-- Facts {WRONG}.
 -- kept {WRONG}
 abbrev pub IsKept : ℕ → Type 0
 IsKept n = n ≡ n  -- {WRONG}
+
+abbrev pub ◌<<◌ : ℕ → ℕ → ℕ
+a << b = a
 """
 EDIT = f"""file: src/keeping.rt
 old:         self
