@@ -780,6 +780,18 @@ class Streams(unittest.TestCase):
         # A spare bit that is set does not reach the host.
         self.assertEqual(sender.give(b"hi\xff", 16), 16)
 
+    def test_messages_are_allowed_though_no_bit_is_left(self):
+        """40 bits are held and 40 outstanding, but no message."""
+        receiver, sender = self.connected(room=80, messages=1)
+        sender.give(b"hello")
+        self.assertTrue(carry((self.a, self.b), self.subnet))
+        self.assertEqual((receiver.space, self.b.state(1, 2, 3).messages, receiver.allow()), (0, 0, 0))
+        self.assertTrue(carry((self.a, self.b), self.subnet))
+        self.assertEqual((self.a.state(2, 3, 2).messages, self.a.state(2, 3, 2).bits), (1, 40))
+        # With a message left, nothing is sent for nothing.
+        receiver.pump()
+        self.assertFalse(carry((self.a, self.b), self.subnet))
+
     def test_a_full_queue_is_for_later(self):
         """256 commands wait for the peer, since nothing goes out: an ALL and a CLS are made once there is place again."""
         receiver, sender = self.connected(room=16)

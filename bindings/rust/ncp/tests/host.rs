@@ -231,7 +231,7 @@ fn settle(hosts: &mut [Host; 2], subnet: &mut Subnet) {
 }
 
 fn events(watch: &mut Watch, host: &mut Host) -> Vec<Event> {
-    std::iter::from_fn(|| watch.next_event(host)).collect()
+    std::iter::from_fn(|| watch.next_event(host)).take(100).collect()
 }
 
 #[test]
@@ -285,10 +285,12 @@ fn a_delivery_is_seen_though_the_next_text_is_out() {
     assert_eq!(events(&mut watch, host), [Event::Allowed(AT), Event::Delivered(AT)]);
     assert_eq!(events(&mut other, &mut copy), [Event::Allowed(AT), Event::Delivered(AT)]);
     // What answers nothing is no delivery, nor is an RFNM of the control link.
-    host.receive(&[5, 2, 3, 0]).unwrap();
-    host.receive(&[5, 2, 0, 0]).unwrap();
-    host.receive(&[5]).unwrap();
-    assert_eq!(events(&mut watch, host), []);
+    host.receive(&[5, 2, 2, 0]).unwrap();
+    assert_eq!(events(&mut watch, host), [Event::Delivered(AT)]);
+    for stray in [&[5, 2, 2, 0][..], &[5, 2, 3, 0], &[5, 2, 0, 0], &[5]] {
+        host.receive(stray).unwrap();
+        assert_eq!(events(&mut watch, host), []);
+    }
 }
 
 #[test]
@@ -299,6 +301,7 @@ fn a_message_that_is_held_is_an_event() {
         assert!(host.next_output(&mut buffer).is_some());
         host.receive(&[7, 2, 0, 0]).unwrap();
         assert_eq!(watch.next_event(&mut host), Some(Event::Held));
+        assert_eq!(watch.next_event(&mut host), None);
         host.wake(2).unwrap();
         assert_eq!(watch.next_event(&mut host), None);
     }
@@ -359,11 +362,15 @@ fn a_stream_gives_and_allows_what_fits() {
     assert_eq!((receiver.space(&hosts[1]), receiver.allow(&mut hosts[1])), (72, Ok(72)));
     settle(&mut hosts, &mut subnet);
     assert_eq!(hosts[0].state(at).unwrap().messages, 2);
-    // The last byte begins in the middle of one of 8 bits if the first two are left out by 36.
+    // From the second byte on, which begins in the middle of eight bits.
     assert_eq!(sender.give(&mut hosts[0], Bits::new(&text, 108), 36), Ok(72));
     settle(&mut hosts, &mut subnet);
     let shifted = [0xab, 0xcd, 0xef, 0x01, 0x23, 0x45, 0x67, 0x89, 0xab];
     assert_eq!(hosts[1].take(there, u32::MAX, &mut BUFFER.clone()), Ok(Bits::new(&shifted, 72)));
+    // Spare bits do not reach the host.
+    assert_eq!((receiver.allow(&mut hosts[1]), sender.give(&mut hosts[0], Bits::new(&text, 36), 0)), (Ok(72), Ok(36)));
+    settle(&mut hosts, &mut subnet);
+    assert_eq!(hosts[1].take(there, u32::MAX, &mut BUFFER.clone()), Ok(Bits::new(&[0x12, 0x34, 0x56, 0x78, 0x90], 36)));
     for (refusal, answer) in [
         (Refusal::ShortBytes, sender.give(&mut hosts[0], Bits::new(&text, 144), 0)),
         (Refusal::NotWhole, sender.give(&mut hosts[0], Bits::new(&text, 40), 0)),
@@ -379,4 +386,27 @@ fn a_stream_gives_and_allows_what_fits() {
     settle(&mut hosts, &mut subnet);
     assert_eq!(sender.give(&mut hosts[0], Bits::new(&text, 36), 0), Err(Refusal::NoEntry));
     assert_eq!((sender.space(&hosts[0]), receiver.allow(&mut hosts[1])), (0, Ok(0)));
+}
+
+#[test]
+fn messages_are_allowed_though_no_bit_is_left() {
+    let (mut hosts, mut subnet) = two_with_a_connection();
+    let (at, there) = (At { local: 5, remote: 4, ..AT }, At { peer: 1, local: 4, remote: 5 });
+    let sender = Stream::send(&mut hosts[0], at, 8, 80).unwrap();
+    let receiver = Stream::receive(&mut hosts[1], there, 80, 1).unwrap();
+    settle(&mut hosts, &mut subnet);
+    assert_eq!(receiver.allow(&mut hosts[1]), Ok(80));
+    settle(&mut hosts, &mut subnet);
+    assert_eq!(sender.give(&mut hosts[0], b"hello", 0), Ok(40));
+    settle(&mut hosts, &mut subnet);
+    // 40 bits are held and 40 outstanding, but no message.
+    assert_eq!((receiver.space(&hosts[1]), hosts[1].state(there).unwrap().messages, receiver.allow(&mut hosts[1])), (0, 0, Ok(0)));
+    settle(&mut hosts, &mut subnet);
+    assert_eq!((hosts[0].state(at).unwrap().messages, hosts[0].state(at).unwrap().bits), (1, 40));
+    // A sender that closes while its text is unanswered takes no more.
+    assert_eq!(sender.give(&mut hosts[0], b"hello", 0), Ok(40));
+    assert!(hosts[0].next_output(&mut BUFFER.clone()).is_some());
+    hosts[0].close(at).unwrap();
+    assert!(hosts[0].state(at).unwrap().leaving);
+    assert_eq!(sender.give(&mut hosts[0], b"hello", 0), Err(Refusal::Closing));
 }
