@@ -1,7 +1,6 @@
 # SPDX-License-Identifier: MIT
 """The initial connection protocol: what its two sides make of each other, and of what a stranger sends. What crosses both interfaces is
 audited by the program of this repository."""
-import contextlib
 import io
 import subprocess
 import sys
@@ -242,15 +241,11 @@ class Nodes(unittest.TestCase):
             self.call()  # the RST goes out again
 
     def test_the_example(self):
-        said = io.StringIO()
         with tempfile.TemporaryDirectory() as room:
             file = Path(room) / "icp.ncp"
             ran = subprocess.run([sys.executable, "-B", "-W", "error", TOP / "bindings/python/icp.py", file], stdout=subprocess.PIPE, text=True, check=True)
             self.assertEqual(ran.stdout, MAIN)
             self.assertEqual(program("audit", file.read_bytes()), ("", 0))
-        with contextlib.redirect_stdout(said):
-            icp.main()
-        self.assertEqual(said.getvalue(), MAIN)
 
 
 class Strangers(unittest.TestCase):
